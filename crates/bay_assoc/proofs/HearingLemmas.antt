@@ -4,14 +4,14 @@ use Rattle.bay_ber.proofs.JudgedLemmas.{Fair, told-fair, wanted-fair, layers-fai
 use Rattle.bay_ber.proofs.ReadLemmas.{IsBytes}
 use Rattle.bay_mms_initiate.proofs.InitiateLemmas.{initiate-exact}
 use Rattle.bay_assoc.specs.declared.fault.AssocFault.{AssocFault}
-use Rattle.bay_assoc.specs.declared.receive.Accepted.{Accepted}
+use Rattle.bay_assoc.specs.declared.receive.ContextIds.{ContextIds}
 use Rattle.bay_assoc.specs.declared.receive.AssociationTerms.{AssociationTerms}
 use Rattle.bay_assoc.specs.declared.receive.Phase.{Phase}
 use Rattle.bay_assoc.specs.declared.receive.Phase.TheVariants.{Idle, Open, Over, Failed}
 use Rattle.bay_assoc.specs.declared.presentation.Context.{Context}
 use Rattle.bay_assoc.specs.Session.{Spdu, connect, finish, abort, transfer}
-use Rattle.bay_assoc.specs.Presentation.{Carried}
-use Rattle.bay_assoc.specs.Receiving.{TsduMeaning, is_id, acse_value, mms_value, agreement, connection_request, release_request, data_transfer, idle_meaning, open_meaning, verdict}
+use Rattle.bay_assoc.specs.Presentation.{ValueInContext}
+use Rattle.bay_assoc.specs.TsduMeanings.{TsduMeaning, is_id, acse_value, mms_value, agreement, connection_request, release_request, data_transfer, idle_meaning, open_meaning, verdict}
 use Rattle.bay_assoc.proofs.MessageLemmas.{user_data-exact, user_data-keeps, request-exact, request-keeps, associate-exact, associate-keeps, release-exact}
 use Rattle.bay_assoc.proofs.SpduLemmas.{UserBytes, spdu-exact, spdu-keeps}
 
@@ -23,17 +23,17 @@ value-is true there value octets e f is = cc
 value-is false true value octets e f is = absurd cc
 value-is false false value octets e f is = absurd cc
 
-acse-is : (a : Accepted) (c : Carried) (octets : List ℕ) → acse_value a c ≡ Ok octets
+acse-is : (a : ContextIds) (c : ValueInContext) (octets : List ℕ) → acse_value a c ≡ Ok octets
     → c.value ≡ octets
 acse-is a c octets is = value-is (is_id c.id a.acse) (is_id c.id a.mms) c.value octets _ _ is
 
-pub mms-is : (a : Accepted) (c : Carried) (octets : List ℕ) → mms_value a c ≡ Ok octets
+pub mms-is : (a : ContextIds) (c : ValueInContext) (octets : List ℕ) → mms_value a c ≡ Ok octets
     → c.value ≡ octets
 mms-is a c octets is = value-is (is_id c.id a.mms) (is_id c.id a.acse) c.value octets _ _ is
 
 -- ---- layer by layer
 
-agreement-fair : {Good : Type 0} (contexts : List Context) (user : Carried)
+agreement-fair : {Good : Type 0} (contexts : List Context) (user : ValueInContext)
     → (Good → IsBytes user.value) → Fair Good (agreement contexts user)
 unfolding agreement
 agreement-fair contexts user b =

@@ -2,7 +2,7 @@
 use Rattle.std.proofs.Common.{◌≡◌, ℕ, ℤ, List, [], ◌∷◌, ◌++◌, Option, Some, None, Ok, IsSome, refl, sym, ap, subst, ◌∙◌}
 use Rattle.std.proofs.lemmas.List.{append-nil, append_assoc}
 use Rattle.bay_ber.specs.declared.tag.Tag.{Tag}
-use Rattle.bay_ber.specs.Forms.{Form, integer, octets as bare, any_octets, fields, tagged, done, value_then, AreMaybe}
+use Rattle.bay_ber.specs.Forms.{Form, integer, octets as bare, any_octets, fields, tagged, done, value_then, SpellsMaybe}
 use Rattle.bay_ber.specs.Spelling.{Spells}
 use Rattle.bay_ber.specs.Values.{Part, value, SpellAll}
 use Rattle.bay_ber.proofs.ReadLemmas.{IsBytes}
@@ -12,12 +12,12 @@ use Rattle.bay_assoc.specs.declared.receive.Heard.TheVariants as heard
 use Rattle.bay_assoc.specs.declared.receive.Phase.{Phase}
 use Rattle.bay_assoc.specs.declared.receive.AssociationTerms.{AssociationTerms}
 use Rattle.bay_assoc.specs.declared.receive.Phase.TheVariants.{Idle, Open, Over}
-use Rattle.bay_assoc.specs.Receiving.{mms, release_request, connection_request, data_transfer, idle_meaning, open_meaning, verdict, tsdu_meaning}
+use Rattle.bay_assoc.specs.TsduMeanings.{mms, release_request, connection_request, data_transfer, idle_meaning, open_meaning, verdict, tsdu_meaning}
 use Rattle.bay_assoc.specs.Receives.{association_terms, IsLastPart, IsOpenFor}
-use Rattle.bay_assoc.specs.Presentation.{Carried, carried_parts, pdv_list, user_part, user_data}
+use Rattle.bay_assoc.specs.Presentation.{ValueInContext, context_value_parts, pdv_list, user_part, user_data}
 use Rattle.bay_assoc.specs.Session.{Spdu, connect, finish, abort, transfer, spdu}
 use Rattle.bay_assoc.specs.Tags.{oid_tag, application}
-use Rattle.bay_assoc.specs.Views.{hearing_of}
+use Rattle.bay_assoc.specs.Views.{heard_view}
 use Rattle.bay_assoc.proofs.SpduLemmas.{transfer-front}
 use Rattle.bay_assoc.proofs.HearingLemmas.{mms-is, verdict-fair, told-is}
 
@@ -65,20 +65,20 @@ pair-last octets front [] x s is = absurd is
 
 parts-last : (octets : List ℕ) (parts : List Part) (name : Option (Unit {0}))
     (x : ℤ × (List ℕ × Unit {0})) → SpellAll octets parts
-    → AreMaybe oid_tag any_octets.Spells pair.Spells parts name x → EndsWith octets x.1.0
+    → SpellsMaybe oid_tag any_octets.Spells pair.Spells parts name x → EndsWith octets x.1.0
 parts-last octets parts None x s is = pair-last octets [] parts x s is.1
 parts-last octets (p ∷ parts) (Some name) x s is = pair-last octets (p ∷ []) parts x s is.3
 parts-last octets [] (Some name) x s is = absurd is
 
-carried-last : (octets : List ℕ) (c : Carried) → (fields carried_parts).Spells octets c
+carried-last : (octets : List ℕ) (c : ValueInContext) → (fields context_value_parts).Spells octets c
     → EndsWith octets c.value
-unfolding carried_parts
+unfolding context_value_parts
 carried-last octets c is =
     let x = is.3 in
-    subst (λ (d : Carried). EndsWith octets d.value) x.2
+    subst (λ (d : ValueInContext). EndsWith octets d.value) x.2
     (parts-last octets is.0 x.0.0 x.0.1 is.1 x.1)
 
-user-last : (octets : List ℕ) (c : Carried) → user_data.Spells octets c → EndsWith octets c.value
+user-last : (octets : List ℕ) (c : ValueInContext) → user_data.Spells octets c → EndsWith octets c.value
 unfolding user_data user_part pdv_list
 user-last octets c is =
     let outer = is.2 in
@@ -135,7 +135,7 @@ heard-last (Open terms) new octets pdu b is =
 heard-last old new octets pdu b is = absurd cc
 
 pub stands-last : (old new : Phase) (octets : List ℕ) (h : Heard) → IsBytes octets
-    → tsdu_meaning old octets ≡ Ok (hearing_of h, new) → IsLastPart octets h × IsOpenFor h new
+    → tsdu_meaning old octets ≡ Ok (heard_view h, new) → IsLastPart octets h × IsOpenFor h new
 stands-last old new octets (heard.Mms pdu) b e =
     let last = heard-last old new octets pdu.now b
     ((verdict-fair old octets).back b (mms pdu.now, new) e) in

@@ -5,7 +5,7 @@ use Rattle.bay_ber.proofs.BackLemmas.{AllBytes}
 use Rattle.bay_ber.specs.Forms.{octets, any_octets, integer, try_map_form, tagged, value_then, done}
 use Rattle.bay_ber.specs.Tags.{context, constructed, int_tag}
 use Rattle.bay_assoc.specs.Tags.{oid_tag}
-use Rattle.bay_assoc.specs.Presentation.{selector_of, transfer_syntax, transfer_syntaxes, context_parts, definition, definition_list, carried_parts, pdv_list, user_part, user_data, connect_parts, normal_parts, normal, mode, mode_parts, cp, request}
+use Rattle.bay_assoc.specs.Presentation.{selector_of, transfer_syntax, transfer_syntaxes, context_parts, definition, definition_list, context_value_parts, pdv_list, user_part, user_data, connect_parts, normal_parts, normal, mode, mode_parts, cp, request}
 use Rattle.bay_assoc.specs.Acse.{application_context, information, associate_parts, associate, release}
 
 definition_list-exact : ExactIn definition_list
@@ -13,12 +13,12 @@ unfolding definition_list definition context_parts transfer_syntaxes transfer_sy
 definition_list-exact = search exacts depth 20
 
 user_part-exact : ExactAs user_part
-unfolding user_part pdv_list carried_parts
+unfolding user_part pdv_list context_value_parts
 user_part-exact = search exacts depth 20
 
 -- A value that is carried is octets.
-carried-keeps : Keeps AllBytes carried_parts (λ c. IsBytes c.value)
-unfolding carried_parts
+carried-keeps : Keeps AllBytes context_value_parts (λ c. IsBytes c.value)
+unfolding context_value_parts
 carried-keeps =
     made-keeps _ (behind_maybe-keeps oid_tag any_octets (behind-keeps (tagged int_tag integer)
     (next-keeps done (under-keeps (constructed 0) octets-keeps))))
@@ -54,7 +54,7 @@ request-keeps =
     (made-keeps _ (next-keeps (value_then mode done) normal-keeps)))))
 
 pub associate-exact : ExactIn associate
-unfolding associate associate_parts application_context information carried_parts
+unfolding associate associate_parts application_context information context_value_parts
 associate-exact = search exacts depth 20
 
 pub associate-keeps : Keeps IsBytes associate (λ c. IsBytes c.value)

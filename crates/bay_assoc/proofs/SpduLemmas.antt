@@ -7,7 +7,7 @@ use Rattle.bay_ber.specs.Forms.{Form, map_form, try_map_form}
 use Rattle.bay_ber.proofs.ReadLemmas.{IsBytes}
 use Rattle.bay_ber.proofs.BackLemmas.{bind-some, bytes-behind, bytes-before}
 use Rattle.bay_ber.proofs.FormLemmas.{Exact, ExactIn, exacts, Keeps, made-keeps}
-use Rattle.bay_assoc.specs.Session.{Unit, unit_at, Leads, SpellUnits, units, only_unit, one_unit, unit_choice, no_unit, compose_forms, is_user, Users, missing, once, several, users_of, parameters, Spdu, connect, accept, finish, disconnect, abort, transfer, connect_of, finish_of, by_identifier, is_transfer, spdu}
+use Rattle.bay_assoc.specs.Session.{Unit, unit_at, BeginsWithUnit, SpellUnits, units, only_unit, one_unit, unit_choice, no_unit, compose_forms, is_user_data, UserDataView, missing, once, several, user_data_of, parameters, Spdu, connect, accept, finish, disconnect, abort, transfer, connect_of, finish_of, by_identifier, is_transfer, spdu}
 use Rattle.bay_assoc.proofs.UnitLemmas.{differs, unit-again, unit-back, units-exact}
 
 -- ---- one unit
@@ -22,8 +22,8 @@ unit-exact = record {
   back = λ o u b is.
       let x = bind-some (unit_at o) _ u is in
       let one = alone-is x.0.0 u x.0.1 x.2 in
-      subst (λ (v : Unit). Leads o v []) one.0
-      (subst (λ (rest : List ℕ). Leads o x.0.0 rest) one.1 (unit-back o x.0 x.1));
+      subst (λ (v : Unit). BeginsWithUnit o v []) one.0
+      (subst (λ (rest : List ℕ). BeginsWithUnit o x.0.0 rest) one.1 (unit-back o x.0 x.1));
 }
 
 -- ---- forms of units
@@ -60,7 +60,7 @@ through-exact {f = f} {g = g} k d e = record {
       (x.0, spelled, e.back x.0 y (k.holds s x.0 good spelled) x.2);
 }
 
-unit-bytes : (octets : List ℕ) (u : Unit) (rest : List ℕ) → IsBytes octets → Leads octets u rest
+unit-bytes : (octets : List ℕ) (u : Unit) (rest : List ℕ) → IsBytes octets → BeginsWithUnit octets u rest
     → IsBytes u.content × IsBytes rest
 unit-bytes octets u rest b is =
     let behind =
@@ -125,10 +125,10 @@ chosen-units : (b : Bool) (u : Unit) (more : List Unit) → IsBytes u.content �
 chosen-units true u more c m = (c, m)
 chosen-units false u more c m = m
 
-filter-units : (units : List Unit) → UnitBytes units → UnitBytes (filter is_user units)
+filter-units : (units : List Unit) → UnitBytes units → UnitBytes (filter is_user_data units)
 filter-units [] b = tt
 filter-units (u ∷ units) b =
-    chosen-units (is_user u) u (filter is_user units) b.0 (filter-units units b.1)
+    chosen-units (is_user_data u) u (filter is_user_data units) b.0 (filter-units units b.1)
 
 -- what user data an SPDU of a unit hands on; it is no transfer
 abbrev FramedBytes : Spdu → Type 0
@@ -146,12 +146,12 @@ framed-bytes : (s : Spdu) → FramedBytes s → UserBytes s
 framed-bytes (transfer user) b = absurd b
 framed-bytes s b = b
 
-abbrev UsersBytes : Users → Type 0
+abbrev UsersBytes : UserDataView → Type 0
 UsersBytes missing = ⊤
 UsersBytes (once user) = IsBytes user
 UsersBytes several = ⊤
 
-users-bytes : (us : List Unit) → UnitBytes us → UsersBytes (users_of us)
+users-bytes : (us : List Unit) → UnitBytes us → UsersBytes (user_data_of us)
 users-bytes [] b = tt
 users-bytes (u ∷ []) b = b.0
 users-bytes (u ∷ v ∷ us) b = tt
@@ -159,7 +159,7 @@ users-bytes (u ∷ v ∷ us) b = tt
 parameters-keeps : Keeps IsBytes parameters UsersBytes
 unfolding parameters
 parameters-keeps = made-keeps _ (record {
-  holds = λ o us b is. users-bytes (filter is_user us) (filter-units us (units-bytes o us b is));
+  holds = λ o us b is. users-bytes (filter is_user_data us) (filter-units us (units-bytes o us b is));
 })
 
 such-keeps : {S A B : Type 0} {Good : S → Type 0} {Next : A → Type 0} {Later : B → Type 0}
@@ -169,11 +169,11 @@ such-keeps : {S A B : Type 0} {Good : S → Type 0} {Next : A → Type 0} {Later
 such-keeps test so k =
     record { holds = λ s y good is. so is.0 y (k.holds s is.0 good is.1) is.2 }
 
-connect-bytes : (x : Users) (s : Spdu) → UsersBytes x → connect_of x ≡ Some s → FramedBytes s
+connect-bytes : (x : UserDataView) (s : Spdu) → UsersBytes x → connect_of x ≡ Some s → FramedBytes s
 connect-bytes (once user) s b e = subst FramedBytes (same_Some (connect user) s e) b
 connect-bytes x s b e = absurd cc
 
-finish-bytes : (x : Users) (s : Spdu) → UsersBytes x → finish_of x ≡ Some s → FramedBytes s
+finish-bytes : (x : UserDataView) (s : Spdu) → UsersBytes x → finish_of x ≡ Some s → FramedBytes s
 finish-bytes missing s b e = subst FramedBytes (same_Some (finish None) s e) tt
 finish-bytes (once user) s b e = subst FramedBytes (same_Some (finish (Some user)) s e) b
 finish-bytes several s b e = absurd cc
@@ -189,7 +189,7 @@ coded-keeps identifier k l = record {
 }
 
 kind-keeps : (s : Spdu) → FramedBytes s
-    → Keeps IsBytes (map_form (λ (x : Users). s) parameters) FramedBytes
+    → Keeps IsBytes (map_form (λ (x : UserDataView). s) parameters) FramedBytes
 kind-keeps s b = record { holds = λ o t good is. subst FramedBytes is.2 b }
 
 by_identifier-keeps : Keeps ContentBytes by_identifier FramedBytes

@@ -4,35 +4,35 @@ use Rattle.std.proofs.lemmas.List.{drop_all, drop_more, length-append}
 use Rattle.std.specs.Borrow.{Bor}
 use Rattle.std.specs.Option.{ForSome, option_map}
 use Rattle.bay_ber.specs.declared.tag.Tag.{Tag}
-use Rattle.bay_ber.specs.EncoderBuffers.{EncoderBuffer, sheet_with, text_within_limit}
+use Rattle.bay_ber.specs.EncoderBuffers.{EncoderBuffer, buffer_with, text_within_limit}
 use Rattle.bay_ber.specs.Writing.{element, integer_octets, length_octets}
 use Rattle.bay_ber.proofs.SheetLemmas.{put_nil, put-put, fits}
 use Rattle.bay_ber.proofs.SizeLemmas.{length-element, length-integer}
 use Rattle.bay_ber.specs.Tags.{context, constructed, sequence, int_tag}
 use Rattle.bay_assoc.specs.Tags.{oid_tag, set_tag, external_tag, application, mms_application}
-use Rattle.bay_assoc.specs.Texts.{context_value_text, user_text, result_text, results_text, selector_text, connected_text, associated_text, release_text}
+use Rattle.bay_assoc.specs.Texts.{context_value_text, user_text, result_text, results_text, selector_text, cpa_text, aare_text, rlre_text}
 use Rattle.bay_assoc.specs.declared.presentation.Context.{Context}
-use Rattle.bay_assoc.specs.declared.receive.Accepted.{Accepted}
+use Rattle.bay_assoc.specs.declared.receive.ContextIds.{ContextIds}
 
 -- ---- the results, one behind another
 
-pub each-next : (writer new whole : EncoderBuffer) (a : Accepted) (cs : List Context) (i : ℕ)
+pub each-next : (writer new whole : EncoderBuffer) (a : ContextIds) (cs : List Context) (i : ℕ)
     (d : Context)
-    → i < length cs → new ≡ sheet_with writer (result_text a (get_or cs i d))
-    → sheet_with writer (results_text a (drop i cs)) ≡ whole
-    → sheet_with new (results_text a (drop (i + 1) cs)) ≡ whole
+    → i < length cs → new ≡ buffer_with writer (result_text a (get_or cs i d))
+    → buffer_with writer (results_text a (drop i cs)) ≡ whole
+    → buffer_with new (results_text a (drop (i + 1) cs)) ≡ whole
 each-next writer new whole a cs i d lt added all =
     let rest = results_text a (drop (i + 1) cs) in
-    ap (λ (s : EncoderBuffer). sheet_with s rest) added
+    ap (λ (s : EncoderBuffer). buffer_with s rest) added
     ∙ put-put writer (result_text a (get_or cs i d)) rest
-    ∙ ap (λ (xs : List Context). sheet_with writer (results_text a xs)) (sym (drop_more cs i d lt))
+    ∙ ap (λ (xs : List Context). buffer_with writer (results_text a xs)) (sym (drop_more cs i d lt))
     ∙ all
 
-pub each-end : (writer whole : EncoderBuffer) (a : Accepted) (cs : List Context) (i : ℕ)
+pub each-end : (writer whole : EncoderBuffer) (a : ContextIds) (cs : List Context) (i : ℕ)
     → length cs ≤ i
-    → sheet_with writer (results_text a (drop i cs)) ≡ whole → writer ≡ whole
+    → buffer_with writer (results_text a (drop i cs)) ≡ whole → writer ≡ whole
 each-end writer whole a cs i past all =
-    sym (put_nil writer) ∙ ap (λ (xs : List Context). sheet_with writer (results_text a xs))
+    sym (put_nil writer) ∙ ap (λ (xs : List Context). buffer_with writer (results_text a xs))
     (sym (drop_all i cs past)) ∙ all
 
 -- ---- lengths
@@ -68,12 +68,12 @@ chosen-short : (b : Bool) → length (cond b accepted rejected) ≤ 7
 chosen-short true = omega arith
 chosen-short false = omega arith
 
-one-short : (a : Accepted) (c : Context) → length (result_text a c) ≤ 13
+one-short : (a : ContextIds) (c : Context) → length (result_text a c) ≤ 13
 one-short a c =
     let b = (c.id == a.acse) || (c.id == a.mms) in
     omega (arith, length-element sequence (cond b accepted rejected), chosen-short b)
 
-results-short : (a : Accepted) (cs : List Context)
+results-short : (a : ContextIds) (cs : List Context)
     → length (results_text a cs) ≤ 13 * length cs
 results-short a [] = omega arith
 results-short a (c ∷ cs) =
@@ -91,10 +91,10 @@ selector-short None few = omega arith
 selector-short (Some octets) few =
     omega (arith, few octets refl, length-element (context 3) octets.now)
 
-pub connected_short : (called : Option (Bor (List ℕ))) (cs : List Context) (a : Accepted)
+pub connected_short : (called : Option (Bor (List ℕ))) (cs : List Context) (a : ContextIds)
     (value : List ℕ) → ForSome called (λ octets. length octets.now ≤ 16) → length cs ≤ 16
     → length value ≤ 271
-    → length (connected_text (option_map (λ octets. octets.now) called) cs a value) ≤ 560
+    → length (cpa_text (option_map (λ octets. octets.now) called) cs a value) ≤ 560
 connected_short called cs a value few most short =
     let mode = element (constructed 0) (0x80 ∷ 0x01 ∷ 0x01 ∷ []) in
     let list = element (constructed 5) (results_text a cs) in
@@ -120,7 +120,7 @@ unfolding element length_octets
 oid-seven = refl
 
 pub associated_short : (mms : ℕ) (pdu : List ℕ) → length pdu ≤ 200
-    → length (associated_text mms pdu) ≤ 271
+    → length (aare_text mms pdu) ≤ 271
 associated_short mms pdu short =
     let name = element (constructed 1) (element oid_tag mms_application) in
     let done = element (constructed 2) (0x02 ∷ 0x01 ∷ 0x00 ∷ []) in
@@ -140,30 +140,30 @@ associated_short mms pdu short =
       carried-short external_tag mms pdu,
     )
 
-pub released_short : (acse : ℕ) → length (user_text acse release_text) ≤ 41
+pub released_short : (acse : ℕ) → length (user_text acse rlre_text) ≤ 41
 released_short acse =
     omega (
       arith,
-      user-short acse release_text,
+      user-short acse rlre_text,
       length-element (application 3) (0x80 ∷ 0x01 ∷ 0x00 ∷ []),
     )
 
 -- ---- so they are held
 
-pub connected_within : (called : Option (Bor (List ℕ))) (cs : List Context) (a : Accepted)
+pub connected_within : (called : Option (Bor (List ℕ))) (cs : List Context) (a : ContextIds)
     (value : List ℕ) → ForSome called (λ octets. length octets.now ≤ 16) → length cs ≤ 16
     → length value ≤ 271
-    → text_within_limit 560 (connected_text (option_map (λ octets. octets.now) called) cs a value)
-    ≡ Some (connected_text (option_map (λ octets. octets.now) called) cs a value)
+    → text_within_limit 560 (cpa_text (option_map (λ octets. octets.now) called) cs a value)
+    ≡ Some (cpa_text (option_map (λ octets. octets.now) called) cs a value)
 connected_within called cs a value few most short =
-    fits 560 (connected_text (option_map (λ octets. octets.now) called) cs a value)
+    fits 560 (cpa_text (option_map (λ octets. octets.now) called) cs a value)
     (connected_short called cs a value few most short)
 
 pub associated_within : (mms : ℕ) (pdu : List ℕ) → length pdu ≤ 200
-    → text_within_limit 271 (associated_text mms pdu) ≡ Some (associated_text mms pdu)
+    → text_within_limit 271 (aare_text mms pdu) ≡ Some (aare_text mms pdu)
 associated_within mms pdu short =
-    fits 271 (associated_text mms pdu) (associated_short mms pdu short)
+    fits 271 (aare_text mms pdu) (associated_short mms pdu short)
 
 pub released_within : (acse : ℕ)
-    → text_within_limit 41 (user_text acse release_text) ≡ Some (user_text acse release_text)
-released_within acse = fits 41 (user_text acse release_text) (released_short acse)
+    → text_within_limit 41 (user_text acse rlre_text) ≡ Some (user_text acse rlre_text)
+released_within acse = fits 41 (user_text acse rlre_text) (released_short acse)

@@ -7,8 +7,8 @@ use Rattle.std.proofs.lemmas.List.{length-append, take_at, drop_at, append-nil}
 use Rattle.std.proofs.lemmas.List.Elements.{filter-append}
 use Rattle.bay_ber.proofs.BackLemmas.{bind-some, unguarded}
 use Rattle.bay_ber.proofs.FormLemmas.{ExactIn}
-use Rattle.bay_assoc.specs.Session.{Unit, long_size, size_at, counted_at, unit_at, prepend_units, with_unit_first, units_within, units_in, IsSize, Leads, SpellUnits, units, is_user, Users, missing, users_of, parameters}
-use Rattle.bay_assoc.specs.SessionReading.{then_user, with_user}
+use Rattle.bay_assoc.specs.Session.{Unit, long_size, size_at, content_at, unit_at, prepend_units, with_unit_first, units_within, units_in, IsSize, BeginsWithUnit, SpellUnits, units, is_user_data, UserDataView, missing, user_data_of, parameters}
+use Rattle.bay_assoc.specs.SessionReading.{user_data_with, user_data_with_unit}
 
 -- ---- one unit
 
@@ -30,8 +30,8 @@ size-again (first ∷ high ∷ low ∷ []) n rest is =
 size-again size n rest is = absurd is
 
 counted-again : (size content rest : List ℕ) → IsSize size (length content)
-    → counted_at (size ++ (content ++ rest)) ≡ Some (content, rest)
-unfolding counted_at
+    → content_at (size ++ (content ++ rest)) ≡ Some (content, rest)
+unfolding content_at
 counted-again size content rest is =
     let enough : ltb (length (content ++ rest)) (length content) ≡ false =
     le-ltb _ _ (omega (arith, length-append content rest)) in
@@ -41,7 +41,7 @@ counted-again size content rest is =
     drop_at content rest (length content) refl in
     rw (size-again size (length content) (content ++ rest) is, enough, front, behind) refl
 
-pub unit-again : (octets : List ℕ) (u : Unit) (rest : List ℕ) → Leads octets u rest
+pub unit-again : (octets : List ℕ) (u : Unit) (rest : List ℕ) → BeginsWithUnit octets u rest
     → unit_at octets ≡ Some (u, rest)
 unfolding unit_at
 unit-again octets u rest is = rw (is.is, counted-again is.size u.content rest is.sized) refl
@@ -82,9 +82,9 @@ record Counted (octets content rest : List ℕ) : Type 0 where
   is : octets ≡ size ++ (content ++ rest)
   sized : IsSize size (length content)
 
-counted-back : (octets : List ℕ) (x : List ℕ × List ℕ) → counted_at octets ≡ Some x
+counted-back : (octets : List ℕ) (x : List ℕ × List ℕ) → content_at octets ≡ Some x
     → Counted octets x.0 x.1
-unfolding counted_at
+unfolding content_at
 counted-back octets x e =
     let s = bind-some (size_at octets) _ x e in
     let n = s.0.0 in
@@ -102,15 +102,15 @@ counted-back octets x e =
     })
 
 pub unit-back : (octets : List ℕ) (x : Unit × List ℕ) → unit_at octets ≡ Some x
-    → Leads octets x.0 x.1
+    → BeginsWithUnit octets x.0 x.1
 unfolding unit_at
 unit-back [] x e = absurd cc
 unit-back (identifier ∷ octets) x e =
-    let c = bind-some (counted_at octets) _ x e in
+    let c = bind-some (content_at octets) _ x e in
     let made : Unit × List ℕ = (record { identifier = identifier; content = c.0.0 }, c.0.1) in
     let same : made ≡ x = same_Some made x c.2 in
     let k = counted-back octets c.0 c.1 in
-    subst (λ (y : Unit × List ℕ). Leads (identifier ∷ octets) y.0 y.1) {x = made} same (record {
+    subst (λ (y : Unit × List ℕ). BeginsWithUnit (identifier ∷ octets) y.0 y.1) {x = made} same (record {
       size = k.size;
       is = ap (λ (l : List ℕ). identifier ∷ l) k.is;
       sized = k.sized;
@@ -222,10 +222,10 @@ units-exact = record { read = units-again; back = λ o us b e. units-back o us e
 -- ---- user data
 
 -- Units at the front were read, with such user data among them.
-pub record Found (whole rest : List ℕ) (users : Users) : Type 0 where
+pub record Found (whole rest : List ℕ) (users : UserDataView) : Type 0 where
   pub front : List Unit
   pub read : units_in whole ≡ prepend_units front (units_in rest)
-  pub is : users ≡ users_of (filter is_user front)
+  pub is : users ≡ user_data_of (filter is_user_data front)
 
 onto-nil : (o : Option (List Unit)) → o ≡ prepend_units [] o
 onto-nil None = refl
@@ -240,45 +240,45 @@ pub found-first : (whole : List ℕ) → Found whole whole missing
 found-first whole = record { front = []; read = onto-nil (units_in whole); is = refl }
 
 users-more : (us : List Unit) (u : Unit)
-    → users_of (us ++ u ∷ []) ≡ then_user (users_of us) u.content
+    → user_data_of (us ++ u ∷ []) ≡ user_data_with (user_data_of us) u.content
 users-more [] u = refl
 users-more (v ∷ []) u = refl
 users-more (v ∷ w ∷ us) u = refl
 
-filter-more : (front : List Unit) (u : Unit) (b : Bool) → is_user u ≡ b
-    → users_of (filter is_user (front ++ u ∷ []))
-    ≡ cond b (then_user (users_of (filter is_user front)) u.content)
-    (users_of (filter is_user front))
+filter-more : (front : List Unit) (u : Unit) (b : Bool) → is_user_data u ≡ b
+    → user_data_of (filter is_user_data (front ++ u ∷ []))
+    ≡ cond b (user_data_with (user_data_of (filter is_user_data front)) u.content)
+    (user_data_of (filter is_user_data front))
 filter-more front u true e =
-    ap users_of (filter-append is_user front (u ∷ [])
-    ∙ ap (λ (us : List Unit). filter is_user front ++ us) (rw e refl))
-    ∙ users-more (filter is_user front) u
+    ap user_data_of (filter-append is_user_data front (u ∷ [])
+    ∙ ap (λ (us : List Unit). filter is_user_data front ++ us) (rw e refl))
+    ∙ users-more (filter is_user_data front) u
 filter-more front u false e =
-    ap users_of (filter-append is_user front (u ∷ [])
-    ∙ ap (λ (us : List Unit). filter is_user front ++ us) (rw e refl)
-    ∙ append-nil (filter is_user front))
+    ap user_data_of (filter-append is_user_data front (u ∷ [])
+    ∙ ap (λ (us : List Unit). filter is_user_data front ++ us) (rw e refl)
+    ∙ append-nil (filter is_user_data front))
 
-pub found-more : (whole rest new : List ℕ) (users more : Users) (u : Unit) → Found whole rest users
-    → units_in rest ≡ prepend_units (u ∷ []) (units_in new) → more ≡ with_user users u
+pub found-more : (whole rest new : List ℕ) (users more : UserDataView) (u : Unit) → Found whole rest users
+    → units_in rest ≡ prepend_units (u ∷ []) (units_in new) → more ≡ user_data_with_unit users u
     → Found whole new more
 found-more whole rest new users more u f step is = record {
   front = f.front ++ u ∷ [];
   read = f.read ∙ ap (prepend_units f.front) step ∙ onto-onto f.front u (units_in new);
-  is = is ∙ ap (λ (us : Users). with_user us u) f.is ∙ sym (filter-more f.front u (is_user u) refl);
+  is = is ∙ ap (λ (us : UserDataView). user_data_with_unit us u) f.is ∙ sym (filter-more f.front u (is_user_data u) refl);
 }
 
-abbrev judged : Option (List Unit) → Option Users
-judged o = option_map (λ us. users_of (filter is_user us)) o
+abbrev judged : Option (List Unit) → Option UserDataView
+judged o = option_map (λ us. user_data_of (filter is_user_data us)) o
 
-pub found-end : (whole rest : List ℕ) (users : Users) → Found whole rest users
+pub found-end : (whole rest : List ℕ) (users : UserDataView) → Found whole rest users
     → units_in rest ≡ Some [] → parameters.reads whole ≡ Some users
 unfolding parameters
 found-end whole rest users f last =
     ap judged (f.read ∙ ap (prepend_units f.front) last)
-    ∙ ap (λ (us : List Unit). Some (users_of (filter is_user us))) (append-nil f.front)
+    ∙ ap (λ (us : List Unit). Some (user_data_of (filter is_user_data us))) (append-nil f.front)
     ∙ ap Some (sym f.is)
 
-pub found-stop : (whole rest : List ℕ) (users : Users) → Found whole rest users
+pub found-stop : (whole rest : List ℕ) (users : UserDataView) → Found whole rest users
     → units_in rest ≡ None → parameters.reads whole ≡ None
 unfolding parameters
 found-stop whole rest users f stop = ap judged (f.read ∙ ap (prepend_units f.front) stop)

@@ -18,10 +18,10 @@ use Rattle.bay_assoc.specs.Tags.{application}
 use Rattle.bay_assoc.specs.declared.receive.AssociationTerms.{AssociationTerms}
 use Rattle.bay_assoc.specs.declared.receive.Phase.{Phase}
 use Rattle.bay_assoc.specs.declared.receive.Phase.TheVariants.{Open}
-use Rattle.bay_assoc.specs.Presentation.{carried_parts, pdv_list, user_part, user_data}
+use Rattle.bay_assoc.specs.Presentation.{context_value_parts, pdv_list, user_part, user_data}
 use Rattle.bay_assoc.specs.Session.{spdu}
 use Rattle.bay_assoc.specs.Texts.{user_text, transfer_text}
-use Rattle.bay_assoc.specs.Receiving.{mms, data_transfer, verdict, tsdu_meaning}
+use Rattle.bay_assoc.specs.TsduMeanings.{mms, data_transfer, verdict, tsdu_meaning}
 
 -- one value, and two
 pub value-element : (tag : Tag) (content : List ℕ) → tag.number < 31 → length content < 2 ^ 32
@@ -64,10 +64,10 @@ id-again id low =
     fits id low = omega arith
 
 carried-again : (id : ℕ) (value : List ℕ) → id < 65536
-    → carried_parts.reads
+    → context_value_parts.reads
     (ber.value int_tag (integer_octets (pos id)) ∷ ber.value (constructed 0) value ∷ [])
     ≡ Some (record { id = pos id; value = value })
-unfolding carried_parts
+unfolding context_value_parts
 carried-again id value low = rw (id-again id low) refl
 
 pub user-again : (id : ℕ) (value : List ℕ) → id < 65536 → length value < 2 ^ 31

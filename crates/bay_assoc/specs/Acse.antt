@@ -6,7 +6,7 @@ use Rattle.bay_ber.specs.Forms.{Form, map_form, try_map_form, octets, one, field
 use Rattle.bay_ber.specs.Tags.{constructed}
 use Rattle.bay_ber.specs.Values.{Part}
 use Rattle.bay_assoc.specs.Tags.{oid_tag, external_tag, application, mms_application}
-use Rattle.bay_assoc.specs.Presentation.{Carried, carried_parts}
+use Rattle.bay_assoc.specs.Presentation.{ValueInContext, context_value_parts}
 
 -- ---- ISO 8650-1 AARQ-apdu: the request for an association
 
@@ -20,16 +20,16 @@ application_context =
     tagged (constructed 1) (one (tagged oid_tag (try_map_form application_of octets)))
 
 -- one EXTERNAL (user-information)
-unfoldable pub information : Form Part Carried
-information = tagged (constructed 30) (one (tagged external_tag (fields carried_parts)))
+unfoldable pub information : Form Part ValueInContext
+information = tagged (constructed 30) (one (tagged external_tag (fields context_value_parts)))
 
 -- the application context and the user information; the result is the latter
-unfoldable pub associate_parts : Form (List Part) Carried
+unfoldable pub associate_parts : Form (List Part) ValueInContext
 associate_parts =
     map_form (λ x. x.1.0) (value_then application_context (value_then information done))
 
 -- the request for an association, with these two among its fields (AARQ-apdu)
-unfoldable pub associate : Form (List ℕ) Carried
+unfoldable pub associate : Form (List ℕ) ValueInContext
 associate =
     one (tagged (application 0)
     (fields_with_tags (constructed 1 ∷ constructed 30 ∷ []) associate_parts))

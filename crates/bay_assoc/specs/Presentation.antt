@@ -67,32 +67,32 @@ definition_list = try_map_form few_contexts (each definition)
 -- ---- ISO 8823-1 User-data: user data
 
 -- a value, and the identifier of its context
-pub record Carried : Type 0 where
+pub record ValueInContext : Type 0 where
   pub id : ℤ
   pub value : List ℕ
 
 -- a value and its context, from the parts that were read
-abbrev pub carried_by : Option (Unit {0}) × (ℤ × (List ℕ × Unit {0})) → Carried
-carried_by x = record { id = x.1.0; value = x.1.1.0 }
+abbrev pub context_value_from_fields : Option (Unit {0}) × (ℤ × (List ℕ × Unit {0})) → ValueInContext
+context_value_from_fields x = record { id = x.1.0; value = x.1.1.0 }
 
 -- The parts of a PDV-list, and of an EXTERNAL (ISO 8823-1, PDV-list; X.690 8.18): an object
 -- identifier, which is optional and ignored, a context's identifier, and a value as a single ASN.1
 -- type.
-unfoldable pub carried_parts : Form (List Part) Carried
-carried_parts =
-    map_form carried_by (maybe oid_tag any_octets
+unfoldable pub context_value_parts : Form (List Part) ValueInContext
+context_value_parts =
+    map_form context_value_from_fields (maybe oid_tag any_octets
     (value_then (tagged int_tag integer) (value_then (tagged (constructed 0) octets) done)))
 
 -- a value and its context (ISO 8823-1, PDV-list)
-unfoldable pub pdv_list : Form Part Carried
-pdv_list = tagged sequence (fields carried_parts)
+unfoldable pub pdv_list : Form Part ValueInContext
+pdv_list = tagged sequence (fields context_value_parts)
 
 -- one value and its context, fully encoded (ISO 8823-1, Fully-encoded-data)
-unfoldable pub user_part : Form Part Carried
+unfoldable pub user_part : Form Part ValueInContext
 user_part = tagged (application 1) (one pdv_list)
 
 -- octets that are user data
-unfoldable pub user_data : Form (List ℕ) Carried
+unfoldable pub user_data : Form (List ℕ) ValueInContext
 user_data = one user_part
 
 -- ---- ISO 8823-1 CP-type: the request for a connection
@@ -101,20 +101,20 @@ user_data = one user_part
 pub record Connect : Type 0 where
   pub called : Option (List ℕ)
   pub contexts : List Context
-  pub user : Carried
+  pub user : ValueInContext
 
 -- a selector, if it has at most 16 octets (own)
 abbrev pub selector_of : List ℕ → Option (List ℕ)
 selector_of octets = if nat_lt 16 (length octets) then None else Some octets
 
 -- a request, from the parts that were read
-abbrev pub connect_by : Option (List ℕ) × (List Context × (Carried × Unit {0})) → Connect
-connect_by x = record { called = x.0; contexts = x.1.0; user = x.1.1.0 }
+abbrev pub connect_from_fields : Option (List ℕ) × (List Context × (ValueInContext × Unit {0})) → Connect
+connect_from_fields x = record { called = x.0; contexts = x.1.0; user = x.1.1.0 }
 
 -- the called selector, which is optional, the contexts, and the user data
 unfoldable pub connect_parts : Form (List Part) Connect
 connect_parts =
-    map_form connect_by (maybe (context 2) (try_map_form selector_of octets)
+    map_form connect_from_fields (maybe (context 2) (try_map_form selector_of octets)
     (value_then (tagged (constructed 4) definition_list) (value_then user_part done)))
 
 -- the parts of a request for a connection, after the calling selector, which is optional and

@@ -7,8 +7,8 @@ use Rattle.bay_assoc.specs.declared.receive.Heard.{Heard}
 use Rattle.bay_assoc.specs.declared.receive.Heard.TheVariants as heard
 use Rattle.bay_assoc.specs.declared.receive.Phase.{Phase}
 use Rattle.bay_assoc.specs.declared.receive.Phase.TheVariants.{Open, Failed}
-use Rattle.bay_assoc.specs.Receiving.{tsdu_meaning}
-use Rattle.bay_assoc.specs.Views.{hearing_of}
+use Rattle.bay_assoc.specs.TsduMeanings.{tsdu_meaning}
+use Rattle.bay_assoc.specs.Views.{heard_view}
 
 -- ---- own: the result of a call
 
@@ -20,7 +20,7 @@ association_terms phase = None
 -- The result is the meaning of the TSDU, with its next phase; or its fault, or out of memory, and
 -- the association has then failed.
 abbrev pub ReceivesTsdu : Phase → List ℕ → Result Heard AssocFault → Phase → Type 0
-ReceivesTsdu old octets (Ok h) new = tsdu_meaning old octets ≡ Ok (hearing_of h, new)
+ReceivesTsdu old octets (Ok h) new = tsdu_meaning old octets ≡ Ok (heard_view h, new)
 ReceivesTsdu old octets (Err fault) new =
     (new ≡ Failed) × ((fault ≡ OutOfMemory) ⊎ (tsdu_meaning old octets ≡ Err fault))
 

@@ -25,8 +25,8 @@ size_at [] = None
 size_at (first ∷ octets) = if first == 255 then long_size octets else Some (first, octets)
 
 -- the octets that a length counts, and those after them
-unfoldable pub counted_at : List ℕ → Option (List ℕ × List ℕ)
-counted_at octets =
+unfoldable pub content_at : List ℕ → Option (List ℕ × List ℕ)
+content_at octets =
     size_at octets >>= λ size. if nat_lt (length size.1) size.0 then None
     else Some (take size.0 size.1, drop size.0 size.1)
 
@@ -34,7 +34,7 @@ counted_at octets =
 unfoldable pub unit_at : List ℕ → Option (Unit × List ℕ)
 unit_at [] = None
 unit_at (identifier ∷ octets) =
-    counted_at octets >>= λ counted. Some
+    content_at octets >>= λ counted. Some
     (record { identifier = identifier; content = counted.0 }, counted.1)
 
 -- units before others, if there are others (None stays None) (own)
@@ -69,7 +69,7 @@ IsSize octets n = ⊥
 
 -- The octets are a unit (its identifier, a length, and the octets that it counts), followed by the
 -- rest.
-pub record Leads (octets : List ℕ) (u : Unit) (rest : List ℕ) : Type 0 where
+pub record BeginsWithUnit (octets : List ℕ) (u : Unit) (rest : List ℕ) : Type 0 where
   pub size : List ℕ
   pub is : octets ≡ u.identifier ∷ (size ++ (u.content ++ rest))
   pub sized : IsSize size (length u.content)
@@ -78,7 +78,7 @@ pub record Leads (octets : List ℕ) (u : Unit) (rest : List ℕ) : Type 0 where
 abbrev pub SpellUnits : List ℕ → List Unit → Type 0
 SpellUnits octets [] = octets ≡ []
 SpellUnits octets (u ∷ units) =
-    (rest : List ℕ) × Leads octets u rest × SpellUnits rest units
+    (rest : List ℕ) × BeginsWithUnit octets u rest × SpellUnits rest units
 
 -- ---- own: forms of units
 
@@ -95,7 +95,7 @@ only_unit u (octet ∷ octets) = None
 abbrev pub one_unit : Form (List ℕ) Unit
 one_unit = record {
   reads = λ octets. unit_at octets >>= λ x. only_unit x.0 x.1;
-  Spells = λ octets u. Leads octets u [];
+  Spells = λ octets u. BeginsWithUnit octets u [];
 }
 
 -- a unit with this identifier and a content of one form, or a unit with any other identifier, of
@@ -121,24 +121,24 @@ compose_forms {A = A} f g = record {
 -- ---- X.225 8.3: user data
 
 -- whether a parameter is user data, of the code C1 (X.225 8.3.1)
-abbrev pub is_user : Unit → Bool
-is_user u = u.identifier == 0xC1
+abbrev pub is_user_data : Unit → Bool
+is_user_data u = u.identifier == 0xC1
 
 -- the user data among parameters: none, one, or more than one (own)
-pub data Users : Type 0 where
-  missing : Users
-  once : List ℕ → Users
-  several : Users
+pub data UserDataView : Type 0 where
+  missing : UserDataView
+  once : List ℕ → UserDataView
+  several : UserDataView
 
 -- the user data, from the units that are user data (own)
-abbrev pub users_of : List Unit → Users
-users_of [] = missing
-users_of (u ∷ []) = once u.content
-users_of (u ∷ v ∷ us) = several
+abbrev pub user_data_of : List Unit → UserDataView
+user_data_of [] = missing
+user_data_of (u ∷ []) = once u.content
+user_data_of (u ∷ v ∷ us) = several
 
 -- parameters, of which only the user data are read
-unfoldable pub parameters : Form (List ℕ) Users
-parameters = map_form (λ us. users_of (filter is_user us)) units
+unfoldable pub parameters : Form (List ℕ) UserDataView
+parameters = map_form (λ us. user_data_of (filter is_user_data us)) units
 
 -- ---- X.225 8.3: SPDUs
 
@@ -154,13 +154,13 @@ pub data Spdu : Type 0 where
   transfer : List ℕ → Spdu
 
 -- the CONNECT with these user data, which must occur once
-abbrev pub connect_of : Users → Option Spdu
+abbrev pub connect_of : UserDataView → Option Spdu
 connect_of missing = None
 connect_of (once user) = Some (connect user)
 connect_of several = None
 
 -- the FINISH with these user data, which must occur at most once
-abbrev pub finish_of : Users → Option Spdu
+abbrev pub finish_of : UserDataView → Option Spdu
 finish_of missing = Some (finish None)
 finish_of (once user) = Some (finish (Some user))
 finish_of several = None

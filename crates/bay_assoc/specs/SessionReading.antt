@@ -2,7 +2,7 @@
 use Rattle.std.specs.Prelude.{ℕ, ◌≡◌, ◌<◌, List, [], ◌∷◌, length, Some, None, if◌then◌else◌}
 use Rattle.bay_assoc.specs.declared.session.UnitRead.{UnitRead}
 use Rattle.bay_assoc.specs.declared.session.UnitRead.TheVariants as next
-use Rattle.bay_assoc.specs.Session.{Unit, prepend_units, units_in, is_user, Users, missing, once, several}
+use Rattle.bay_assoc.specs.Session.{Unit, prepend_units, units_in, is_user_data, UserDataView, missing, once, several}
 use Rattle.bay_assoc.specs.SessionViews.{unit_of}
 
 -- ---- own: reading consecutive units
@@ -15,11 +15,11 @@ NextUnit old (next.Unit u) new =
 NextUnit old next.Bad new = units_in old ≡ None
 
 -- the user data found so far, after one more parameter of user data
-abbrev pub then_user : Users → List ℕ → Users
-then_user missing octets = once octets
-then_user (once first) octets = several
-then_user several octets = several
+abbrev pub user_data_with : UserDataView → List ℕ → UserDataView
+user_data_with missing octets = once octets
+user_data_with (once first) octets = several
+user_data_with several octets = several
 
 -- the user data found so far, after one more unit
-abbrev pub with_user : Users → Unit → Users
-with_user users u = if is_user u then then_user users u.content else users
+abbrev pub user_data_with_unit : UserDataView → Unit → UserDataView
+user_data_with_unit users u = if is_user_data u then user_data_with users u.content else users

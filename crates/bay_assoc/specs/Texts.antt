@@ -6,7 +6,7 @@ use Rattle.bay_ber.specs.Writing.{element, integer_octets}
 use Rattle.bay_ber.specs.Tags.{context, constructed, sequence, int_tag}
 use Rattle.bay_assoc.specs.Tags.{oid_tag, set_tag, external_tag, application, mms_application}
 use Rattle.bay_assoc.specs.declared.presentation.Context.{Context}
-use Rattle.bay_assoc.specs.declared.receive.Accepted.{Accepted}
+use Rattle.bay_assoc.specs.declared.receive.ContextIds.{ContextIds}
 
 -- ---- X.225 8.2: session
 
@@ -49,13 +49,13 @@ user_text id value = element (application 1) (context_value_text sequence id val
 
 -- The result for an offered context: accepted (0) with the Basic Encoding Rules, or rejected by the
 -- provider (2).
-abbrev pub result_text : Accepted → Context → List ℕ
+abbrev pub result_text : ContextIds → Context → List ℕ
 result_text a c =
     element sequence (if (c.id == a.acse) || (c.id == a.mms)
     then 0x80 ∷ 0x01 ∷ 0x00 ∷ 0x81 ∷ 0x02 ∷ 0x51 ∷ 0x01 ∷ [] else 0x80 ∷ 0x01 ∷ 0x02 ∷ [])
 
 -- the result for each offered context, one after another
-abbrev pub results_text : Accepted → List Context → List ℕ
+abbrev pub results_text : ContextIds → List Context → List ℕ
 results_text a [] = []
 results_text a (c ∷ contexts) = result_text a c ++ results_text a contexts
 
@@ -68,8 +68,8 @@ selector_text (Some octets) = element (context 3) octets
 
 -- the answer to a request for a connection (CPA): the normal mode, the selector, the results, and
 -- user data
-abbrev pub connected_text : Option (List ℕ) → List Context → Accepted → List ℕ → List ℕ
-connected_text called contexts a value =
+abbrev pub cpa_text : Option (List ℕ) → List Context → ContextIds → List ℕ → List ℕ
+cpa_text called contexts a value =
     element set_tag (element (constructed 0) (0x80 ∷ 0x01 ∷ 0x01 ∷ [])
     ++ element (constructed 2)
     (selector_text called ++
@@ -79,8 +79,8 @@ connected_text called contexts a value =
 
 -- the answer to a request for an association (AARE): the application context, accepted (0), by the
 -- service user without a reason, and user information
-abbrev pub associated_text : ℕ → List ℕ → List ℕ
-associated_text mms pdu =
+abbrev pub aare_text : ℕ → List ℕ → List ℕ
+aare_text mms pdu =
     element (application 1) (element (constructed 1) (element oid_tag mms_application)
     ++ (element (constructed 2) (0x02 ∷ 0x01 ∷ 0x00 ∷ [])
     ++ (element (constructed 3) (0xA1 ∷ 0x03 ∷ 0x02 ∷ 0x01 ∷ 0x00 ∷ [])
@@ -89,5 +89,5 @@ associated_text mms pdu =
 -- ---- ISO 8650-1 RLRE-apdu: the answer to a request for a release
 
 -- the answer to a request for a release (RLRE), with the reason normal (0)
-abbrev pub release_text : List ℕ
-release_text = element (application 3) (0x80 ∷ 0x01 ∷ 0x00 ∷ [])
+abbrev pub rlre_text : List ℕ
+rlre_text = element (application 3) (0x80 ∷ 0x01 ∷ 0x00 ∷ [])

@@ -8,17 +8,17 @@ use Rattle.bay_assoc.specs.declared.presentation.ContextValue as carried
 use Rattle.bay_assoc.specs.declared.request.Connect as request
 use Rattle.bay_assoc.specs.declared.receive.Heard.{Heard}
 use Rattle.bay_assoc.specs.declared.receive.Heard.TheVariants as heard
-use Rattle.bay_assoc.specs.Session.{Users, missing, once, several, Spdu, connect, accept, finish, disconnect, abort, transfer}
-use Rattle.bay_assoc.specs.Presentation.{Carried, Connect}
-use Rattle.bay_assoc.specs.Receiving.{TsduMeaning, answer, mms, released, aborted}
+use Rattle.bay_assoc.specs.Session.{UserDataView, missing, once, several, Spdu, connect, accept, finish, disconnect, abort, transfer}
+use Rattle.bay_assoc.specs.Presentation.{ValueInContext, Connect}
+use Rattle.bay_assoc.specs.TsduMeanings.{TsduMeaning, answer, mms, released, aborted}
 
 -- ---- own: views of the code
 
 -- the view of the user data among parameters
-abbrev pub users_of : UserData → Users
-users_of user.Missing = missing
-users_of (user.Once octets) = once octets.now
-users_of user.Several = several
+abbrev pub user_data_view : UserData → UserDataView
+user_data_view user.Missing = missing
+user_data_view (user.Once octets) = once octets.now
+user_data_view user.Several = several
 
 -- the view of an SPDU
 abbrev pub spdu_view : code.Spdu → Spdu
@@ -30,8 +30,8 @@ spdu_view spdu.Abort = abort
 spdu_view (spdu.Transfer octets) = transfer octets.now
 
 -- the view of a value in a context
-abbrev pub carried_view : carried.ContextValue → Carried
-carried_view c = record { id = c.id; value = c.value.now }
+abbrev pub context_value_view : carried.ContextValue → ValueInContext
+context_value_view c = record { id = c.id; value = c.value.now }
 
 -- the view of a request for a connection
 abbrev pub connect_view : request.Connect → Connect
@@ -39,12 +39,12 @@ connect_view c =
     record {
       called = option_map (λ o. o.now) c.called;
       contexts = c.contexts.items;
-      user = carried_view c.user;
+      user = context_value_view c.user;
     }
 
 -- the view of the meaning of a TSDU
-abbrev pub hearing_of : Heard → TsduMeaning
-hearing_of (heard.Answer octets) = answer octets.items
-hearing_of (heard.Mms octets) = mms octets.now
-hearing_of (heard.Released octets) = released octets.items
-hearing_of heard.Aborted = aborted
+abbrev pub heard_view : Heard → TsduMeaning
+heard_view (heard.Answer octets) = answer octets.items
+heard_view (heard.Mms octets) = mms octets.now
+heard_view (heard.Released octets) = released octets.items
+heard_view heard.Aborted = aborted

@@ -3,7 +3,7 @@ ghost use Rattle.std.specs.Prelude.{◌≡◌, map, option_map};
 ghost use Rattle.bay_ber.specs.Values.{part_of};
 ghost use Rattle.bay_assoc.specs.Acse as spec;
 ghost use Rattle.bay_assoc.specs.Acse.{application_context, information, associate_parts, associate, release};
-ghost use Rattle.bay_assoc.specs.Views.{carried_view};
+ghost use Rattle.bay_assoc.specs.Views.{context_value_view};
 
 use crate::presentation::{ContextValue, context_value_from_parts, parse_content_with_tag};
 use bay_ber::known::known_values;
@@ -36,7 +36,7 @@ fn application_from_value<'a>(value: &Value<'a>) -> Option<&'a [u8]>
 // Reads the user information, which must be one EXTERNAL.
 #[tactic(auto, unfolding(crate::specs::Acse::information))]
 fn information_from_value<'a>(value: &Value<'a>) -> Option<ContextValue<'a>>
-    ensures { option_map carried_view result ≡ information.reads (part_of value.now) }
+    ensures { option_map context_value_view result ≡ information.reads (part_of value.now) }
 {
     let external = value.content_with_tag(Tag::context_constructed(30))?;
     let parts = few_values(parse_content_with_tag(external, Tag::universal_constructed(8))?)?;
@@ -47,7 +47,7 @@ fn information_from_value<'a>(value: &Value<'a>) -> Option<ContextValue<'a>>
 // information, and returns the latter.
 #[tactic(auto, unfolding(crate::specs::Acse::associate_parts))]
 fn associate_from_parts<'a>(parts: &[Value<'a>]) -> Option<ContextValue<'a>>
-    ensures { option_map carried_view result ≡ associate_parts.reads (map part_of parts.now) }
+    ensures { option_map context_value_view result ≡ associate_parts.reads (map part_of parts.now) }
 {
     match parts {
         [name, information] => {
@@ -61,8 +61,8 @@ fn associate_from_parts<'a>(parts: &[Value<'a>]) -> Option<ContextValue<'a>>
 /// Reads octets as a request for an association (AARQ), and returns its user information; `None` if
 /// they are none.
 #[tactic(auto, unfolding(crate::specs::Acse::associate))]
-pub(crate) fn parse_associate(octets: &[u8]) -> Option<ContextValue<'_>>
-    ensures { option_map carried_view result ≡ associate.reads octets.now }
+pub(crate) fn parse_aarq(octets: &[u8]) -> Option<ContextValue<'_>>
+    ensures { option_map context_value_view result ≡ associate.reads octets.now }
 {
     let content = parse_content_with_tag(octets, Tag::application_constructed(0))?;
     let tags = [Tag::context_constructed(1), Tag::context_constructed(30)];
@@ -73,7 +73,7 @@ pub(crate) fn parse_associate(octets: &[u8]) -> Option<ContextValue<'_>>
 /// Reads octets as a request for a release (RLRQ), and returns its content; `None` if they are
 /// none.
 #[tactic(auto, unfolding(crate::specs::Acse::release))]
-pub(crate) fn parse_release(octets: &[u8]) -> Option<&[u8]>
+pub(crate) fn parse_rlrq(octets: &[u8]) -> Option<&[u8]>
     ensures { option_map (λ o. o.now) result ≡ release.reads octets.now }
 {
     parse_content_with_tag(octets, Tag::application_constructed(2))

@@ -1,11 +1,11 @@
 // An association, for its user.
 ghost use Rattle.std.specs.Prelude.{◌≡◌, ◌<◌, ◌^◌, ◌++◌, ◌↔◌, Ok, length, IfOk, IfSome, IsErrOf, IsSome, IsTrue};
 ghost use Rattle.bay_mms_initiate.specs.Sizes.{IsPduSize};
-ghost use Rattle.bay_assoc.specs.Receiving.{mms, tsdu_meaning};
+ghost use Rattle.bay_assoc.specs.TsduMeanings.{mms, tsdu_meaning};
 ghost use Rattle.bay_assoc.specs.Receives.{association_terms, ReceivesTsdu, IsLastPart, IsOpenFor};
 ghost use Rattle.bay_assoc.specs.Session.{spdu_in};
 ghost use Rattle.bay_assoc.specs.Sized.{IsShort};
-ghost use Rattle.bay_assoc.specs.TakesMemory.{TakesMemory};
+ghost use Rattle.bay_assoc.specs.Allocating.{MayAllocate};
 ghost use Rattle.bay_assoc.specs.Texts.{user_text, transfer_text};
 
 use crate::data_prefix::data_prefix;
@@ -54,7 +54,7 @@ impl Assoc {
         ensures heard { ReceivesTsdu self.old tsdu.now result self.new }
         // An allocation can fail only if an answer is due: not for a request of another mode.
         ensures memory { IsErrOf result AssocFault.OutOfMemory
-            → TakesMemory self.old (spdu_in tsdu.now) }
+            → MayAllocate self.old (spdu_in tsdu.now) }
         // An answer has at most 1,000 octets. A PDU of MMS is the last part of its TSDU, and is
         // returned only if the association is open.
         ensures short { IfOk result IsShort }

@@ -4,8 +4,8 @@ ghost use Rattle.bay_ber.specs.Octets.{AreOctets};
 ghost use Rattle.bay_assoc.specs.declared.fault.AssocFault.{AssocFault};
 ghost use Rattle.bay_assoc.specs.declared.receive.Phase.{Phase};
 ghost use Rattle.bay_assoc.specs.Acse.{associate};
-ghost use Rattle.bay_assoc.specs.Receiving.{TsduMeaning, verdict, tsdu_meaning};
-ghost use Rattle.bay_assoc.specs.Presentation.{Carried, Connect, user_data, request};
+ghost use Rattle.bay_assoc.specs.TsduMeanings.{TsduMeaning, verdict, tsdu_meaning};
+ghost use Rattle.bay_assoc.specs.Presentation.{ValueInContext, Connect, user_data, request};
 ghost use Rattle.bay_assoc.specs.Session.{Spdu, spdu, spdu_in};
 
 /// A TSDU has at most one meaning. If the layers spell a meaning and a next phase, the TSDU is read
@@ -24,11 +24,11 @@ pub fn one_meaning()
 /// association are read as exactly that. So octets encode at most one of each.
 pub fn one_spelling()
     ensures spdu { (octets : List ℕ) (s : Spdu) → spdu.Spells octets s → spdu_in octets ≡ Some s }
-    ensures user { (octets : List ℕ) (c : Carried) → user_data.Spells octets c
+    ensures user { (octets : List ℕ) (c : ValueInContext) → user_data.Spells octets c
         → user_data.reads octets ≡ Some c }
     ensures request { (octets : List ℕ) (c : Connect) → request.Spells octets c
         → request.reads octets ≡ Some c }
-    ensures associate { (octets : List ℕ) (c : Carried) → associate.Spells octets c
+    ensures associate { (octets : List ℕ) (c : ValueInContext) → associate.Spells octets c
         → associate.reads octets ≡ Some c }
 {}
 
@@ -37,11 +37,11 @@ pub fn one_spelling()
 pub fn read_is_spelled()
     ensures spdu { (octets : List ℕ) (s : Spdu) → AreOctets octets → spdu_in octets ≡ Some s
         → spdu.Spells octets s }
-    ensures user { (octets : List ℕ) (c : Carried) → AreOctets octets
+    ensures user { (octets : List ℕ) (c : ValueInContext) → AreOctets octets
         → user_data.reads octets ≡ Some c → user_data.Spells octets c }
     ensures request { (octets : List ℕ) (c : Connect) → AreOctets octets
         → request.reads octets ≡ Some c → request.Spells octets c }
-    ensures associate { (octets : List ℕ) (c : Carried) → AreOctets octets
+    ensures associate { (octets : List ℕ) (c : ValueInContext) → AreOctets octets
         → associate.reads octets ≡ Some c → associate.Spells octets c }
 {}
 

@@ -4,7 +4,7 @@
 // `assoc`: an association, for its user. `receive`: the phases of an association, and the meaning
 // of a TSDU in each. `fault`: why a TSDU is refused. `laws`: laws about the definitions that the
 // contracts cite. Within the crate, `session`, `presentation` (with the `request` that it reads)
-// and `acse` read each layer, `text` writes the answers, and `data_prefix` the octets before a PDU
+// and `acse` read each layer, `text` writes the result, and `data_prefix` the octets before a PDU
 // to send.
 #![tactic(auto)]
 

@@ -1,13 +1,13 @@
 // Reads presentation protocol data units (ISO 8823-1 8.2).
 ghost use Rattle.std.specs.Prelude.{◌≡◌, ◌≤◌, ◌++◌, ◌∷◌, ◌&&◌, ◌||◌, [], length, map, option_map, OnOk, IfOk, IfSome, IsErrOf, IsSome};
-ghost use Rattle.bay_base.specs.Exact.{Gives};
+ghost use Rattle.bay_base.specs.Exact.{ExactOr};
 ghost use Rattle.bay_ber.specs.Forms.{octets as any_content, one, tagged, each, whole};
 ghost use Rattle.bay_ber.specs.Values.{part_of};
 ghost use Rattle.bay_assoc.specs.declared.fault.AssocFault.TheVariants.{BadPresentation};
 ghost use Rattle.bay_ber.specs.Judged.{or_fault};
-ghost use Rattle.bay_assoc.specs.Presentation.{transfer_syntax, transfer_syntaxes, context_parts, definition, definition_list, carried_parts, pdv_list, user_part, user_data, connect_parts, normal_parts, normal, mode, mode_parts, request, request_mode};
+ghost use Rattle.bay_assoc.specs.Presentation.{transfer_syntax, transfer_syntaxes, context_parts, definition, definition_list, context_value_parts, pdv_list, user_part, user_data, connect_parts, normal_parts, normal, mode, mode_parts, request, request_mode};
 ghost use Rattle.bay_assoc.specs.Presentation as spec;
-ghost use Rattle.bay_assoc.specs.Views.{carried_view, connect_view};
+ghost use Rattle.bay_assoc.specs.Views.{context_value_view, connect_view};
 
 use crate::fault::AssocFault;
 use crate::request::Connect;
@@ -148,7 +148,7 @@ fn context_from_value(value: &Value<'_>) -> Option<Context>
 
 // Reads consecutive offered contexts.
 fn read_contexts(alloc: Global, octets: &[u8]) -> Result<Vec<Context>, AssocFault>
-    ensures { Gives AssocFault.OutOfMemory (λ v. v.items) result
+    ensures { ExactOr AssocFault.OutOfMemory (λ v. v.items) result
         (or_fault BadPresentation ((each definition).reads octets.now)) }
 {
     let mut contexts = Vec::new(alloc);
@@ -198,7 +198,7 @@ fn are_distinct(contexts: &[Context]) -> bool
 // Reads the offered contexts: at most 16, with distinct identifiers.
 #[tactic(auto, unfolding(crate::specs::Presentation::definition_list))]
 fn parse_contexts(alloc: Global, octets: &[u8]) -> Result<Vec<Context>, AssocFault>
-    ensures exact { Gives AssocFault.OutOfMemory (λ v. v.items) result
+    ensures exact { ExactOr AssocFault.OutOfMemory (λ v. v.items) result
         (or_fault BadPresentation (definition_list.reads octets.now)) }
     ensures few { IfOk result (λ v. length v.items ≤ 16) }
 {
@@ -210,10 +210,10 @@ fn parse_contexts(alloc: Global, octets: &[u8]) -> Result<Vec<Context>, AssocFau
 }
 
 // Reads the identifier of a context, and the value in it, a single ASN.1 type.
-#[tactic(auto, unfolding(crate::specs::Presentation::carried_parts, bay_ber::specs::Values::integer_under))]
+#[tactic(auto, unfolding(crate::specs::Presentation::context_value_parts, bay_ber::specs::Values::integer_under))]
 fn context_value_from_values<'a>(id: &Value<'_>, value: &Value<'a>) -> Option<ContextValue<'a>>
-    ensures { option_map carried_view result
-        ≡ carried_parts.reads (part_of id.now ∷ part_of value.now ∷ []) }
+    ensures { option_map context_value_view result
+        ≡ context_value_parts.reads (part_of id.now ∷ part_of value.now ∷ []) }
 {
     let id = id.integer_with_tag(Tag::universal(2))?;
     let value = value.content_with_tag(Tag::context_constructed(0))?;
@@ -221,9 +221,9 @@ fn context_value_from_values<'a>(id: &Value<'_>, value: &Value<'a>) -> Option<Co
 }
 
 /// Reads a value and its context from the parts of a PDV-list or an EXTERNAL.
-#[tactic(auto, unfolding(crate::specs::Presentation::carried_parts))]
+#[tactic(auto, unfolding(crate::specs::Presentation::context_value_parts))]
 pub(crate) fn context_value_from_parts<'a>(parts: &[Value<'a>]) -> Option<ContextValue<'a>>
-    ensures { option_map carried_view result ≡ carried_parts.reads (map part_of parts.now) }
+    ensures { option_map context_value_view result ≡ context_value_parts.reads (map part_of parts.now) }
 {
     match parts {
         [id, value] => context_value_from_values(id, value),
@@ -235,7 +235,7 @@ pub(crate) fn context_value_from_parts<'a>(parts: &[Value<'a>]) -> Option<Contex
 // Reads the one value of fully encoded user data.
 #[tactic(auto, unfolding(crate::specs::Presentation::pdv_list))]
 fn parse_context_value(octets: &[u8]) -> Option<ContextValue<'_>>
-    ensures { option_map carried_view result ≡ (one pdv_list).reads octets.now }
+    ensures { option_map context_value_view result ≡ (one pdv_list).reads octets.now }
 {
     let parts = few_values(parse_content_with_tag(octets, Tag::sequence())?)?;
     context_value_from_parts(parts.as_slice())
@@ -243,8 +243,8 @@ fn parse_context_value(octets: &[u8]) -> Option<ContextValue<'_>>
 
 // Reads the one value of user data, with their tag.
 #[tactic(auto, unfolding(crate::specs::Presentation::user_part))]
-fn carried_under<'a>(value: &Value<'a>) -> Option<ContextValue<'a>>
-    ensures { option_map carried_view result ≡ user_part.reads (part_of value.now) }
+fn context_value_from_value<'a>(value: &Value<'a>) -> Option<ContextValue<'a>>
+    ensures { option_map context_value_view result ≡ user_part.reads (part_of value.now) }
 {
     parse_context_value(value.content_with_tag(Tag::application_constructed(1))?)
 }
@@ -252,10 +252,10 @@ fn carried_under<'a>(value: &Value<'a>) -> Option<ContextValue<'a>>
 /// Reads the user data of the session as one value and its context.
 #[tactic(auto, unfolding(crate::specs::Presentation::user_data))]
 pub(crate) fn parse_user_data(octets: &[u8]) -> Option<ContextValue<'_>>
-    ensures { option_map carried_view result ≡ user_data.reads octets.now }
+    ensures { option_map context_value_view result ≡ user_data.reads octets.now }
 {
     let value = whole_value(octets)?;
-    carried_under(&value)
+    context_value_from_value(&value)
 }
 
 // Returns a selector, if it has at most 16 octets.
@@ -273,7 +273,7 @@ fn selector_of(octets: &[u8]) -> Option<&[u8]>
 // Reads the parts of a request for a connection after its calling selector.
 #[tactic(auto, unfolding(crate::specs::Presentation::connect_parts))]
 fn connect_from_parts<'a>(alloc: Global, parts: &[Value<'a>]) -> Result<Connect<'a>, AssocFault>
-    ensures { Gives AssocFault.OutOfMemory connect_view result
+    ensures { ExactOr AssocFault.OutOfMemory connect_view result
         (or_fault BadPresentation (connect_parts.reads (map part_of parts.now))) }
 {
     let (called, list, user) = match parts {
@@ -290,7 +290,7 @@ fn connect_from_parts<'a>(alloc: Global, parts: &[Value<'a>]) -> Result<Connect<
     let octets = list
         .content_with_tag(Tag::context_constructed(4))
         .ok_or(AssocFault::BadPresentation)?;
-    let user = carried_under(user).ok_or(AssocFault::BadPresentation)?;
+    let user = context_value_from_value(user).ok_or(AssocFault::BadPresentation)?;
     let contexts = parse_contexts(alloc, octets)?;
     Ok(Connect {
         called,
@@ -302,7 +302,7 @@ fn connect_from_parts<'a>(alloc: Global, parts: &[Value<'a>]) -> Result<Connect<
 // Reads the parts of a request for a connection, and ignores its calling selector, if it has one.
 #[tactic(auto, unfolding(crate::specs::Presentation::normal_parts))]
 fn normal_from_parts<'a>(alloc: Global, parts: &[Value<'a>]) -> Result<Connect<'a>, AssocFault>
-    ensures { Gives AssocFault.OutOfMemory connect_view result
+    ensures { ExactOr AssocFault.OutOfMemory connect_view result
         (or_fault BadPresentation (normal_parts.reads (map part_of parts.now))) }
 {
     match parts {
@@ -316,7 +316,7 @@ fn normal_from_parts<'a>(alloc: Global, parts: &[Value<'a>]) -> Result<Connect<'
 // Reads the parameters of the normal mode, with their tag, and ignores other fields.
 #[tactic(auto, unfolding(crate::specs::Presentation::normal))]
 fn normal_from_value<'a>(alloc: Global, value: &Value<'a>) -> Result<Connect<'a>, AssocFault>
-    ensures { Gives AssocFault.OutOfMemory connect_view result
+    ensures { ExactOr AssocFault.OutOfMemory connect_view result
         (or_fault BadPresentation (normal.reads (part_of value.now))) }
 {
     let octets = value
@@ -352,7 +352,7 @@ fn mode_from_value(value: &Value<'_>) -> Option<i64>
 // Reads the mode and the parameters, in either order.
 #[tactic(auto, unfolding(crate::specs::Presentation::mode_parts))]
 fn request_from_parts<'a>(alloc: Global, parts: &[Value<'a>]) -> Result<Connect<'a>, AssocFault>
-    ensures request { Gives AssocFault.OutOfMemory connect_view result
+    ensures request { ExactOr AssocFault.OutOfMemory connect_view result
         (or_fault BadPresentation ((mode_parts normal).reads (map part_of parts.now))) }
     ensures memory { IsErrOf result AssocFault.OutOfMemory
         → IsSome ((mode_parts whole).reads (map part_of parts.now)) }
@@ -371,7 +371,7 @@ fn request_from_parts<'a>(alloc: Global, parts: &[Value<'a>]) -> Result<Connect<
 /// `BadPresentation` if they are none.
 #[tactic(auto, unfolding(crate::specs::Presentation::cp))]
 pub(crate) fn parse_connect_request(alloc: Global, octets: &[u8]) -> Result<Connect<'_>, AssocFault>
-    ensures request { Gives AssocFault.OutOfMemory connect_view result
+    ensures request { ExactOr AssocFault.OutOfMemory connect_view result
         (or_fault BadPresentation (request.reads octets.now)) }
     ensures memory { IsErrOf result AssocFault.OutOfMemory
         → IsSome (request_mode.reads octets.now) }

@@ -1,28 +1,28 @@
 // The phases of an association, and the meaning of a TSDU in each.
 ghost use Rattle.std.specs.Prelude.{◌≡◌, ◌≤◌, ◌∷◌, [], Some, length, option_map, IfOk, IfSome, IsErrOf, IsSome};
-ghost use Rattle.bay_base.specs.Exact.{Gives};
-ghost use Rattle.bay_base.specs.Results.{IsRead};
+ghost use Rattle.bay_base.specs.Exact.{ExactOr};
+ghost use Rattle.bay_base.specs.Results.{Exact};
 ghost use Rattle.bay_mms_initiate.specs.Sizes.{IsPduSize};
-ghost use Rattle.bay_assoc.specs.Receiving.{answer_text, tsdu_meaning};
-ghost use Rattle.bay_assoc.specs.Receiving as spec;
+ghost use Rattle.bay_assoc.specs.TsduMeanings.{answer_text, tsdu_meaning};
+ghost use Rattle.bay_assoc.specs.TsduMeanings as spec;
 ghost use Rattle.bay_assoc.specs.Presentation.{request_mode};
 ghost use Rattle.bay_assoc.specs.Session.{spdu_in};
 ghost use Rattle.bay_assoc.specs.Sized.{IsSized, IsShort};
-ghost use Rattle.bay_assoc.specs.TakesMemory.{TakesMemory};
-ghost use Rattle.bay_assoc.specs.Views.{carried_view, connect_view, spdu_view, hearing_of};
+ghost use Rattle.bay_assoc.specs.Allocating.{MayAllocate};
+ghost use Rattle.bay_assoc.specs.Views.{context_value_view, connect_view, spdu_view, heard_view};
 
-use crate::acse::{parse_associate, parse_release};
+use crate::acse::{parse_aarq, parse_rlrq};
 use crate::fault::AssocFault;
 use crate::presentation::{Context, ContextValue, parse_connect_request, parse_user_data};
 use crate::request::Connect;
 use crate::session::{Spdu, parse_spdu};
 use crate::text;
-use bay_mms_initiate::initiate::{Agreed, Proposal, agreed_size, read_initiate, write_agreed};
+use bay_mms_initiate::initiate::{AgreedLimits, Proposal, agreed_size, read_initiate, write_initiate_response};
 use std::alloc::{AllocError, Global};
 
 /// The identifiers of the accepted presentation contexts.
 #[derive(Clone, Copy)]
-pub struct Accepted {
+pub struct ContextIds {
     /// The context of ACSE.
     pub acse: u16,
     /// The context of MMS.
@@ -33,7 +33,7 @@ pub struct Accepted {
 #[derive(Clone, Copy)]
 pub struct AssociationTerms {
     /// The accepted presentation contexts.
-    pub contexts: Accepted,
+    pub contexts: ContextIds,
     /// The size of the largest PDU of MMS in octets.
     pub size: u32,
 }
@@ -92,20 +92,20 @@ fn mms_of(contexts: &[Context]) -> Option<u16>
 }
 
 // Returns the first context of each, if both are offered.
-#[tactic(auto, unfolding(crate::specs::Receiving::accepted_of))]
-fn accepted_of(contexts: &[Context]) -> Option<Accepted>
-    ensures { result ≡ spec.accepted_of contexts.now }
+#[tactic(auto, unfolding(crate::specs::TsduMeanings::accepted_ids))]
+fn accepted_ids(contexts: &[Context]) -> Option<ContextIds>
+    ensures { result ≡ spec.accepted_ids contexts.now }
 {
     let acse = acse_of(contexts)?;
     let mms = mms_of(contexts)?;
-    Some(Accepted { acse, mms })
+    Some(ContextIds { acse, mms })
 }
 
 // Returns a value that must be in the context of ACSE. Fails with `BadAcse` if it is in that of
 // MMS, and with `NoContext` if it is in any other.
-fn acse_value<'a>(contexts: Accepted, carried: ContextValue<'a>) -> Result<&'a [u8], AssocFault>
-    ensures { IsRead (λ octets. octets.now) result
-        (spec.acse_value contexts (carried_view carried.entry)) }
+fn acse_value<'a>(contexts: ContextIds, carried: ContextValue<'a>) -> Result<&'a [u8], AssocFault>
+    ensures { Exact (λ octets. octets.now) result
+        (spec.acse_value contexts (context_value_view carried.entry)) }
 {
     if is_id(carried.id, contexts.acse) {
         Ok(carried.value)
@@ -118,9 +118,9 @@ fn acse_value<'a>(contexts: Accepted, carried: ContextValue<'a>) -> Result<&'a [
 
 // Returns a value that must be in the context of MMS. Fails with `BadAcse` if it is in that of
 // ACSE, and with `NoContext` if it is in any other.
-fn mms_value<'a>(contexts: Accepted, carried: ContextValue<'a>) -> Result<&'a [u8], AssocFault>
-    ensures value { IsRead (λ octets. octets.now) result
-        (spec.mms_value contexts (carried_view carried.entry)) }
+fn mms_value<'a>(contexts: ContextIds, carried: ContextValue<'a>) -> Result<&'a [u8], AssocFault>
+    ensures value { Exact (λ octets. octets.now) result
+        (spec.mms_value contexts (context_value_view carried.entry)) }
     ensures memory { IsErrOf result AssocFault.OutOfMemory → ⊥ }
 {
     if is_id(carried.id, contexts.mms) {
@@ -151,12 +151,12 @@ fn nesting_of(proposed: i64) -> i64
 }
 
 // Returns the agreed limits of a proposal; `None` if the proposed size of a PDU is too small.
-fn agreed_of(proposal: Proposal) -> Option<Agreed>
-    ensures agreed { result ≡ spec.agreed_of proposal }
+fn agreed_limits(proposal: Proposal) -> Option<AgreedLimits>
+    ensures agreed { result ≡ spec.agreed_limits proposal }
     ensures sized { IfSome result (λ agreed. IsPduSize agreed.size) }
 {
     let size = agreed_size(proposal.size)?;
-    Some(Agreed {
+    Some(AgreedLimits {
         size,
         calling: outstanding_of(proposal.calling),
         called: outstanding_of(proposal.called),
@@ -166,17 +166,17 @@ fn agreed_of(proposal: Proposal) -> Option<Agreed>
 }
 
 // Writes the TSDU that answers a request for an association.
-fn answer(
+fn answer_connect(
     alloc: Global,
     request: &Connect<'_>,
-    contexts: Accepted,
-    agreed: Agreed,
+    contexts: ContextIds,
+    agreed: AgreedLimits,
 ) -> Result<Vec<u8>, AllocError>
     ensures text { IfOk result
         (λ octets. octets.items ≡ answer_text (connect_view request.now) contexts agreed) }
     ensures few { IfOk result (λ octets. length octets.items ≤ 1_000) }
 {
-    let pdu = write_agreed(alloc, agreed)?;
+    let pdu = write_initiate_response(alloc, agreed)?;
     let value = text::write_aare(alloc, contexts.mms, pdu.as_slice())?;
     let list = request.contexts.as_slice();
     let user = text::write_cpa(alloc, request.called, list, contexts, value.as_slice())?;
@@ -185,33 +185,33 @@ fn answer(
 
 // Returns the accepted contexts and the agreed limits, from the contexts and the user data of a
 // request: an AARQ of ACSE, with an initiate of MMS within it.
-#[tactic(auto, unfolding(crate::specs::Receiving::agreement))]
-fn agreement(contexts: &[Context], user: ContextValue<'_>) -> Result<(Accepted, Agreed), AssocFault>
-    ensures agreement { IsRead (λ x. (x.0, x.1)) result
-        (spec.agreement contexts.now (carried_view user.entry)).answers }
+#[tactic(auto, unfolding(crate::specs::TsduMeanings::agreement))]
+fn agreement(contexts: &[Context], user: ContextValue<'_>) -> Result<(ContextIds, AgreedLimits), AssocFault>
+    ensures agreement { Exact (λ x. (x.0, x.1)) result
+        (spec.agreement contexts.now (context_value_view user.entry)).result }
     ensures sized { IfOk result (λ x. IsPduSize x.1.size) }
 {
-    let contexts = accepted_of(contexts).ok_or(AssocFault::NoContext)?;
+    let contexts = accepted_ids(contexts).ok_or(AssocFault::NoContext)?;
     let value = acse_value(contexts, user)?;
-    let information = parse_associate(value).ok_or(AssocFault::BadAcse)?;
+    let information = parse_aarq(value).ok_or(AssocFault::BadAcse)?;
     let pdu = mms_value(contexts, information)?;
     let proposal = read_initiate(pdu).ok_or(AssocFault::BadAcse)?;
-    let agreed = agreed_of(proposal).ok_or(AssocFault::PduSizeTooSmall)?;
+    let agreed = agreed_limits(proposal).ok_or(AssocFault::PduSizeTooSmall)?;
     Ok((contexts, agreed))
 }
 
 // Handles a CONNECT: a request for an association.
-#[tactic(auto, unfolding(crate::specs::Receiving::connection_request))]
+#[tactic(auto, unfolding(crate::specs::TsduMeanings::connection_request))]
 fn receive_connect<'a>(alloc: Global, user: &'a [u8]) -> Result<(Heard<'a>, Phase), AssocFault>
-    ensures heard { Gives AssocFault.OutOfMemory (λ x. (hearing_of x.0, x.1)) result
-        (spec.connection_request user.now).answers }
+    ensures heard { ExactOr AssocFault.OutOfMemory (λ x. (heard_view x.0, x.1)) result
+        (spec.connection_request user.now).result }
     ensures memory { IsErrOf result AssocFault.OutOfMemory → IsSome (request_mode.reads user.now) }
     ensures short { IfOk result (λ x. IsShort x.0) }
     ensures sized { IfOk result (λ x. IsSized x.1) }
 {
     let request = parse_connect_request(alloc, user)?;
     let (contexts, agreed) = agreement(request.contexts.as_slice(), request.user)?;
-    let octets = answer(alloc, &request, contexts, agreed)?;
+    let octets = answer_connect(alloc, &request, contexts, agreed)?;
     let terms = AssociationTerms {
         contexts,
         size: agreed.size,
@@ -220,7 +220,7 @@ fn receive_connect<'a>(alloc: Global, user: &'a [u8]) -> Result<(Heard<'a>, Phas
 }
 
 // Writes the answer to a FINISH without user data.
-fn disconnect_alone(alloc: Global) -> Result<Vec<u8>, AllocError>
+fn write_disconnect_alone(alloc: Global) -> Result<Vec<u8>, AllocError>
     ensures text { IfOk result (λ octets. octets.items ≡ 0x0A ∷ 0 ∷ []) }
     ensures few { IfOk result (λ octets. length octets.items ≤ 100) }
 {
@@ -230,23 +230,23 @@ fn disconnect_alone(alloc: Global) -> Result<Vec<u8>, AllocError>
 }
 
 // Handles a FINISH: a request for a release.
-#[tactic(auto, unfolding(crate::specs::Receiving::release_request))]
+#[tactic(auto, unfolding(crate::specs::TsduMeanings::release_request))]
 fn receive_finish<'a>(
     alloc: Global,
     terms: AssociationTerms,
     user: Option<&'a [u8]>,
 ) -> Result<(Heard<'a>, Phase), AssocFault>
-    ensures heard { Gives AssocFault.OutOfMemory (λ x. (hearing_of x.0, x.1)) result
-        (spec.release_request terms (option_map (λ octets. octets.now) user.entry)).answers }
+    ensures heard { ExactOr AssocFault.OutOfMemory (λ x. (heard_view x.0, x.1)) result
+        (spec.release_request terms (option_map (λ octets. octets.now) user.entry)).result }
     ensures short { IfOk result (λ x. IsShort x.0) }
     ensures sized { IfOk result (λ x. IsSized x.1) }
 {
     let octets = match user {
-        None => disconnect_alone(alloc)?,
+        None => write_disconnect_alone(alloc)?,
         Some(user) => {
             let carried = parse_user_data(user).ok_or(AssocFault::BadPresentation)?;
             let value = acse_value(terms.contexts, carried)?;
-            parse_release(value).ok_or(AssocFault::BadAcse)?;
+            parse_rlrq(value).ok_or(AssocFault::BadAcse)?;
             text::write_release_response(alloc, terms.contexts.acse)?
         }
     };
@@ -254,14 +254,14 @@ fn receive_finish<'a>(
 }
 
 // Handles a DATA TRANSFER: returns the PDU of MMS, which must be in the context of MMS.
-#[tactic(auto, unfolding(crate::specs::Receiving::data_transfer))]
+#[tactic(auto, unfolding(crate::specs::TsduMeanings::data_transfer))]
 fn receive_data<'a>(
     terms: AssociationTerms,
     user: &'a [u8],
 ) -> Result<(Heard<'a>, Phase), AssocFault>
     requires { IsPduSize terms.size }
-    ensures heard { IsRead (λ x. (hearing_of x.0, x.1)) result
-        (spec.data_transfer terms user.now).answers }
+    ensures heard { Exact (λ x. (heard_view x.0, x.1)) result
+        (spec.data_transfer terms user.now).result }
     ensures memory { IsErrOf result AssocFault.OutOfMemory → ⊥ }
     ensures short { IfOk result (λ x. IsShort x.0) }
     ensures sized { IfOk result (λ x. IsSized x.1) }
@@ -273,10 +273,10 @@ fn receive_data<'a>(
 
 // Returns the meaning of an SPDU before the association.
 fn receive_idle<'a>(alloc: Global, spdu: Spdu<'a>) -> Result<(Heard<'a>, Phase), AssocFault>
-    ensures heard { Gives AssocFault.OutOfMemory (λ x. (hearing_of x.0, x.1)) result
-        (spec.idle_meaning (spdu_view spdu.entry)).answers }
+    ensures heard { ExactOr AssocFault.OutOfMemory (λ x. (heard_view x.0, x.1)) result
+        (spec.idle_meaning (spdu_view spdu.entry)).result }
     ensures memory { IsErrOf result AssocFault.OutOfMemory
-        → TakesMemory Phase.Idle (Some (spdu_view spdu.entry)) }
+        → MayAllocate Phase.Idle (Some (spdu_view spdu.entry)) }
     ensures short { IfOk result (λ x. IsShort x.0) }
     ensures sized { IfOk result (λ x. IsSized x.1) }
 {
@@ -296,10 +296,10 @@ fn receive_open<'a>(
     spdu: Spdu<'a>,
 ) -> Result<(Heard<'a>, Phase), AssocFault>
     requires { IsPduSize terms.size }
-    ensures heard { Gives AssocFault.OutOfMemory (λ x. (hearing_of x.0, x.1)) result
-        (spec.open_meaning terms (spdu_view spdu.entry)).answers }
+    ensures heard { ExactOr AssocFault.OutOfMemory (λ x. (heard_view x.0, x.1)) result
+        (spec.open_meaning terms (spdu_view spdu.entry)).result }
     ensures memory { IsErrOf result AssocFault.OutOfMemory
-        → TakesMemory (Phase.Open terms) (Some (spdu_view spdu.entry)) }
+        → MayAllocate (Phase.Open terms) (Some (spdu_view spdu.entry)) }
     ensures short { IfOk result (λ x. IsShort x.0) }
     ensures sized { IfOk result (λ x. IsSized x.1) }
 {
@@ -312,16 +312,16 @@ fn receive_open<'a>(
 }
 
 /// Returns the meaning of a TSDU in a phase, and the next phase.
-#[tactic(auto, unfolding(crate::specs::Receiving::verdict))]
+#[tactic(auto, unfolding(crate::specs::TsduMeanings::verdict))]
 pub(crate) fn receive<'a>(
     alloc: Global,
     phase: Phase,
     tsdu: &'a [u8],
 ) -> Result<(Heard<'a>, Phase), AssocFault>
     requires { IsSized phase }
-    ensures heard { Gives AssocFault.OutOfMemory (λ x. (hearing_of x.0, x.1)) result
+    ensures heard { ExactOr AssocFault.OutOfMemory (λ x. (heard_view x.0, x.1)) result
         (tsdu_meaning phase tsdu.now) }
-    ensures memory { IsErrOf result AssocFault.OutOfMemory → TakesMemory phase (spdu_in tsdu.now) }
+    ensures memory { IsErrOf result AssocFault.OutOfMemory → MayAllocate phase (spdu_in tsdu.now) }
     ensures short { IfOk result (λ x. IsShort x.0) }
     ensures sized { IfOk result (λ x. IsSized x.1) }
 {

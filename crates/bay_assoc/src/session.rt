@@ -6,7 +6,7 @@ ghost use Rattle.bay_assoc.specs.Session as spec;
 ghost use Rattle.bay_assoc.specs.SessionReading.{NextUnit};
 ghost use Rattle.bay_assoc.specs.SessionReading as spec_session_reading;
 ghost use Rattle.bay_assoc.specs.SessionViews.{unit_of};
-ghost use Rattle.bay_assoc.specs.Views.{users_of, spdu_view};
+ghost use Rattle.bay_assoc.specs.Views.{user_data_view, spdu_view};
 
 use std::marker::Model;
 
@@ -76,9 +76,9 @@ fn size_at(octets: &[u8]) -> Option<(usize, &[u8])>
 }
 
 // Reads a length, and returns the octets that it counts, and those after them.
-#[tactic(auto, unfolding(crate::specs::Session::counted_at))]
-fn counted_at(octets: &[u8]) -> Option<(&[u8], &[u8])>
-    ensures exact { option_map (λ x. (x.0.now, x.1.now)) result ≡ spec.counted_at octets.now }
+#[tactic(auto, unfolding(crate::specs::Session::content_at))]
+fn content_at(octets: &[u8]) -> Option<(&[u8], &[u8])>
+    ensures exact { option_map (λ x. (x.0.now, x.1.now)) result ≡ spec.content_at octets.now }
     ensures shorter { IfSome result (λ x. length x.1.now + 1 ≤ length octets.now) }
 {
     let (count, rest) = size_at(octets)?;
@@ -97,7 +97,7 @@ fn unit_at(octets: &[u8]) -> Option<(Unit<'_>, &[u8])>
     match octets {
         [] => None,
         [identifier, rest @ ..] => {
-            let (content, rest) = counted_at(rest)?;
+            let (content, rest) = content_at(rest)?;
             let unit = Unit {
                 identifier: *identifier,
                 content,
@@ -157,18 +157,18 @@ impl<'a> Units<'a> {
 }
 
 // Returns whether a parameter is user data.
-fn is_user(unit: &Unit<'_>) -> bool
-    ensures { result ≡ spec.is_user (unit_of unit.now) }
+fn is_user_data(unit: &Unit<'_>) -> bool
+    ensures { result ≡ spec.is_user_data (unit_of unit.now) }
 {
     unit.identifier == USER_DATA
 }
 
 // Returns the user data found so far, after one more unit.
-fn with_user<'a>(found: UserData<'a>, unit: Unit<'a>) -> UserData<'a>
-    ensures { users_of result
-        ≡ spec_session_reading.with_user (users_of found.entry) (unit_of unit.entry) }
+fn user_data_with_unit<'a>(found: UserData<'a>, unit: Unit<'a>) -> UserData<'a>
+    ensures { user_data_view result
+        ≡ spec_session_reading.user_data_with_unit (user_data_view found.entry) (unit_of unit.entry) }
 {
-    if !is_user(&unit) {
+    if !is_user_data(&unit) {
         return found;
     }
     match found {
@@ -179,13 +179,13 @@ fn with_user<'a>(found: UserData<'a>, unit: Unit<'a>) -> UserData<'a>
 
 // Returns the user data among the parameters in octets; `None` if the octets are no parameters.
 fn parse_user_parameters(octets: &[u8]) -> Option<UserData<'_>>
-    ensures { option_map users_of result ≡ parameters.reads octets.now }
+    ensures { option_map user_data_view result ≡ parameters.reads octets.now }
 {
     let mut found = UserData::Missing;
     let mut units = Units::new(octets);
     loop {
         match units.next_unit() {
-            UnitRead::Unit(unit) => found = with_user(found, unit),
+            UnitRead::Unit(unit) => found = user_data_with_unit(found, unit),
             UnitRead::End => return Some(found),
             UnitRead::Bad => return None,
         }
@@ -194,7 +194,7 @@ fn parse_user_parameters(octets: &[u8]) -> Option<UserData<'_>>
 
 // Returns the CONNECT with these user data, which must occur once.
 fn connect_of(users: UserData<'_>) -> Option<Spdu<'_>>
-    ensures { option_map spdu_view result ≡ spec.connect_of (users_of users.entry) }
+    ensures { option_map spdu_view result ≡ spec.connect_of (user_data_view users.entry) }
 {
     match users {
         UserData::Once(user) => Some(Spdu::Connect(user)),
@@ -204,7 +204,7 @@ fn connect_of(users: UserData<'_>) -> Option<Spdu<'_>>
 
 // Returns the FINISH with these user data, which must occur at most once.
 fn finish_of(users: UserData<'_>) -> Option<Spdu<'_>>
-    ensures { option_map spdu_view result ≡ spec.finish_of (users_of users.entry) }
+    ensures { option_map spdu_view result ≡ spec.finish_of (user_data_view users.entry) }
 {
     match users {
         UserData::Missing => Some(Spdu::Finish(None)),

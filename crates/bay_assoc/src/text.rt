@@ -1,14 +1,14 @@
 // Writes the canonical texts of each layer.
 ghost use Rattle.std.specs.Prelude.{◌≡◌, ◌+◌, ◌<◌, ◌≤◌, ◌++◌, length, option_map, OnOk, IfOk};
 ghost use Rattle.std.specs.Option.{ForSome};
-ghost use Rattle.bay_ber.specs.EncoderBuffers.{sheet_with};
+ghost use Rattle.bay_ber.specs.EncoderBuffers.{buffer_with};
 ghost use Rattle.bay_ber.specs.Writing.{element};
 ghost use Rattle.bay_ber.specs.Tags.{constructed};
 ghost use Rattle.bay_assoc.specs.Tags.{oid_tag, external_tag, mms_application};
-ghost use Rattle.bay_assoc.specs.Texts.{size_text, unit_text, accept_text, disconnect_text, transfer_text, context_value_text, user_text, result_text, results_text, selector_text, connected_text, associated_text, release_text};
+ghost use Rattle.bay_assoc.specs.Texts.{size_text, unit_text, accept_text, disconnect_text, transfer_text, context_value_text, user_text, result_text, results_text, selector_text, cpa_text, aare_text, rlre_text};
 
 use crate::presentation::Context;
-use crate::receive::Accepted;
+use crate::receive::ContextIds;
 use bay_ber::outgoing::Outgoing;
 use bay_ber::tag::Tag;
 use bay_ber::writer::Writer;
@@ -62,7 +62,7 @@ pub(crate) fn accept(alloc: Global, user: &[u8]) -> Result<Vec<u8>, AllocError>
 }
 
 // Writes a DISCONNECT with user data.
-fn disconnect(alloc: Global, user: &[u8]) -> Result<Vec<u8>, AllocError>
+fn write_disconnect(alloc: Global, user: &[u8]) -> Result<Vec<u8>, AllocError>
     requires { length user.now < 65_500 }
     ensures text { IfOk result (λ octets. octets.items ≡ disconnect_text user.now) }
     ensures few { IfOk result (λ octets. length octets.items ≤ length user.now + 8) }
@@ -78,7 +78,7 @@ fn disconnect(alloc: Global, user: &[u8]) -> Result<Vec<u8>, AllocError>
 #[tactic(auto, using(bay_ber::proofs::SheetLemmas::sheet_rules))]
 fn put_context_value(writer: &mut Writer, tag: Tag, id: u16, value: &[u8])
     requires { tag.number < 31 }
-    ensures { writer.new ≡ sheet_with writer.old (context_value_text tag id value.now) }
+    ensures { writer.new ≡ buffer_with writer.old (context_value_text tag id value.now) }
 {
     let start = writer.open(tag);
     writer.int(Tag::universal(2), i64::from(id));
@@ -89,7 +89,7 @@ fn put_context_value(writer: &mut Writer, tag: Tag, id: u16, value: &[u8])
 // Appends fully encoded user data.
 #[tactic(auto, using(bay_ber::proofs::SheetLemmas::sheet_rules))]
 fn put_user(writer: &mut Writer, id: u16, value: &[u8])
-    ensures { writer.new ≡ sheet_with writer.old (user_text id value.now) }
+    ensures { writer.new ≡ buffer_with writer.old (user_text id value.now) }
 {
     let start = writer.open(Tag::application_constructed(1));
     put_context_value(writer, Tag::sequence(), id, value);
@@ -97,8 +97,8 @@ fn put_user(writer: &mut Writer, id: u16, value: &[u8])
 }
 
 // Appends the result for one offered context: accepted or rejected.
-fn put_result(writer: &mut Writer, accepted: Accepted, context: &Context)
-    ensures { writer.new ≡ sheet_with writer.old (result_text accepted context.now) }
+fn put_result(writer: &mut Writer, accepted: ContextIds, context: &Context)
+    ensures { writer.new ≡ buffer_with writer.old (result_text accepted context.now) }
 {
     if context.id == accepted.acse || context.id == accepted.mms {
         writer.octets(Tag::sequence(), &[0x80, 0x01, 0x00, 0x81, 0x02, 0x51, 0x01]);
@@ -108,8 +108,8 @@ fn put_result(writer: &mut Writer, accepted: Accepted, context: &Context)
 }
 
 // Appends the result for each offered context.
-fn put_each(writer: &mut Writer, accepted: Accepted, contexts: &[Context])
-    ensures { writer.new ≡ sheet_with writer.old (results_text accepted contexts.now) }
+fn put_each(writer: &mut Writer, accepted: ContextIds, contexts: &[Context])
+    ensures { writer.new ≡ buffer_with writer.old (results_text accepted contexts.now) }
 {
     for context in contexts {
         put_result(writer, accepted, context);
@@ -118,8 +118,8 @@ fn put_each(writer: &mut Writer, accepted: Accepted, contexts: &[Context])
 
 // Appends the list of the results, one for each offered context.
 #[tactic(auto, using(bay_ber::proofs::SheetLemmas::sheet_rules))]
-fn put_results(writer: &mut Writer, accepted: Accepted, contexts: &[Context])
-    ensures { writer.new ≡ sheet_with writer.old
+fn put_results(writer: &mut Writer, accepted: ContextIds, contexts: &[Context])
+    ensures { writer.new ≡ buffer_with writer.old
         (element (constructed 5) (results_text accepted contexts.now)) }
 {
     let start = writer.open(Tag::context_constructed(5));
@@ -130,7 +130,7 @@ fn put_results(writer: &mut Writer, accepted: Accepted, contexts: &[Context])
 // Appends the responding selector, which repeats the called one, if there is one.
 #[tactic(auto, using(bay_ber::proofs::SheetLemmas::put_nil))]
 fn put_selector(writer: &mut Writer, called: Option<&[u8]>)
-    ensures { writer.new ≡ sheet_with writer.old
+    ensures { writer.new ≡ buffer_with writer.old
         (selector_text (option_map (λ octets. octets.now) called.entry)) }
 {
     if let Some(octets) = called {
@@ -144,10 +144,10 @@ fn put_normal(
     writer: &mut Writer,
     called: Option<&[u8]>,
     contexts: &[Context],
-    accepted: Accepted,
+    accepted: ContextIds,
     value: &[u8],
 )
-    ensures { writer.new ≡ sheet_with writer.old
+    ensures { writer.new ≡ buffer_with writer.old
         (element (constructed 2) (selector_text (option_map (λ octets. octets.now) called.entry)
         ++ (element (constructed 5) (results_text accepted contexts.now)
         ++ user_text accepted.acse value.now))) }
@@ -161,15 +161,15 @@ fn put_normal(
 
 // Appends the answer to a request for a connection.
 #[tactic(auto, using(bay_ber::proofs::SheetLemmas::sheet_rules))]
-fn put_connected(
+fn put_cpa(
     writer: &mut Writer,
     called: Option<&[u8]>,
     contexts: &[Context],
-    accepted: Accepted,
+    accepted: ContextIds,
     value: &[u8],
 )
-    ensures { writer.new ≡ sheet_with writer.old
-        (connected_text (option_map (λ octets. octets.now) called.entry) contexts.now accepted
+    ensures { writer.new ≡ buffer_with writer.old
+        (cpa_text (option_map (λ octets. octets.now) called.entry) contexts.now accepted
         value.now) }
 {
     let start = writer.open(Tag::universal_constructed(17));
@@ -184,7 +184,7 @@ pub(crate) fn write_cpa(
     alloc: Global,
     called: Option<&[u8]>,
     contexts: &[Context],
-    accepted: Accepted,
+    accepted: ContextIds,
     value: &[u8],
 ) -> Result<Outgoing, AllocError>
     requires selector { ForSome called (λ octets. length octets.now ≤ 16) }
@@ -192,12 +192,12 @@ pub(crate) fn write_cpa(
     requires short { length value.now ≤ 271 }
     ensures text { IfOk result
         (λ octets. octets
-        ≡ connected_text (option_map (λ octets. octets.now) called.entry) contexts.now accepted
+        ≡ cpa_text (option_map (λ octets. octets.now) called.entry) contexts.now accepted
         value.now) }
     ensures few { IfOk result (λ octets. length octets ≤ 560) }
 {
     let mut writer = Writer::new(alloc, 560)?;
-    put_connected(&mut writer, called, contexts, accepted, value);
+    put_cpa(&mut writer, called, contexts, accepted, value);
     Ok(writer.finish_untruncated())
 }
 
@@ -212,7 +212,7 @@ fn application_context() -> &'static [u8]
 // Appends the user information, which is one EXTERNAL.
 #[tactic(auto, using(bay_ber::proofs::SheetLemmas::sheet_rules))]
 fn put_user_information(writer: &mut Writer, mms: u16, pdu: &[u8])
-    ensures { writer.new ≡ sheet_with writer.old
+    ensures { writer.new ≡ buffer_with writer.old
         (element (constructed 30) (context_value_text external_tag mms pdu.now)) }
 {
     let start = writer.open(Tag::context_constructed(30));
@@ -222,8 +222,8 @@ fn put_user_information(writer: &mut Writer, mms: u16, pdu: &[u8])
 
 // Appends the answer to a request for an association.
 #[tactic(auto, using(bay_ber::proofs::SheetLemmas::sheet_rules))]
-fn put_associated(writer: &mut Writer, mms: u16, pdu: &[u8])
-    ensures { writer.new ≡ sheet_with writer.old (associated_text mms pdu.now) }
+fn put_aare(writer: &mut Writer, mms: u16, pdu: &[u8])
+    ensures { writer.new ≡ buffer_with writer.old (aare_text mms pdu.now) }
 {
     let start = writer.open(Tag::application_constructed(1));
     writer.octets(Tag::context_constructed(1), application_context());
@@ -237,39 +237,39 @@ fn put_associated(writer: &mut Writer, mms: u16, pdu: &[u8])
 #[tactic(auto, using(bay_ber::proofs::SheetLemmas::message_put, crate::proofs::TextLemmas::associated_short, crate::proofs::TextLemmas::associated_within))]
 pub(crate) fn write_aare(alloc: Global, mms: u16, pdu: &[u8]) -> Result<Outgoing, AllocError>
     requires { length pdu.now ≤ 200 }
-    ensures text { IfOk result (λ octets. octets ≡ associated_text mms pdu.now) }
+    ensures text { IfOk result (λ octets. octets ≡ aare_text mms pdu.now) }
     ensures few { IfOk result (λ octets. length octets ≤ 271) }
 {
     let mut writer = Writer::new(alloc, 271)?;
-    put_associated(&mut writer, mms, pdu);
+    put_aare(&mut writer, mms, pdu);
     Ok(writer.finish_untruncated())
 }
 
 // Returns the encoded RLRE.
 #[tactic(auto, unfolding(bay_ber::specs::Writing::element, bay_ber::specs::Writing::length_octets))]
-fn release() -> &'static [u8]
-    ensures { result.now ≡ release_text }
+fn rlre_octets() -> &'static [u8]
+    ensures { result.now ≡ rlre_text }
 {
     &[0x63, 0x03, 0x80, 0x01, 0x00]
 }
 
 // Writes the RLRE in the context of ACSE, as user data.
 #[tactic(auto, using(bay_ber::proofs::SheetLemmas::message_put, crate::proofs::TextLemmas::released_short, crate::proofs::TextLemmas::released_within))]
-fn release_user(alloc: Global, acse: u16) -> Result<Outgoing, AllocError>
-    ensures text { IfOk result (λ octets. octets ≡ user_text acse release_text) }
+fn rlre_user_data(alloc: Global, acse: u16) -> Result<Outgoing, AllocError>
+    ensures text { IfOk result (λ octets. octets ≡ user_text acse rlre_text) }
     ensures few { IfOk result (λ octets. length octets ≤ 41) }
 {
     let mut writer = Writer::new(alloc, 41)?;
-    put_user(&mut writer, acse, release());
+    put_user(&mut writer, acse, rlre_octets());
     Ok(writer.finish_untruncated())
 }
 
 /// Writes the DISCONNECT that answers a request for a release, with its RLRE.
 pub(crate) fn write_release_response(alloc: Global, acse: u16) -> Result<Vec<u8>, AllocError>
     ensures text { IfOk result
-        (λ octets. octets.items ≡ disconnect_text (user_text acse release_text)) }
+        (λ octets. octets.items ≡ disconnect_text (user_text acse rlre_text)) }
     ensures few { IfOk result (λ octets. length octets.items ≤ 100) }
 {
-    let user = release_user(alloc, acse)?;
-    disconnect(alloc, user.as_slice())
+    let user = rlre_user_data(alloc, acse)?;
+    write_disconnect(alloc, user.as_slice())
 }

@@ -5,13 +5,13 @@ use Rattle.std.proofs.lemmas.Bool.{and_parts}
 use Rattle.std.proofs.lemmas.Slice.Eq.{bytes_eq-Decides}
 use Rattle.bay_base.specs.declared.point.MeterField.{MeterField}
 use Rattle.bay_base.specs.declared.point.MeterField.TheVariants.{TotW, TotVAr, Hz, PhaseA, PhaseB, PhaseC}
-use Rattle.bay_nodes.specs.Names.{StatusNames, control_of, meter_names, node_of, position_names, switch_names}
+use Rattle.bay_nodes.specs.Names.{StatusNames, cswi_name, meter_names, switch_node, position_names, switch_names}
 use Rattle.bay_nodes.specs.Node.{node_name}
 use Rattle.bay_nodes.specs.declared.switch.Switch.{Switch}
 use Rattle.bay_process.specs.Names.{field_names}
-use Rattle.bay_process.specs.Values.{is_position, is_quality, rows_after_change, rows_after_contact, rows_after_doubt, has_position, has_invalid_measure, with_status}
+use Rattle.bay_process.specs.Values.{is_position, is_quality, rows_after_change, rows_after_contact, rows_after_bad_measure, has_position, has_invalid_measure, with_status}
 use Rattle.bay_process.proofs.ToldLemmas.{leaf-other, leaf-own}
-use Rattle.bay_tree.specs.Rows.{leaf_of, with_leaf_of}
+use Rattle.bay_tree.specs.Rows.{leaf_named, with_leaf_named}
 use Rattle.bay_base.specs.declared.position.Dbpos.TheVariants.{Intermediate, Off, On, Bad}
 use Rattle.bay_tree.specs.declared.leaf.Leaf.{Leaf}
 use Rattle.bay_tree.specs.declared.leaf.Leaf.TheVariants as leaf
@@ -74,11 +74,11 @@ other-end n m x y p q other e = other (sym p ∙ ap (ending 0) e ∙ q)
 
 -- what is written elsewhere, or is the same, leaves the value of a name
 kept-if : (b : Bool) (rows : List Row) (n m : List ℕ) (before value : Leaf) → bytes_eq n m ≡ b
-    → (n ≡ m → value ≡ before) → leaf_of n rows ≡ Some before
-    → leaf_of n (with_leaf_of m value rows) ≡ Some before
+    → (n ≡ m → value ≡ before) → leaf_named n rows ≡ Some before
+    → leaf_named n (with_leaf_named m value rows) ≡ Some before
 kept-if true rows n m before value test same is =
     let e : n ≡ m = (bytes_eq-Decides n m).0 test in
-    subst (λ k. leaf_of n (with_leaf_of k value rows) ≡ Some before) e
+    subst (λ k. leaf_named n (with_leaf_named k value rows) ≡ Some before) e
     (leaf-own rows n value (λ none. let no : Some before ≡ None = sym is ∙ none in cc)
     ∙ ap (λ (v : Leaf). let o : Option Leaf = Some v in o) (same e))
 kept-if false rows n m before value test same is =
@@ -86,16 +86,16 @@ kept-if false rows n m before value test same is =
     let no : false ≡ true = sym test ∙ yes in cc) ∙ is
 
 kept : (rows : List Row) (n m : List ℕ) (before value : Leaf) → (n ≡ m → value ≡ before)
-    → leaf_of n rows ≡ Some before → leaf_of n (with_leaf_of m value rows) ≡ Some before
+    → leaf_named n rows ≡ Some before → leaf_named n (with_leaf_named m value rows) ≡ Some before
 kept rows n m before value = kept-if (bytes_eq n m) rows n m before value refl
 
 -- a name that has a value goes on having one
 stands-if : (b : Bool) (rows : List Row) (n m : List ℕ) (value : Leaf) → bytes_eq n m ≡ b
-    → leaf_of n rows ≢ None → leaf_of n (with_leaf_of m value rows) ≢ None
+    → leaf_named n rows ≢ None → leaf_named n (with_leaf_named m value rows) ≢ None
 stands-if true rows n m value test there none =
     let e : n ≡ m = (bytes_eq-Decides n m).0 test in
-    let own : leaf_of n (with_leaf_of m value rows) ≡ Some value =
-    subst (λ k. leaf_of n (with_leaf_of k value rows) ≡ Some value) e
+    let own : leaf_named n (with_leaf_named m value rows) ≡ Some value =
+    subst (λ k. leaf_named n (with_leaf_named k value rows) ≡ Some value) e
     (leaf-own rows n value there) in
     let no : Some value ≡ None = sym own ∙ none in cc
 stands-if false rows n m value test there none =
@@ -103,8 +103,8 @@ stands-if false rows n m value test there none =
     (λ e. let yes : bytes_eq n m ≡ true = (bytes_eq-Decides n m).1 e in
     let no : false ≡ true = sym test ∙ yes in cc)) ∙ none)
 
-stands : (rows : List Row) (n m : List ℕ) (value : Leaf) → leaf_of n rows ≢ None
-    → leaf_of n (with_leaf_of m value rows) ≢ None
+stands : (rows : List Row) (n m : List ℕ) (value : Leaf) → leaf_named n rows ≢ None
+    → leaf_named n (with_leaf_named m value rows) ≢ None
 stands rows n m value = stands-if (bytes_eq n m) rows n m value refl
 
 -- ---- what a bad position and a doubt leave
@@ -131,7 +131,7 @@ lasts-quality n ends = record {
 
 module _ (n : List ℕ) (value : Leaf) (lasts : Lasts n value) where
   abbrev Holds : List Row → Type 0
-  Holds rows = leaf_of n rows ≡ Some value
+  Holds rows = leaf_named n rows ≡ Some value
 
   holds-if : (b : Bool) (x y : List Row) → Holds x → Holds y → Holds (cond b x y)
   holds-if true x y p q = p
@@ -150,11 +150,11 @@ module _ (n : List ℕ) (value : Leaf) (lasts : Lasts n value) where
   contact-holds switches j switch now rows is =
       let names = switch_names switches j switch in
       holds-if (has_position names.position Bad rows) rows (rows_after_change names Bad now rows) is
-      (status-holds names.control now _ (position-ends (control_of j))
-      (status-holds names.position now rows (position-ends (node_of switches j switch)) is))
+      (status-holds names.control now _ (position-ends (cswi_name j))
+      (status-holds names.position now rows (position-ends (switch_node switches j switch)) is))
 
   doubt-holds : (k : ℕ) (field : MeterField) (now : ℕ) (rows : List Row) → Holds rows
-      → Holds (rows_after_doubt (field_names field (meter_names k)) now rows)
+      → Holds (rows_after_bad_measure (field_names field (meter_names k)) now rows)
   doubt-holds k field now rows is =
       let names = field_names field (meter_names k) in
       let ends = field-ends k field in
@@ -167,8 +167,8 @@ module _ (n : List ℕ) (value : Leaf) (lasts : Lasts n value) where
 
 -- a position is bad, with an invalid quality
 pub record BadAt (node : List ℕ) (rows : List Row) : Type 0 where
-  pub value : leaf_of (position_names node).value rows ≡ Some (leaf.Dbpos Bad)
-  pub quality : leaf_of (position_names node).quality rows ≡ Some (leaf.Quality Invalid)
+  pub value : leaf_named (position_names node).value rows ≡ Some (leaf.Dbpos Bad)
+  pub quality : leaf_named (position_names node).quality rows ≡ Some (leaf.Quality Invalid)
 
 pub contact-bad : (node : List ℕ) (switches : List Switch) (j : ℕ) (switch : Switch) (now : ℕ)
     (rows : List Row) → BadAt node rows
@@ -182,7 +182,7 @@ contact-bad node switches j switch now rows is = record {
 
 pub doubt-bad : (node : List ℕ) (k : ℕ) (field : MeterField) (now : ℕ) (rows : List Row)
     → BadAt node rows
-    → BadAt node (rows_after_doubt (field_names field (meter_names k)) now rows)
+    → BadAt node (rows_after_bad_measure (field_names field (meter_names k)) now rows)
 doubt-bad node k field now rows is = record {
   value = doubt-holds _ _ (lasts-value _ (position-ends node).value) k field now rows is.value;
   quality = doubt-holds _ _ (lasts-quality _ (position-ends node).quality) k field now rows
@@ -223,11 +223,11 @@ invalid-quality (Some (leaf.Utc n)) h = absurd cc
 
 -- the rows of a position are there
 pub record AreThere (node : List ℕ) (rows : List Row) : Type 0 where
-  pub value : leaf_of (position_names node).value rows ≢ None
-  pub quality : leaf_of (position_names node).quality rows ≢ None
+  pub value : leaf_named (position_names node).value rows ≢ None
+  pub quality : leaf_named (position_names node).quality rows ≢ None
 
 pub written-there : (node : List ℕ) (name : List ℕ) (value : Leaf) (rows : List Row)
-    → AreThere node rows → AreThere node (with_leaf_of name value rows)
+    → AreThere node rows → AreThere node (with_leaf_named name value rows)
 written-there node name value rows there = record {
   value = stands rows _ name value there.value;
   quality = stands rows _ name value there.quality;
@@ -259,11 +259,11 @@ pub bad-if : (b : Bool) (node control : List ℕ) (now : ℕ) (rows : List Row)
     → BadAt node (cond b rows (with_status (position_names control) (leaf.Dbpos Bad) Invalid now
     (with_status (position_names node) (leaf.Dbpos Bad) Invalid now rows)))
 bad-if true node control now rows told there =
-    let both = and_parts (is_position Bad (leaf_of (position_names node).value rows))
-    (is_quality Invalid (leaf_of (position_names node).quality rows)) told in
+    let both = and_parts (is_position Bad (leaf_named (position_names node).value rows))
+    (is_quality Invalid (leaf_named (position_names node).quality rows)) told in
     record {
-      value = bad-position (leaf_of (position_names node).value rows) both.0;
-      quality = invalid-quality (leaf_of (position_names node).quality rows) both.1;
+      value = bad-position (leaf_named (position_names node).value rows) both.0;
+      quality = invalid-quality (leaf_named (position_names node).quality rows) both.1;
     }
 bad-if false node control now rows told there =
     let names = position_names node in

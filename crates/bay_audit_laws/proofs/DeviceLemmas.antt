@@ -3,17 +3,17 @@ use Rattle.std.proofs.Common.{◌≡◌, ℕ, ℤ, zero, suc, Bool, false, not, 
 use Rattle.std.proofs.lemmas.Bool.{or_parts, not-false}
 use Rattle.std.specs.Bool.{beq}
 use Rattle.bay_base.specs.declared.point.MeterField.{MeterField}
-use Rattle.bay_nodes.specs.Names.{interlocking_of, meter_names, switch_names}
+use Rattle.bay_nodes.specs.Names.{cilo_name, meter_names, switch_names}
 use Rattle.bay_nodes.specs.declared.switch.Switch.{Switch}
 use Rattle.bay_process.specs.Names.{field_names}
 use Rattle.bay_process.specs.Values.{rows_after_change, has_position as tells_position, has_invalid_measure, has_measure, with_status}
 use Rattle.bay_process.proofs.ToldLemmas.{Keeps, field-away, keeps-contact, keeps-doubt, keeps-measure}
-use Rattle.bay_tree.specs.Rows.{leaf_of, with_leaf_of}
+use Rattle.bay_tree.specs.Rows.{leaf_named, with_leaf_named}
 use Rattle.bay_base.specs.declared.position.Dbpos.{Dbpos}
 use Rattle.bay_tree.specs.declared.leaf.Leaf.TheVariants as leaf
 use Rattle.bay_tree.specs.declared.leaf.Quality.TheVariants.{Good, Invalid}
 use Rattle.bay_device.specs.Device.{State, device_after_contact, device_at, device_after_bad_measure, device_after_input, device_after_loss, device_after_measure}
-use Rattle.bay_device.specs.Outcomes.{contact_outcome, doubt_outcome, event_outcome, input_outcome, measure_outcome}
+use Rattle.bay_device.specs.Outcomes.{contact_outcome, bad_measure_outcome, event_outcome, input_outcome, measure_outcome}
 use Rattle.bay_device.specs.declared.event.Event.{Event}
 use Rattle.bay_device.specs.declared.event.Event.TheVariants.{Open, Recv, Close, Contact, Input, Measure, BadMeasure, Lost, Scan}
 use Rattle.bay_device.proofs.FreshLemmas.{same-truth, still-lost}
@@ -52,7 +52,7 @@ quiet-same s t same =
       stale = λ h. sym (ap (λ (p : Parts). p.stale) same) ∙ h;
       rows = λ h. rows;
       inputs = λ h. ap (λ (p : Parts). p.inputs) same;
-      keeps = λ k x. ap (leaf_of (interlocking_of k ++ x)) rows;
+      keeps = λ k x. ap (leaf_named (cilo_name k ++ x)) rows;
       fits = λ count all. subst (AllFit count) (sym rows) all;
     }
 
@@ -138,8 +138,8 @@ quiet-doubt now k field s =
       scans = refl;
       stale = λ h. (or_parts s.is_stale (not told) h).0;
       rows = λ h. ap (λ (b : Bool). cond b s.rows
-          (with_leaf_of names.time (leaf.Utc now)
-          (with_leaf_of names.quality (leaf.Quality Invalid) s.rows)))
+          (with_leaf_named names.time (leaf.Utc now)
+          (with_leaf_named names.quality (leaf.Quality Invalid) s.rows)))
           (not-false told (or_parts s.is_stale (not told) h).1);
       inputs = λ h. refl;
       keeps = keeps-doubt names now s.rows (field-away k field);
@@ -203,7 +203,7 @@ module _ (now : ℕ) (s : State) where
       quiet-behind now s _ (quiet-measure now k field value (device_at now s) typed)
 
   quiet-doubt-of : (k : ℕ) (field : MeterField) (o : Option (List ℕ))
-      → Quiet s (doubt_outcome now k field s o).after
+      → Quiet s (bad_measure_outcome now k field s o).after
   quiet-doubt-of k field None = quiet-same s s refl
   quiet-doubt-of k field (Some id) =
       quiet-behind now s _ (quiet-doubt now k field (device_at now s))

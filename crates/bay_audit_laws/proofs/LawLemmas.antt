@@ -21,7 +21,7 @@ use Rattle.bay_audit_rules.specs.declared.rule.RuleKind.TheVariants.{Never}
 use Rattle.bay_mms_services.specs.Controls.{dbpos_of}
 use Rattle.bay_mms_services.specs.Released.{enable_name}
 use Rattle.bay_mms_services.specs.declared.answer.Command.{Command}
-use Rattle.bay_tree.specs.Rows.{leaf_of}
+use Rattle.bay_tree.specs.Rows.{leaf_named}
 use Rattle.bay_tree.specs.declared.leaf.Leaf.TheVariants as leaf
 use Rattle.bay_tree.specs.declared.row.Row.{Row}
 use Rattle.il_image.specs.Images.{Image}
@@ -33,7 +33,7 @@ use Rattle.bay_device.specs.Commands.{AreCommanded, IsReleasedAt}
 use Rattle.bay_device.specs.Device.{State, after_scan, device_at, inputs_of, is_recent}
 use Rattle.bay_device.specs.Load.{initial_device}
 use Rattle.bay_device.specs.Meaning.{Halts, HaltsAt}
-use Rattle.bay_device.specs.Outcomes.{event_outcome, last_moment, refusal_of}
+use Rattle.bay_device.specs.Outcomes.{event_outcome, last_moment, refusal_outcome}
 use Rattle.bay_device.specs.Steps.{EachStep, Steps}
 use Rattle.bay_device.specs.declared.event.Event.{Event}
 use Rattle.bay_device.specs.declared.event.Event.TheVariants.{Open, Recv, Close, Contact, Input, Measure, BadMeasure, Lost, Scan}
@@ -128,10 +128,10 @@ turned-event choice now Lost s answer new typed left halts =
 turned-if : (b c : Bool) (choice : Option ℕ) (now : ℕ) (event : Event) (s : State)
     (answer : Result Step StepFault) (new : State) → nat_lt last_moment now ≡ b
     → nat_lt now s.moment ≡ c → IsOfType event
-    → answer ≡ (cond b (refusal_of MomentTooLarge s)
-    (cond c (refusal_of TimeWentBack s) (event_outcome choice now event s))).answer
-    → new ≡ (cond b (refusal_of MomentTooLarge s)
-    (cond c (refusal_of TimeWentBack s) (event_outcome choice now event s))).after
+    → answer ≡ (cond b (refusal_outcome MomentTooLarge s)
+    (cond c (refusal_outcome TimeWentBack s) (event_outcome choice now event s))).answer
+    → new ≡ (cond b (refusal_outcome MomentTooLarge s)
+    (cond c (refusal_outcome TimeWentBack s) (event_outcome choice now event s))).after
     → HaltsAt now event s answer new → Turned now event s answer new
 turned-if true c choice now event s answer new late early typed answered left halts =
     inl (MomentTooLarge, answered, left)
@@ -222,7 +222,7 @@ process-same s t q fresh =
 pub released-same : (s t : State) (k : ℕ) (operation : Operation) → Quiet s t
     → t.is_stale ≡ false → is_released t k operation ≡ is_released s k operation
 released-same s t k operation q fresh =
-    ap (λ rows. is_truth true (leaf_of (enable_name k operation) rows)) (q.rows fresh)
+    ap (λ rows. is_truth true (leaf_named (enable_name k operation) rows)) (q.rows fresh)
 
 both-kept : (s t : State) (count : ℕ) → Keeps s.rows t.rows → AllBoth s.rows count
     → AllBoth t.rows count

@@ -6,7 +6,7 @@ use Rattle.bay_base.specs.declared.point.Source.{Source}
 use Rattle.bay_config.specs.Laws.{IsBay}
 use Rattle.bay_config.specs.declared.bay.Bay.{Bay}
 use Rattle.bay_config.proofs.NamedLemmas.{names-position}
-use Rattle.bay_nodes.specs.Names.{StatusNames, control_of, interlocking_of, meter_names, node_of, position_names, switch_names}
+use Rattle.bay_nodes.specs.Names.{StatusNames, cswi_name, cilo_name, meter_names, switch_node, position_names, switch_names}
 use Rattle.bay_nodes.specs.Node.{class_of, node_name, node_number}
 use Rattle.bay_nodes.specs.declared.switch.Switch.{Switch}
 use Rattle.bay_base.specs.declared.switch.SwitchKind.{SwitchKind}
@@ -15,7 +15,7 @@ use Rattle.bay_process.specs.Names.{field_names}
 use Rattle.bay_process.specs.Values.{position_leaf, position_value, has_position, with_enabled, with_outputs, with_status}
 use Rattle.bay_process.proofs.ToldLemmas.{IsAway, away-position, leaf-other}
 use Rattle.bay_mms_services.specs.Bay.{rows_with_selection}
-use Rattle.bay_tree.specs.Rows.{leaf_of, with_leaf_of}
+use Rattle.bay_tree.specs.Rows.{leaf_named, with_leaf_named}
 use Rattle.bay_base.specs.declared.position.Dbpos.{Dbpos}
 use Rattle.bay_base.specs.declared.position.Dbpos.TheVariants.{Bad}
 use Rattle.bay_tree.specs.declared.leaf.Leaf.{Leaf}
@@ -26,9 +26,9 @@ use Rattle.il_image.specs.Images.{Image}
 use Rattle.il_image.specs.declared.value.Value.{Value}
 use Rattle.il_image.specs.declared.value.Value.TheVariants.{Truth}
 use Rattle.bay_device.specs.Device.{State, device_after_contact, device_at, inputs_lost, device_after_loss, positions_lost}
-use Rattle.bay_device.specs.Fresh.{Past}
+use Rattle.bay_device.specs.Fresh.{PastEvent}
 use Rattle.bay_device.specs.Load.{initial_device}
-use Rattle.bay_device.specs.Outcomes.{Outcome, contact_outcome, doubt_outcome, event_outcome, input_outcome, last_moment, measure_outcome, outcome, refusal_of}
+use Rattle.bay_device.specs.Outcomes.{Outcome, contact_outcome, bad_measure_outcome, event_outcome, input_outcome, last_moment, measure_outcome, outcome, refusal_outcome}
 use Rattle.bay_device.specs.Steps.{Steps}
 use Rattle.bay_device.specs.declared.event.Event.{Event}
 use Rattle.bay_device.specs.declared.event.Event.TheVariants.{Open, Recv, Close, Contact, Input, Measure, BadMeasure, Lost, Scan}
@@ -49,32 +49,32 @@ use Rattle.bay_audit_laws.proofs.WrittenLemmas.{contact-passes, doubt-passes, me
 -- the positions of all switches are there
 abbrev HavePositions : List Switch → List Row → Type 0
 HavePositions switches rows = (k : ℕ) (switch : Switch) → slice_get switches k ≡ Some switch
-    → AreThere (node_of switches k switch) rows
+    → AreThere (switch_node switches k switch) rows
 
 written-have : (switches : List Switch) (name : List ℕ) (value : Leaf) (rows : List Row)
-    → HavePositions switches rows → HavePositions switches (with_leaf_of name value rows)
+    → HavePositions switches rows → HavePositions switches (with_leaf_named name value rows)
 written-have switches name value rows have k switch here =
-    written-there (node_of switches k switch) name value rows (have k switch here)
+    written-there (switch_node switches k switch) name value rows (have k switch here)
 
 lost-bad : (now : ℕ) (ss : List Switch) (k : ℕ) (s : State) (j i : ℕ) (switch : Switch)
     → slice_get ss j ≡ Some switch → k + j ≡ i
-    → AreThere (node_of s.switches i switch) s.rows
-    → BadAt (node_of s.switches i switch) (positions_lost now k ss s).rows
+    → AreThere (switch_node s.switches i switch) s.rows
+    → BadAt (switch_node s.switches i switch) (positions_lost now k ss s).rows
 lost-bad now [] k s j i switch here at there = absurd cc
 lost-bad now (x ∷ ss) k s zero i switch here at there =
     let first : k ≡ i = omega (arith, at) in
     let same : x ≡ switch = cc in
-    let node = node_of s.switches i switch in
-    let there-own : AreThere (node_of s.switches k x) s.rows =
-    subst (λ m. AreThere (node_of s.switches m x) s.rows) (sym first)
-    (subst (λ (y : Switch). AreThere (node_of s.switches i y) s.rows) (sym same) there) in
-    let own : BadAt (node_of s.switches k x) (device_after_contact now k x Bad s).rows =
-    bad-if (has_position (position_names (node_of s.switches k x)) Bad s.rows)
-    (node_of s.switches k x) (control_of k) now s.rows refl there-own in
+    let node = switch_node s.switches i switch in
+    let there-own : AreThere (switch_node s.switches k x) s.rows =
+    subst (λ m. AreThere (switch_node s.switches m x) s.rows) (sym first)
+    (subst (λ (y : Switch). AreThere (switch_node s.switches i y) s.rows) (sym same) there) in
+    let own : BadAt (switch_node s.switches k x) (device_after_contact now k x Bad s).rows =
+    bad-if (has_position (position_names (switch_node s.switches k x)) Bad s.rows)
+    (switch_node s.switches k x) (cswi_name k) now s.rows refl there-own in
     let bad : BadAt node (device_after_contact now k x Bad s).rows =
-    subst (λ (y : Switch). BadAt (node_of s.switches i y) (device_after_contact now k x Bad s).rows)
+    subst (λ (y : Switch). BadAt (switch_node s.switches i y) (device_after_contact now k x Bad s).rows)
     same
-    (subst (λ m. BadAt (node_of s.switches m x) (device_after_contact now k x Bad s).rows) first
+    (subst (λ m. BadAt (switch_node s.switches m x) (device_after_contact now k x Bad s).rows) first
     own) in
     positions-pass (λ t. BadAt node t.rows) now
     (λ m y t p. contact-bad node t.switches m y now t.rows p)
@@ -84,8 +84,8 @@ lost-bad now (x ∷ ss) k s zero i switch here at there =
 lost-bad now (x ∷ ss) k s (suc j) i switch here at there =
     let next : k + 1 + j ≡ i = omega (arith, at) in
     lost-bad now ss (k + 1) (device_after_contact now k x Bad s) j i switch here next
-    (contact-passes (AreThere (node_of s.switches i switch))
-    (written-there (node_of s.switches i switch)) (switch_names s.switches k x) Bad now s.rows
+    (contact-passes (AreThere (switch_node s.switches i switch))
+    (written-there (switch_node s.switches i switch)) (switch_names s.switches k x) Bad now s.rows
     there)
 
 -- what a program reads of the process
@@ -101,7 +101,7 @@ seen_of s =
 
 record Blind (switches : List Switch) (rows : List Row) (inputs : List Bool) : Type 0 where
   positions : (k : ℕ) (switch : Switch) → slice_get switches k ≡ Some switch
-      → BadAt (node_of switches k switch) rows
+      → BadAt (switch_node switches k switch) rows
   all_false : (k : ℕ) → unwrap_or (slice_get inputs k) false ≡ false
 
 -- the positions are there, and while the process is lost nothing is believed
@@ -122,7 +122,7 @@ module _ (now : ℕ) (s : State) (have : HavePositions s.switches s.rows) where
       let t : State = inputs_lost (positions_lost now 0 s.switches s) in
       record {
         positions = λ k switch here.
-            let node = node_of s.switches k switch in
+            let node = switch_node s.switches k switch in
             let none : 0 + k ≡ k = omega arith in
             measures-pass (λ u. BadAt node u.rows) now
             (λ m y u p. contact-bad node u.switches m y now u.rows p)
@@ -159,30 +159,30 @@ module _ (now : ℕ) (s : State) (have : HavePositions s.switches s.rows) where
 enabled-away : (n : List ℕ) (k : ℕ) (value quality time : List ℕ) (b : Bool) (now : ℕ)
     (rows : List Row) → IsAway n
     → let names : StatusNames = record {
-      value = interlocking_of k ++ value;
-      quality = interlocking_of k ++ quality;
-      time = interlocking_of k ++ time;
-    } in leaf_of n (with_enabled names b now rows) ≡ leaf_of n rows
+      value = cilo_name k ++ value;
+      quality = cilo_name k ++ quality;
+      time = cilo_name k ++ time;
+    } in leaf_named n (with_enabled names b now rows) ≡ leaf_named n rows
 enabled-away n k value quality time b now rows away =
     let names : StatusNames = record {
-      value = interlocking_of k ++ value;
-      quality = interlocking_of k ++ quality;
-      time = interlocking_of k ++ time;
+      value = cilo_name k ++ value;
+      quality = cilo_name k ++ quality;
+      time = cilo_name k ++ time;
     } in
-    let changed : leaf_of n (with_status names (leaf.Truth b) Good now rows) ≡ leaf_of n rows =
+    let changed : leaf_named n (with_status names (leaf.Truth b) Good now rows) ≡ leaf_named n rows =
     leaf-other _ n names.time (leaf.Utc now) (λ e. away k time (sym e))
     ∙ leaf-other _ n names.quality (leaf.Quality Good) (λ e. away k quality (sym e))
     ∙ leaf-other rows n names.value (leaf.Truth b) (λ e. away k value (sym e)) in
     either-leaf _ rows (with_status names (leaf.Truth b) Good now rows) refl changed
   where
-    either-leaf : (c : Bool) (x y : List Row) → leaf_of n x ≡ leaf_of n rows
-        → leaf_of n y ≡ leaf_of n rows → leaf_of n (cond c x y) ≡ leaf_of n rows
+    either-leaf : (c : Bool) (x y : List Row) → leaf_named n x ≡ leaf_named n rows
+        → leaf_named n y ≡ leaf_named n rows → leaf_named n (cond c x y) ≡ leaf_named n rows
     either-leaf true x y p q = p
     either-leaf false x y p q = q
 
 outputs-away : (n : List ℕ) → IsAway n → (switches : List Switch) (writes : List Source)
     (outputs : List Value) (now k : ℕ) (ss : List Switch) (rows : List Row)
-    → leaf_of n (with_outputs switches writes outputs now k ss rows) ≡ leaf_of n rows
+    → leaf_named n (with_outputs switches writes outputs now k ss rows) ≡ leaf_named n rows
 outputs-away n away switches writes outputs now k [] rows = refl
 outputs-away n away switches writes outputs now k (s ∷ ss) rows =
     outputs-away n away switches writes outputs now (k + 1) ss _
@@ -190,10 +190,10 @@ outputs-away n away switches writes outputs now k (s ∷ ss) rows =
 
 outputs-bad : (switches : List Switch) (j : ℕ) (switch : Switch) (writes : List Source)
     (outputs : List Value) (now : ℕ) (rows : List Row)
-    → BadAt (node_of switches j switch) rows
-    → BadAt (node_of switches j switch) (with_outputs switches writes outputs now 0 switches rows)
+    → BadAt (switch_node switches j switch) rows
+    → BadAt (switch_node switches j switch) (with_outputs switches writes outputs now 0 switches rows)
 outputs-bad switches j switch writes outputs now rows is =
-    let away : (t : List ℕ) → IsAway (node_of switches j switch ++ t) =
+    let away : (t : List ℕ) → IsAway (switch_node switches j switch ++ t) =
     away-position switch.kind (node_number switches switch j) in
     record {
       value =
@@ -265,7 +265,7 @@ module _ (now : ℕ) (s : State) (w : Wary s) where
       (field_names field (meter_names k)) value now s.rows w.have)
 
   wary-doubt : (k : ℕ) (field : MeterField) (o : Option (List ℕ))
-      → Wary (doubt_outcome now k field s o).after
+      → Wary (bad_measure_outcome now k field s o).after
   wary-doubt k field None = w
   wary-doubt k field (Some id) =
       believed _ s.input_values
@@ -291,8 +291,8 @@ module _ (now : ℕ) (s : State) (w : Wary s) where
   wary-event choice Scan = wary-scan s.switches s.input_values s.is_lost s.writes _ now s.rows w
 
   wary-if : (late early : Bool) (o : Outcome) → Wary o.after
-      → Wary (cond late (refusal_of MomentTooLarge s)
-      (cond early (refusal_of TimeWentBack s) o)).after
+      → Wary (cond late (refusal_outcome MomentTooLarge s)
+      (cond early (refusal_outcome TimeWentBack s) o)).after
   wary-if true early o p = w
   wary-if false true o p = w
   wary-if false false o p = p
@@ -315,8 +315,8 @@ node-apart Earthing n j s t e = let first : 88 ≡ 67 = ap (λ l. get_or l 0 0) 
     omega (arith, first)
 
 shown-there : (count : ℕ) (kind : SwitchKind) (number : ℕ) (t : List ℕ) (rows : List Row)
-    → leaf_of (node_name (class_of kind) number ++ t) (rows_with_selection None count rows)
-    ≡ leaf_of (node_name (class_of kind) number ++ t) rows
+    → leaf_named (node_name (class_of kind) number ++ t) (rows_with_selection None count rows)
+    ≡ leaf_named (node_name (class_of kind) number ++ t) rows
 shown-there zero kind number t rows = refl
 shown-there (suc count) kind number t rows =
     leaf-other (rows_with_selection None count rows) _ _ _ (node-apart kind number (count + 1) t _)
@@ -327,7 +327,7 @@ first-have : (bay : Bay) → IsBay bay
 first-have bay is_bay k switch here =
     let number = node_number bay.switches switch k in
     let has =
-    ((names-position bay k switch (node_of bay.switches k switch) here refl).rows is_bay).position
+    ((names-position bay k switch (switch_node bay.switches k switch) here refl).rows is_bay).position
     in
     record {
       value = λ none. contains-leaf bay.rows _ _ is_bay.tree has.value_there
@@ -341,11 +341,11 @@ first-wary bay image is_bay =
     record { have = first-have bay is_bay; blind = λ lost. absurd cc }
 
 -- what is so of a device that came so far
-record Goes (past : List Past) (s : State) : Type 0 where
+record Goes (past : List PastEvent) (s : State) : Type 0 where
   wary : Wary s
   tracks : Tracks past s
 
-goes-on : (p : Past) (past : List Past) (before : State) → Goes past before
+goes-on : (p : PastEvent) (past : List PastEvent) (before : State) → Goes past before
     → Steps p.now p.event before p.answer p.after → Goes (p ∷ past) p.after
 goes-on p past before goes steps =
     let o : Outcome = outcome steps.choice p.now p.event before in
@@ -365,7 +365,7 @@ goes-on p past before goes steps =
           (sym steps.left) answered;
     }
 
-goes : (bay : Bay) (image : Image) → IsBay bay → (past : List Past) (s : State)
+goes : (bay : Bay) (image : Image) → IsBay bay → (past : List PastEvent) (s : State)
     → IsRunFrom (initial_device bay image) past s → Goes past s
 goes bay image is_bay [] s came = record {
   wary = subst Wary (sym came) (first-wary bay image is_bay);

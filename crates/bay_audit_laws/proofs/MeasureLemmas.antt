@@ -13,9 +13,9 @@ use Rattle.bay_nodes.specs.declared.switch.Switch.{Switch}
 use Rattle.bay_base.specs.declared.switch.SwitchKind.{SwitchKind}
 use Rattle.bay_base.specs.declared.switch.SwitchKind.TheVariants.{Breaker, Disconnector, Earthing}
 use Rattle.bay_process.specs.Names.{field_names}
-use Rattle.bay_process.specs.Values.{is_operation, measure_leaf, number_of_leaf, operation_counted, position_quality, rows_after_change, rows_after_contact, rows_after_doubt, rows_after_measure, has_position, has_invalid_measure, has_measure, with_count, with_status}
+use Rattle.bay_process.specs.Values.{is_operation, measure_leaf, number_of_leaf, rows_after_operation, position_quality, rows_after_change, rows_after_contact, rows_after_bad_measure, rows_after_measure, has_position, has_invalid_measure, has_measure, with_count, with_status}
 use Rattle.bay_process.proofs.ToldLemmas.{leaf-other}
-use Rattle.bay_tree.specs.Rows.{leaf_of, with_leaf_of}
+use Rattle.bay_tree.specs.Rows.{leaf_named, with_leaf_named}
 use Rattle.bay_base.specs.declared.position.Dbpos.{Dbpos}
 use Rattle.bay_base.specs.declared.position.Dbpos.TheVariants.{Bad}
 use Rattle.bay_tree.specs.declared.leaf.Leaf.{Leaf}
@@ -62,18 +62,18 @@ own-if true r rest name value here fits below = rw here fits
 own-if false r rest name value here fits below = rw here below
 
 own-fits : (rows : List Row) (name : List ℕ) (value : Leaf) → Fits (Some value)
-    → Fits (leaf_of name (with_leaf_of name value rows))
+    → Fits (leaf_named name (with_leaf_named name value rows))
 own-fits [] name value fits = tt
 own-fits (r ∷ rows) name value fits =
     own-if (bytes_eq r.name name) r
-    (find (λ q. bytes_eq q.name name) (with_leaf_of name value rows)) name value refl fits
+    (find (λ q. bytes_eq q.name name) (with_leaf_named name value rows)) name value refl fits
     (own-fits rows name value fits)
 
 written-if : (b : Bool) (rows : List Row) (name other : List ℕ) (value : Leaf)
-    → bytes_eq name other ≡ b → Fits (Some value) → Fits (leaf_of name rows)
-    → Fits (leaf_of name (with_leaf_of other value rows))
+    → bytes_eq name other ≡ b → Fits (Some value) → Fits (leaf_named name rows)
+    → Fits (leaf_named name (with_leaf_named other value rows))
 written-if true rows name other value same fits before =
-    subst (λ n. Fits (leaf_of name (with_leaf_of n value rows)))
+    subst (λ n. Fits (leaf_named name (with_leaf_named n value rows)))
     ((bytes_eq-Decides name other).0 same) (own-fits rows name value fits)
 written-if false rows name other value same fits before =
     subst Fits
@@ -82,7 +82,7 @@ written-if false rows name other value same fits before =
     let f : false ≡ true = sym same ∙ yes_same in cc))) before
 
 written-fits : (rows : List Row) (name other : List ℕ) (value : Leaf) → Fits (Some value)
-    → Fits (leaf_of name rows) → Fits (leaf_of name (with_leaf_of other value rows))
+    → Fits (leaf_named name rows) → Fits (leaf_named name (with_leaf_named other value rows))
 written-fits rows name other value fits before =
     written-if (bytes_eq name other) rows name other value refl fits before
 
@@ -91,7 +91,7 @@ written-fits rows name other value fits before =
 -- the measured values of so many meters have 32 bits
 abbrev pub AllFit : ℕ → List Row → Type 0
 AllFit count rows = (k : ℕ) (field : MeterField) → k < count
-    → Fits (leaf_of (field_names field (meter_names k)).value rows)
+    → Fits (leaf_named (field_names field (meter_names k)).value rows)
 
 module _ (count : ℕ) where
   if-fits : (b : Bool) (x y : List Row) → AllFit count x → AllFit count y
@@ -165,9 +165,9 @@ module _ (count : ℕ) where
       if-fits (has_position names.position position rows) rows
       (rows_after_change names position now rows)
       all
-      (if-fits (is_operation position (leaf_of names.position.value rows))
-      (operation_counted names.operations now after) after
-      (counted-fits names.operations (leaf_of names.operations.value after) now after
+      (if-fits (is_operation position (leaf_named names.position.value rows))
+      (rows_after_operation names.operations now after) after
+      (counted-fits names.operations (leaf_named names.operations.value after) now after
       (apart-count switches j switch) both) both)
 
   pub measure-fits : (names : StatusNames) (value : ℤ) (now : ℕ) (rows : List Row) → Has32Bits value
@@ -177,7 +177,7 @@ module _ (count : ℕ) where
       (status-fits names (leaf.Int32 value) Good now rows fits all)
 
   pub doubt-fits : (names : StatusNames) (now : ℕ) (rows : List Row) → AllFit count rows
-      → AllFit count (rows_after_doubt names now rows)
+      → AllFit count (rows_after_bad_measure names now rows)
   doubt-fits names now rows all =
       if-fits (has_invalid_measure names rows) rows _ all
       (λ k field lt. written-fits _ _ names.time (leaf.Utc now) tt
@@ -197,5 +197,5 @@ pub leaf-number : (meters : List (List ℕ)) (rows : List Row) → AllFit (lengt
     → Has32Bits (number_of_leaf (measure_leaf rows k field o))
 leaf-number meters rows all k field None here = zero-fits
 leaf-number meters rows all k field (Some id) here =
-    fits-number (leaf_of (field_names field (meter_names k)).value rows)
+    fits-number (leaf_named (field_names field (meter_names k)).value rows)
     (all k field (slice_get_within meters k id here))

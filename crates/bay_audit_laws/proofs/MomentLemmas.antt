@@ -4,10 +4,10 @@ use Rattle.std.specs.Prelude.{ℤ, slice_get}
 use Rattle.bay_base.specs.declared.position.Dbpos.{Dbpos}
 use Rattle.bay_base.specs.declared.point.MeterField.{MeterField}
 use Rattle.bay_nodes.specs.declared.switch.Switch.{Switch}
-use Rattle.bay_connection.specs.ConnectionStates.{ConnectionState, Indication, answers, connection_after, ends, fails, indications, releases, tells}
+use Rattle.bay_connection.specs.ConnectionStates.{ConnectionState, Indication, answers, connection_after, ends, fails, indications, releases, delivers}
 use Rattle.bay_device.specs.Device.{State, device_at}
-use Rattle.bay_device.specs.Outcomes.{Outcome, close_outcome, connection_at, contact_outcome, doubt_outcome, event_outcome, initial_connection, input_outcome, last_moment, lost_outcome, measure_outcome, nothing_done, open_outcome, slot_of, recv_after, recv_outcome, refusal_of, with_connection, without_owner}
-use Rattle.bay_device.specs.Receiving.{Done, ReceiveResult, after_indications, after_pdu, on_indication, with_sent}
+use Rattle.bay_device.specs.Outcomes.{Outcome, close_outcome, connection_at, contact_outcome, bad_measure_outcome, event_outcome, initial_connection, input_outcome, last_moment, lost_outcome, measure_outcome, step_start, open_outcome, slot_of, recv_after, recv_outcome, refusal_outcome, with_connection, without_owner}
+use Rattle.bay_device.specs.Receiving.{StepState, ReceiveResult, after_indications, after_pdu, on_indication, with_sent}
 use Rattle.bay_device.specs.Steps.{Steps}
 use Rattle.bay_device.specs.declared.event.Event.{Event}
 use Rattle.bay_device.specs.declared.event.Event.TheVariants.{BadMeasure, Close, Contact, Input, Lost, Measure, Open, Recv, Scan}
@@ -19,16 +19,16 @@ use Rattle.bay_device.proofs.LostLemmas.{Fixed, lost-fixed}
 
 -- ---- octets
 
-said-moment : (now a : ℕ) (i : Indication) (d : Done) (later : Done → ReceiveResult)
-    → ((e : Done) → (later e).done.state.moment ≡ e.state.moment)
+said-moment : (now a : ℕ) (i : Indication) (d : StepState) (later : StepState → ReceiveResult)
+    → ((e : StepState) → (later e).done.state.moment ≡ e.state.moment)
     → (on_indication now a i d later).done.state.moment ≡ d.state.moment
 said-moment now a (answers octets) d later h = h (with_sent a octets d)
-said-moment now a (tells terms pdu) d later h = h (after_pdu now a terms pdu d)
+said-moment now a (delivers terms pdu) d later h = h (after_pdu now a terms pdu d)
 said-moment now a (releases octets) d later h = refl
 said-moment now a ends d later h = refl
 said-moment now a (fails code) d later h = refl
 
-heard-moment : (choice : Option ℕ) (now a : ℕ) (is : List Indication) (d : Done)
+heard-moment : (choice : Option ℕ) (now a : ℕ) (is : List Indication) (d : StepState)
     → (after_indications choice now a is d).done.state.moment ≡ d.state.moment
 heard-moment None now a [] d = refl
 heard-moment None now a (i ∷ is) d =
@@ -71,7 +71,7 @@ module _ (m now : ℕ) (s : State) (before : m ≤ s.moment) (by : m ≤ now) wh
   recv-behind choice a octets None = before
   recv-behind choice a [] (Some talk) = by
   recv-behind choice a (octet ∷ octets) (Some talk) =
-      let d = nothing_done (device_at now s) in
+      let d = step_start (device_at now s) in
       let x = after_indications choice now a (indications talk (octet ∷ octets)) d in
       let heard = heard-moment choice now a (indications talk (octet ∷ octets)) d in
       let after =
@@ -94,7 +94,7 @@ module _ (m now : ℕ) (s : State) (before : m ≤ s.moment) (by : m ≤ now) wh
   measure-behind k field value (Some id) = by
 
   doubt-behind : (k : ℕ) (field : MeterField) (id : Option (List ℕ))
-      → m ≤ (doubt_outcome now k field s id).after.moment
+      → m ≤ (bad_measure_outcome now k field s id).after.moment
   doubt-behind k field None = before
   doubt-behind k field (Some id) = by
 
@@ -121,7 +121,7 @@ module _ (m now : ℕ) (s : State) (before : m ≤ s.moment) (by : m ≤ now) wh
 
 abbrev choose : Bool → Bool → State → Outcome → Outcome
 choose late early s o =
-    cond late (refusal_of MomentTooLarge s) (cond early (refusal_of TimeWentBack s) o)
+    cond late (refusal_outcome MomentTooLarge s) (cond early (refusal_outcome TimeWentBack s) o)
 
 behind-if : (late early : Bool) (m now : ℕ) (s : State) (o : Outcome)
     → nat_lt now s.moment ≡ early → m ≤ s.moment → (s.moment ≤ now → m ≤ o.after.moment)

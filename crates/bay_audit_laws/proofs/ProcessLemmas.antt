@@ -15,7 +15,7 @@ use Rattle.bay_process.proofs.ToldLemmas.{IsAway, away-position, field-away}
 use Rattle.bay_base.specs.declared.position.Dbpos.{Dbpos}
 use Rattle.bay_audit_rules.specs.Process.{Process}
 use Rattle.bay_mms_services.specs.Controls.{dbpos_of}
-use Rattle.bay_tree.specs.Rows.{leaf_of}
+use Rattle.bay_tree.specs.Rows.{leaf_named}
 use Rattle.bay_tree.specs.declared.leaf.Leaf.{Leaf}
 use Rattle.bay_tree.specs.declared.leaf.Leaf.TheVariants as leaf
 use Rattle.il_image.specs.declared.value.Value.{Value}
@@ -98,9 +98,9 @@ module _ (s t : State) (writes : List Source) (outputs : List Value) (now : ℕ)
     (rows : t.rows ≡ with_outputs s.switches writes outputs now 0 s.switches s.rows)
     (switches : t.switches ≡ s.switches) (inputs : t.input_values ≡ s.input_values)
     (meters : t.meters ≡ s.meters) where
-  name-kept : (name : List ℕ) → IsAway name → leaf_of name t.rows ≡ leaf_of name s.rows
+  name-kept : (name : List ℕ) → IsAway name → leaf_named name t.rows ≡ leaf_named name s.rows
   name-kept name away =
-      ap (leaf_of name) rows ∙ away-outputs name away s.switches writes outputs now 0 s.switches
+      ap (leaf_named name) rows ∙ away-outputs name away s.switches writes outputs now 0 s.switches
       s.rows
 
   position-kept : (k : ℕ) (o : Option Switch)

@@ -4,13 +4,13 @@ use Rattle.std.proofs.lemmas.Bool.Decides.{nat_tests}
 use Rattle.std.proofs.lemmas.List.{append_cancel_left}
 use Rattle.bay_base.specs.declared.point.Source.{Source}
 use Rattle.bay_base.specs.declared.point.SwitchPoint.TheVariants.{EnableOpen, EnableClose}
-use Rattle.bay_nodes.specs.Names.{StatusNames, closing_of, interlocking_of, opening_of, switch_names}
+use Rattle.bay_nodes.specs.Names.{StatusNames, closing_names_at, cilo_name, opening_names_at, switch_names}
 use Rattle.bay_nodes.specs.declared.switch.Switch.{Switch}
 use Rattle.bay_process.specs.ReportedRows.{AreValued, HoldsRelease}
 use Rattle.bay_process.specs.Values.{output_of, with_enabled, with_output, with_outputs, with_status}
-use Rattle.bay_process.specs.declared.switch.Enabled.{Enabled}
+use Rattle.bay_process.specs.declared.switch.SwitchEnables.{SwitchEnables}
 use Rattle.bay_process.proofs.ToldLemmas.{IsAway, leaf-other, same-node, stands-valued, told-here}
-use Rattle.bay_tree.specs.Rows.{leaf_of}
+use Rattle.bay_tree.specs.Rows.{leaf_named}
 use Rattle.bay_tree.specs.declared.leaf.Leaf.TheVariants as leaf
 use Rattle.bay_tree.specs.declared.leaf.Quality.TheVariants.{Good}
 use Rattle.bay_tree.specs.declared.row.Row.{Row}
@@ -26,8 +26,8 @@ record IsApart (name : List ℕ) (names : StatusNames) : Type 0 where
 
 apart-if : (t : Bool) (name : List ℕ) (names : StatusNames) (b : Bool) (now : ℕ) (rows : List Row)
     → IsApart name names
-    → leaf_of name (cond t rows (with_status names (leaf.Truth b) Good now rows))
-    ≡ leaf_of name rows
+    → leaf_named name (cond t rows (with_status names (leaf.Truth b) Good now rows))
+    ≡ leaf_named name rows
 apart-if true name names b now rows apart = refl
 apart-if false name names b now rows apart =
     leaf-other _ name names.time _ apart.time_apart
@@ -35,12 +35,12 @@ apart-if false name names b now rows apart =
     ∙ leaf-other rows name names.value _ apart.value_apart
 
 apart-enabled : (name : List ℕ) (names : StatusNames) (b : Bool) (now : ℕ) (rows : List Row)
-    → IsApart name names → leaf_of name (with_enabled names b now rows) ≡ leaf_of name rows
+    → IsApart name names → leaf_named name (with_enabled names b now rows) ≡ leaf_named name rows
 apart-enabled name names b now rows apart = apart-if _ name names b now rows apart
 
 -- a name that no interlocking node begins
 module _ (name : List ℕ) (away : IsAway name) where
-  away-opening : (j : ℕ) → IsApart name (opening_of j)
+  away-opening : (j : ℕ) → IsApart name (opening_names_at j)
   away-opening j =
       record {
         value_apart = λ e. away j _ (sym e);
@@ -48,7 +48,7 @@ module _ (name : List ℕ) (away : IsAway name) where
         time_apart = λ e. away j _ (sym e);
       }
 
-  away-closing : (j : ℕ) → IsApart name (closing_of j)
+  away-closing : (j : ℕ) → IsApart name (closing_names_at j)
   away-closing j =
       record {
         value_apart = λ e. away j _ (sym e);
@@ -58,25 +58,25 @@ module _ (name : List ℕ) (away : IsAway name) where
 
   pub away-outputs : (switches : List Switch) (writes : List Source) (outputs : List Value)
       (now j : ℕ) (ss : List Switch) (rows : List Row)
-      → leaf_of name (with_outputs switches writes outputs now j ss rows) ≡ leaf_of name rows
+      → leaf_named name (with_outputs switches writes outputs now j ss rows) ≡ leaf_named name rows
   away-outputs switches writes outputs now j [] rows = refl
   away-outputs switches writes outputs now j (s ∷ ss) rows =
       away-outputs switches writes outputs now (j + 1) ss _
-      ∙ apart-enabled name (closing_of j) _ now _ (away-closing j)
-      ∙ apart-enabled name (opening_of j) _ now rows (away-opening j)
+      ∙ apart-enabled name (closing_names_at j) _ now _ (away-closing j)
+      ∙ apart-enabled name (opening_names_at j) _ now rows (away-opening j)
 
 -- ---- the interlocking values of one switch
 
 -- closing has another name than opening
 apart-suffix : (k : ℕ) (s t : List ℕ) → get_or s 7 0 ≡ 67 → get_or t 7 0 ≡ 79
-    → interlocking_of k ++ s ≢ interlocking_of k ++ t
+    → cilo_name k ++ s ≢ cilo_name k ++ t
 apart-suffix k s t closes opens e =
-    let same : s ≡ t = append_cancel_left (interlocking_of k) s t e in
+    let same : s ≡ t = append_cancel_left (cilo_name k) s t e in
     let at : get_or s 7 0 ≡ get_or t 7 0 = ap (λ l. get_or l 7 0) same in
     omega (arith, closes, opens, at)
 
 closing-apart : (k : ℕ) (s : List ℕ) → get_or s 7 0 ≡ 67
-    → IsApart (interlocking_of k ++ s) (opening_of k)
+    → IsApart (cilo_name k ++ s) (opening_names_at k)
 closing-apart k s at = record {
   value_apart = apart-suffix k s _ at refl;
   quality_apart = apart-suffix k s _ at refl;
@@ -85,50 +85,50 @@ closing-apart k s at = record {
 
 -- both interlocking values of the switch at a place stand in the rows, with a quality
 pub record AreBoth (rows : List Row) (k : ℕ) : Type 0 where
-  pub opening : AreValued rows (opening_of k)
-  pub closing : AreValued rows (closing_of k)
+  pub opening : AreValued rows (opening_names_at k)
+  pub closing : AreValued rows (closing_names_at k)
 
-own-told : (switches : List Switch) (k : ℕ) (s : Switch) (e : Enabled) (now : ℕ) (rows : List Row)
+own-told : (switches : List Switch) (k : ℕ) (s : Switch) (e : SwitchEnables) (now : ℕ) (rows : List Row)
     → AreBoth rows k
     → HoldsRelease (with_output (switch_names switches k s) e.may_open e.may_close now rows) k e
 own-told switches k s e now rows both =
-    let mid = with_enabled (opening_of k) e.may_open now rows in
+    let mid = with_enabled (opening_names_at k) e.may_open now rows in
     told-here k e now rows mid _ both.opening refl
     (record {
       value_there = λ none. both.closing.value_there
-          (sym (apart-enabled _ (opening_of k) e.may_open now rows (closing-apart k _ refl))
+          (sym (apart-enabled _ (opening_names_at k) e.may_open now rows (closing-apart k _ refl))
           ∙ none);
       quality_there = λ none. both.closing.quality_there
-          (sym (apart-enabled _ (opening_of k) e.may_open now rows (closing-apart k _ refl))
+          (sym (apart-enabled _ (opening_names_at k) e.may_open now rows (closing-apart k _ refl))
           ∙ none);
     }) refl
 
-pub told-both : (rows : List Row) (k : ℕ) (e : Enabled) → HoldsRelease rows k e → AreBoth rows k
+pub told-both : (rows : List Row) (k : ℕ) (e : SwitchEnables) → HoldsRelease rows k e → AreBoth rows k
 told-both rows k e told = record {
-  opening = stands-valued rows (opening_of k) e.may_open told.opening;
-  closing = stands-valued rows (closing_of k) e.may_close told.closing;
+  opening = stands-valued rows (opening_names_at k) e.may_open told.opening;
+  closing = stands-valued rows (closing_names_at k) e.may_close told.closing;
 }
 
 -- ---- another switch's
 
 module _ (k j : ℕ) (few : k + 1 < 2 ^ 64) (less : j + 1 < 2 ^ 64) (other : k ≡ j → ⊥)
-    (switches : List Switch) (s : Switch) (e : Enabled) (now : ℕ) (rows : List Row) where
-  node-apart : (x y : List ℕ) → interlocking_of k ++ 36 ∷ x ≢ interlocking_of j ++ 36 ∷ y
+    (switches : List Switch) (s : Switch) (e : SwitchEnables) (now : ℕ) (rows : List Row) where
+  node-apart : (x y : List ℕ) → cilo_name k ++ 36 ∷ x ≢ cilo_name j ++ 36 ∷ y
   node-apart x y same = other (same-node k j x y few less same).0
 
   other-kept : (x : List ℕ)
-      → leaf_of (interlocking_of k ++ 36 ∷ x)
+      → leaf_named (cilo_name k ++ 36 ∷ x)
       (with_output (switch_names switches j s) e.may_open e.may_close now rows)
-      ≡ leaf_of (interlocking_of k ++ 36 ∷ x) rows
+      ≡ leaf_named (cilo_name k ++ 36 ∷ x) rows
   other-kept x =
-      apart-enabled _ (closing_of j) e.may_close now
-      (with_enabled (opening_of j) e.may_open now rows)
+      apart-enabled _ (closing_names_at j) e.may_close now
+      (with_enabled (opening_names_at j) e.may_open now rows)
       (record {
         value_apart = node-apart x _;
         quality_apart = node-apart x _;
         time_apart = node-apart x _;
       })
-      ∙ apart-enabled _ (opening_of j) e.may_open now rows
+      ∙ apart-enabled _ (opening_names_at j) e.may_open now rows
       (record {
         value_apart = node-apart x _;
         quality_apart = node-apart x _;
@@ -150,7 +150,7 @@ module _ (k j : ℕ) (few : k + 1 < 2 ^ 64) (less : j + 1 < 2 ^ 64) (other : k �
         };
   }
 
-  other-told : (d : Enabled) → HoldsRelease rows k d
+  other-told : (d : SwitchEnables) → HoldsRelease rows k d
       → HoldsRelease (with_output (switch_names switches j s) e.may_open e.may_close now rows) k d
   other-told d told = record {
     opening =
@@ -172,7 +172,7 @@ abbrev pub AllBoth : List Row → ℕ → Type 0
 AllBoth rows count = (k : ℕ) → k < count → AreBoth rows k
 
 -- what outputs tell of the switch at a place
-abbrev pub told_by : List Source → List Value → ℕ → Enabled
+abbrev pub told_by : List Source → List Value → ℕ → SwitchEnables
 told_by writes outputs k = record {
   may_open = output_of k EnableOpen writes outputs;
   may_close = output_of k EnableClose writes outputs;

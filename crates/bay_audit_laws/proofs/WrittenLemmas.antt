@@ -5,8 +5,8 @@ use Rattle.bay_base.specs.declared.point.Source.{Source}
 use Rattle.bay_base.specs.declared.point.SwitchPoint.TheVariants.{EnableOpen, EnableClose}
 use Rattle.bay_nodes.specs.Names.{StatusNames, SwitchNames, switch_names}
 use Rattle.bay_nodes.specs.declared.switch.Switch.{Switch}
-use Rattle.bay_process.specs.Values.{is_operation, operation_counted, output_of, position_quality, rows_after_change, rows_after_contact, rows_after_doubt, rows_after_measure, has_position, has_invalid_measure, has_measure, with_count, with_enabled, with_outputs, with_status}
-use Rattle.bay_tree.specs.Rows.{leaf_of, with_leaf_of}
+use Rattle.bay_process.specs.Values.{is_operation, rows_after_operation, output_of, position_quality, rows_after_change, rows_after_contact, rows_after_bad_measure, rows_after_measure, has_position, has_invalid_measure, has_measure, with_count, with_enabled, with_outputs, with_status}
+use Rattle.bay_tree.specs.Rows.{leaf_named, with_leaf_named}
 use Rattle.bay_base.specs.declared.position.Dbpos.{Dbpos}
 use Rattle.bay_tree.specs.declared.leaf.Leaf.{Leaf}
 use Rattle.bay_tree.specs.declared.leaf.Leaf.TheVariants as leaf
@@ -17,7 +17,7 @@ use Rattle.il_image.specs.declared.value.Value.{Value}
 
 module _ (P : List Row → Type 0)
     (write : (name : List ℕ) (value : Leaf) (rows : List Row) → P rows
-    → P (with_leaf_of name value rows)) where
+    → P (with_leaf_named name value rows)) where
   if-passes : (b : Bool) (x y : List Row) → P x → P y → P (cond b x y)
   if-passes true x y p q = p
   if-passes false x y p q = q
@@ -55,9 +55,9 @@ module _ (P : List Row → Type 0)
       status-passes names.control _ _ now told (status-passes names.position _ _ now rows p) in
       if-passes (has_position names.position position rows) rows
       (rows_after_change names position now rows) p
-      (if-passes (is_operation position (leaf_of names.position.value rows))
-      (operation_counted names.operations now after) after
-      (counted-passes names.operations (leaf_of names.operations.value after) now after both) both)
+      (if-passes (is_operation position (leaf_named names.position.value rows))
+      (rows_after_operation names.operations now after) after
+      (counted-passes names.operations (leaf_named names.operations.value after) now after both) both)
 
   pub measure-passes : (names : StatusNames) (value : ℤ) (now : ℕ) (rows : List Row) → P rows
       → P (rows_after_measure names value now rows)
@@ -66,7 +66,7 @@ module _ (P : List Row → Type 0)
       (status-passes names (leaf.Int32 value) Good now rows p)
 
   pub doubt-passes : (names : StatusNames) (now : ℕ) (rows : List Row) → P rows
-      → P (rows_after_doubt names now rows)
+      → P (rows_after_bad_measure names now rows)
   doubt-passes names now rows p =
       if-passes (has_invalid_measure names rows) rows _ p
       (write names.time _ _ (write names.quality _ rows p))

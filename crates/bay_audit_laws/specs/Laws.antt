@@ -2,7 +2,7 @@
 use Rattle.std.specs.Prelude.{ℕ, ℤ, ◌-◌, ◌≤◌, ◌≤ℤ◌, negsuc, pos, [], ◌∷◌, ◌≡◌, ◌<◌, ◌⊎◌, Bool, true, false, All, List, length, slice_get, unwrap_or, Result, Ok, Err, IfOk, IsSomeAnd, OnOk}
 use Rattle.bay_config.specs.Laws.{IsBay}
 use Rattle.bay_config.specs.declared.bay.Bay.{Bay}
-use Rattle.bay_tree.specs.Rows.{leaf_of}
+use Rattle.bay_tree.specs.Rows.{leaf_named}
 use Rattle.bay_process.specs.Values.{is_truth, measure_leaf, number_of_leaf, position_leaf}
 use Rattle.bay_base.specs.declared.switch.Operation.{Operation}
 use Rattle.bay_audit_rules.specs.Process.{Process, holds}
@@ -39,7 +39,7 @@ process_of s = record {
 
 -- the operation of the switch is released: EnaCls of its CILO for closing, EnaOpn for opening
 abbrev pub is_released : State → ℕ → Operation → Bool
-is_released s k operation = is_truth true (leaf_of (enable_name k operation) s.rows)
+is_released s k operation = is_truth true (leaf_named (enable_name k operation) s.rows)
 
 -- The interlocking values obey a rule, for the process of the device.
 abbrev pub RowsObey : Rule → State → Type 0

@@ -8,7 +8,7 @@ ghost use Rattle.bay_audit_rules.specs.Pieces.{pieces};
 ghost use Rattle.bay_audit_rules.specs.declared.pieces.Cut.TheVariants.{Time};
 
 use crate::pieces::{Cut, split_piece};
-use bay_base::decimal::{decimal, negative, positive};
+use bay_base::decimal::{read_decimal, to_negative, to_positive};
 use bay_base::names::same_letters;
 
 // Numbers and times above 2^32 are read as 2^32.
@@ -35,7 +35,7 @@ fn read_digits(word: &[u8]) -> Option<u64>
     if word.is_empty() || !are_digits(word) {
         return None;
     }
-    match decimal(word) {
+    match read_decimal(word) {
         Some(number) => Some(cap(number)),
         None => Some(ENOUGH),
     }
@@ -47,8 +47,8 @@ pub fn number(word: &[u8]) -> Option<Option<i32>>
     ensures { result ≡ number_in word.now }
 {
     match word {
-        [b'-', rest @ ..] => Some(negative(read_digits(rest)?)),
-        _ => Some(positive(read_digits(word)?)),
+        [b'-', rest @ ..] => Some(to_negative(read_digits(rest)?)),
+        _ => Some(to_positive(read_digits(word)?)),
     }
 }
 

@@ -4,9 +4,9 @@ use Rattle.std.specs.Prelude.{◌≡◌, ◌⊎◌, Option, Some, None, Result, 
 
 -- The result, under a view, equals the definition's value `held`; or the result is the error
 -- `memory`, whatever `held` is.
-abbrev pub Gives : {A B E : Type 0} → E → (A → B) → Result A E → Result B E → Type 0
-Gives memory view (Ok x) held = held ≡ Ok (view x)
-Gives memory view (Err e) held = (e ≡ memory) ⊎ (held ≡ Err e)
+abbrev pub ExactOr : {A B E : Type 0} → E → (A → B) → Result A E → Result B E → Type 0
+ExactOr memory view (Ok x) held = held ≡ Ok (view x)
+ExactOr memory view (Err e) held = (e ≡ memory) ⊎ (held ≡ Err e)
 
 -- the refusal, if there is one, and else the value
 abbrev pub unless_refused : {B E : Type 0} → Option E → B → Result B E

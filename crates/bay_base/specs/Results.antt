@@ -9,6 +9,6 @@ abbrev pub ◌>>=◌ : {A B E : Type 0} → Result A E → (A → Result B E) �
 
 -- The result of a function, under a view, equals the value `read` of a definition, including each
 -- refusal.
-abbrev pub IsRead : {X Y E : Type 0} → (X → Y) → Result X E → Result Y E → Type 0
-IsRead view (Ok x) read = read ≡ Ok (view x)
-IsRead view (Err e) read = read ≡ Err e
+abbrev pub Exact : {X Y E : Type 0} → (X → Y) → Result X E → Result Y E → Type 0
+Exact view (Ok x) read = read ≡ Ok (view x)
+Exact view (Err e) read = read ≡ Err e

@@ -23,7 +23,7 @@ pub fn with_digit(number: u64, octet: u8) -> Option<u64>
 
 /// Reads a decimal number below 2^64. Leading zeros are allowed, a sign is not. Returns `None` if
 /// the word is empty, if it contains anything but digits, or if the number is 2^64 or more.
-pub fn decimal(word: &[u8]) -> Option<u64>
+pub fn read_decimal(word: &[u8]) -> Option<u64>
     ensures { result ≡ read_number word.now }
 {
     if word.is_empty() {
@@ -37,7 +37,7 @@ pub fn decimal(word: &[u8]) -> Option<u64>
 }
 
 /// Returns the number as a signed value, or `None` if it is 2^31 or more.
-pub fn positive(number: u64) -> Option<i32>
+pub fn to_positive(number: u64) -> Option<i32>
     ensures { result ≡ positive_of number }
 {
     if number < 2_147_483_648 {
@@ -48,7 +48,7 @@ pub fn positive(number: u64) -> Option<i32>
 }
 
 /// Returns the negated number, or `None` if it is below -2^31.
-pub fn negative(number: u64) -> Option<i32>
+pub fn to_negative(number: u64) -> Option<i32>
     ensures { result ≡ negative_of number }
 {
     if number <= 2_147_483_648 {

@@ -9,10 +9,10 @@ use Rattle.bay_ber.specs.declared.tag.Class.{Class}
 use Rattle.bay_ber.specs.declared.tag.Class.TheVariants.{Universal, Application, ContextSpecific, Private}
 use Rattle.bay_ber.specs.declared.tag.Tag.{Tag}
 use Rattle.bay_base.specs.Options.{◌>>=◌}
-use Rattle.bay_ber.specs.Content.{IsInteger, IsBits, IsTruth, BitString, integer_in, is_integer, signed_of, are_unused, bits_in, truth_in}
+use Rattle.bay_ber.specs.Content.{IsInteger, IsBits, IsTruth, BitString, integer_in, is_integer, signed_of, is_unused_count, bits_in, truth_in}
 use Rattle.bay_ber.specs.Spelling.{Spells}
 use Rattle.bay_ber.specs.Tags.{same_class, same_tag}
-use Rattle.bay_ber.specs.Values.{Part, value, SpellAll, values_in, only_one, value_in, at_most_five, few_in, all_of, each_in, has_tag_among, values_with_tags, content_with_tag, integer_under}
+use Rattle.bay_ber.specs.Values.{Part, value, SpellAll, values_in, only_one, value_in, at_most_five, few_in, read_each, each_in, has_tag_among, values_with_tags, content_with_tag, integer_under}
 use Rattle.bay_ber.proofs.ReadLemmas.{IsBytes}
 use Rattle.bay_ber.proofs.ContentLemmas.{integer-is, unused-yes, unused-is}
 pub use Rattle.bay_ber.proofs.ListingLemmas.{bind-some}
@@ -191,12 +191,12 @@ pub record Each {B : Type 0} (f : Part → Option B) (octets : List ℕ) (xs : L
   pub parts : List Part
   pub spelled : SpellAll octets parts
   pub bytes : AllBytes parts
-  pub all : all_of f parts ≡ Some xs
+  pub all : read_each f parts ≡ Some xs
 
 pub each-back : {B : Type 0} (f : Part → Option B) (octets : List ℕ) (xs : List B) → IsBytes octets
     → each_in f octets ≡ Some xs → Each f octets xs
 each-back f octets xs b e =
-    let x = bind-some (values_in octets) (all_of f) xs e in
+    let x = bind-some (values_in octets) (read_each f) xs e in
     let all = all-back octets x.0 b x.1 in
     record { parts = x.0; spelled = all.0; bytes = all.1; all = x.2 }
 
@@ -227,7 +227,7 @@ pub bits-back : (content : List ℕ) (b : BitString) → bits_in content ≡ Som
 bits-back [] b e = absurd cc
 bits-back (unused ∷ octets) b e =
     let made : BitString = record { octets = octets; count = 8 * length octets - unused } in
-    let g = cond_some (are_unused unused octets) made b e in
+    let g = cond_some (is_unused_count unused octets) made b e in
     subst (λ (x : BitString). IsBits (unused ∷ octets) x.octets x.count) g.1
     (refl, unused-is unused octets g.0)
 
@@ -236,7 +236,7 @@ pub bits-again : (content octets : List ℕ) (count : ℕ) → IsBits content oc
 bits-again [] octets count is = absurd is
 bits-again (unused ∷ behind) octets count is =
     let same : 8 * length behind - unused ≡ count = (let f = is.1.filled in omega arith) in
-    cond-true (are_unused unused behind)
+    cond-true (is_unused_count unused behind)
     (Some (record { octets = behind; count = 8 * length behind - unused })) None
     (unused-yes unused behind count is.1)
     ∙ ap (λ (n : ℕ). let made : BitString = record { octets = behind; count = n } in Some made) same

@@ -10,7 +10,7 @@ use Rattle.bay_ber.specs.declared.fault.BerFault.{BerFault}
 use Rattle.bay_ber.specs.declared.fault.BerFault.TheVariants.{BadContent}
 use Rattle.bay_ber.specs.declared.content.Bits.{Bits}
 use Rattle.bay_ber.specs.Octets.{number_of}
-use Rattle.bay_ber.specs.Content.{signed_of, IsInteger, HasBits, IsBits, BitString, bits_of, is_long, is_integer, integer_in, are_unused, bits_in}
+use Rattle.bay_ber.specs.Content.{signed_of, IsInteger, HasBits, IsBits, BitString, bit_string_view, fits_64_bits, is_integer, integer_in, is_unused_count, bits_in}
 
 -- octets whose first is below 128 are not negative
 pub signed_of-low : (octets : List ℕ) → 0 < length octets → get_or octets 0 0 < 128
@@ -34,7 +34,7 @@ pub bits-only : (content : List ℕ) (unused : ℕ) (behind : List ℕ) (result 
     → content ≡ unused ∷ behind
     → IfOk result (λ bits. (bits.octets.now ≡ behind) × HasBits unused behind bits.count)
     → IfErr result (λ fault. (fault ≡ BadContent) × ((count : ℕ) → HasBits unused behind count → ⊥))
-    → (b : BitString) → IsBits content b.octets b.count → IsOkAnd result (λ bits. bits_of bits ≡ b)
+    → (b : BitString) → IsBits content b.octets b.count → IsOkAnd result (λ bits. bit_string_view bits ≡ b)
 bits-only content unused behind (Ok bits) whole ok err b is =
     let at : IsBits (unused ∷ behind) b.octets b.count =
     subst (λ (xs : List ℕ). IsBits xs b.octets b.count) whole is in
@@ -61,11 +61,11 @@ bits-err content unused behind (Err fault) whole err = (
 
 -- ---- the functions are the relations
 
-long-yes : (z : ℤ) → FitsSigned w64 z → is_long z ≡ true
+long-yes : (z : ℤ) → FitsSigned w64 z → fits_64_bits z ≡ true
 long-yes (pos n) fits = lt-ltb _ _ (omega (arith, ints))
 long-yes (negsuc n) fits = lt-ltb _ _ (omega (arith, ints))
 
-long_is : (z : ℤ) → is_long z ≡ true → FitsSigned w64 z
+long_is : (z : ℤ) → fits_64_bits z ≡ true → FitsSigned w64 z
 long_is (pos n) e = let b : n < 9223372036854775808 = ltb-true _ _ e in omega (arith, ints)
 long_is (negsuc n) e = let b : n < 9223372036854775808 = ltb-true _ _ e in omega (arith, ints)
 
@@ -111,8 +111,8 @@ integer-exact content (Err fault) ok err =
     (λ e. err.1 (signed_of content) (integer-is content e))))
 
 pub unused-yes : (unused : ℕ) (octets : List ℕ) (count : ℕ) → HasBits unused octets count
-    → are_unused unused octets ≡ true
-unfolding are_unused
+    → is_unused_count unused octets ≡ true
+unfolding is_unused_count
 unused-yes unused octets count h =
     rw (
       lt-ltb unused 8 (let f = h.few in omega arith),
@@ -120,9 +120,9 @@ unused-yes unused octets count h =
       lt-ltb (length octets) 2305843009213693952 (let f = h.within in omega arith),
     ) refl
 
-pub unused-is : (unused : ℕ) (octets : List ℕ) → are_unused unused octets ≡ true
+pub unused-is : (unused : ℕ) (octets : List ℕ) → is_unused_count unused octets ≡ true
     → HasBits unused octets (8 * length octets - unused)
-unfolding are_unused
+unfolding is_unused_count
 unused-is unused octets e =
     let a = and_parts _ _ e in
     let b = and_parts _ _ a.1 in
@@ -134,24 +134,24 @@ unused-is unused octets e =
 bits-at : (unused : ℕ) (behind : List ℕ) (result : Result Bits BerFault)
     → IfOk result (λ bits. (bits.octets.now ≡ behind) × HasBits unused behind bits.count)
     → IfErr result (λ fault. (fault ≡ BadContent) × ((count : ℕ) → HasBits unused behind count → ⊥))
-    → option_map bits_of (result_ok result) ≡ bits_in (unused ∷ behind)
+    → option_map bit_string_view (result_ok result) ≡ bits_in (unused ∷ behind)
 bits-at unused behind (Ok bits) ok err =
     let count : bits.count ≡ 8 * length behind - unused = (let f = ok.1.filled in omega arith) in
-    let same : bits_of bits ≡ record { octets = behind; count = 8 * length behind - unused } =
+    let same : bit_string_view bits ≡ record { octets = behind; count = 8 * length behind - unused } =
     rw (ok.0, count) refl in
-    ap Some same ∙ sym (cond-true (are_unused unused behind)
+    ap Some same ∙ sym (cond-true (is_unused_count unused behind)
     (Some (record { octets = behind; count = 8 * length behind - unused })) None
     (unused-yes unused behind bits.count ok.1))
 bits-at unused behind (Err fault) ok err =
-    sym (cond-false (are_unused unused behind)
+    sym (cond-false (is_unused_count unused behind)
     (Some (record { octets = behind; count = 8 * length behind - unused })) None
-    (false_from_ne_true (are_unused unused behind)
+    (false_from_ne_true (is_unused_count unused behind)
     (λ e. err.1 (8 * length behind - unused) (unused-is unused behind e))))
 
 pub bits-exact : (content : List ℕ) (unused : ℕ) (behind : List ℕ) (result : Result Bits BerFault)
     → content ≡ unused ∷ behind
     → IfOk result (λ bits. (bits.octets.now ≡ behind) × HasBits unused behind bits.count)
     → IfErr result (λ fault. (fault ≡ BadContent) × ((count : ℕ) → HasBits unused behind count → ⊥))
-    → option_map bits_of (result_ok result) ≡ bits_in content
+    → option_map bit_string_view (result_ok result) ≡ bits_in content
 bits-exact content unused behind result whole ok err =
     bits-at unused behind result ok err ∙ ap bits_in (sym whole)

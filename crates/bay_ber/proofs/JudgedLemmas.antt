@@ -7,10 +7,10 @@ use Rattle.bay_ber.proofs.FormLemmas.{Exact}
 
 -- What is spelled is answered; and of what is good, what is answered is spelled or refused so.
 pub record Fair {A E : Type 0} (Good : Type 0) (v : Verdict A E) : Type 0 where
-  pub read : (x : A) → v.Spells x → v.answers ≡ Ok x
-  pub back : Good → (x : A) → v.answers ≡ Ok x → v.Spells x
-  pub refused : Good → (e : E) → v.Refuses e → v.answers ≡ Err e
-  pub why : Good → (e : E) → v.answers ≡ Err e → v.Refuses e
+  pub read : (x : A) → v.Spells x → v.result ≡ Ok x
+  pub back : Good → (x : A) → v.result ≡ Ok x → v.Spells x
+  pub refused : Good → (e : E) → v.Refuses e → v.result ≡ Err e
+  pub why : Good → (e : E) → v.result ≡ Err e → v.Refuses e
 
 pub told-fair : {A E Good : Type 0} (r : Result A E) → Fair Good (verdict_of r)
 told-fair r = record {
@@ -53,14 +53,14 @@ pub layers-fair : {A B E Good : Type 0} {layer : Verdict A E} {next : A → Verd
 layers-fair {layer = layer} {next = next} d e = record {
   read = λ y is. rw (d.read is.0 is.1) ((e is.0 is.1).read y is.2);
   back = λ good y is.
-      let x = bind-ok layer.answers (λ z. (next z).answers) y is in
+      let x = bind-ok layer.result (λ z. (next z).result) y is in
       let spelled = d.back good x.0 x.1 in
       (x.0, spelled, (e x.0 spelled).back good y x.2);
   refused = λ good f is. elim is [
     | inl here ↦ rw (d.refused good f here) refl
     | inr later ↦ rw (d.read later.0 later.1) ((e later.0 later.1).refused good f later.2)
   ];
-  why = λ good f is. elim (bind-err layer.answers (λ z. (next z).answers) f is) [
+  why = λ good f is. elim (bind-err layer.result (λ z. (next z).result) f is) [
     | inl here ↦ inl (d.why good f here)
     | inr later ↦
         let spelled = d.back good later.0 later.1 in

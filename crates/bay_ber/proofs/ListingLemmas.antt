@@ -8,15 +8,15 @@ use Rattle.std.proofs.Math.Seq.{get_or-append_right}
 use Rattle.bay_ber.specs.declared.fault.BerFault.{BerFault}
 use Rattle.bay_ber.specs.declared.fault.BerFault.TheVariants.{Truncated, TagTooLarge}
 use Rattle.bay_ber.specs.declared.tag.Tag.{Tag}
-use Rattle.bay_ber.specs.Reading.{Reading, class_of, is_constructed, low_bits, second_at, tag_at, length_at, tlv_at}
+use Rattle.bay_ber.specs.Reading.{TlvData, class_of, is_constructed, low_bits, two_octet_tag, tag_at, length_at, tlv_at}
 use Rattle.bay_base.specs.Options.{◌>>=◌}
 use Rattle.bay_ber.specs.declared.values.Value.{Value}
-use Rattle.bay_ber.specs.Values.{Part, part_of, SpellAll, part_in, prepend_values, with_value_first, values_within, values_in, only_one, value_in, at_most_five, few_in, all_of, each_in}
+use Rattle.bay_ber.specs.Values.{Part, part_of, SpellAll, part_of_tlv, prepend_values, with_value_first, values_within, values_in, only_one, value_in, at_most_five, few_in, read_each, each_in}
 use Rattle.bay_ber.proofs.ReadLemmas.{IsBytes, bind-ok, chosen, ok-is, with_tag, with_length, length-takes, tlv-takes, tlv-again}
 
 -- ---- what is read leaves less
 
-second-shorter : (first : ℕ) (octets : List ℕ) (x : Tag × List ℕ) → second_at first octets ≡ Ok x
+second-shorter : (first : ℕ) (octets : List ℕ) (x : Tag × List ℕ) → two_octet_tag first octets ≡ Ok x
     → length x.1 ≤ length octets
 second-shorter first [] x e = absurd cc
 second-shorter first (second ∷ octets) x e =
@@ -43,7 +43,7 @@ tag-shorter (first ∷ octets) x e =
       },
       octets,
     ) in
-    elim (chosen (eqb (low_bits first) 31) (second_at first octets) (Ok made) (Ok x) e) [
+    elim (chosen (eqb (low_bits first) 31) (two_octet_tag first octets) (Ok made) (Ok x) e) [
       | inl here ↦ omega (arith, second-shorter first octets x here.1)
       | inr here ↦ let same : octets ≡ x.1 =
           ap (λ (y : Tag × List ℕ). y.1) (ok-is made x here.1) in omega (arith, ap length same)
@@ -55,19 +55,19 @@ length-shorter octets x e =
     let taken = length-takes octets x e in
     omega (arith, ap length taken.parts, length-append taken.len x.1)
 
-pub tlv-shorter : (octets : List ℕ) (r : Reading) → tlv_at octets ≡ Ok r
+pub tlv-shorter : (octets : List ℕ) (r : TlvData) → tlv_at octets ≡ Ok r
     → length r.rest < length octets
 unfolding tlv_at
 tlv-shorter octets r e =
     let a = bind-ok (tag_at octets) with_tag r e in
     let b = bind-ok (length_at a.0.1) (with_length a.0.0) r a.2 in
-    let made : Reading =
+    let made : TlvData =
     record { tag = a.0.0; content = take b.0.0 b.0.1; rest = drop b.0.0 b.0.1 } in
     elim (chosen (ltb (length b.0.1) b.0.0) (Err Truncated) (Ok made) (Ok r) b.2) [
       | inl short ↦ absurd (let e : Err Truncated ≡ Ok r = short.1 in cc)
       | inr here ↦
           let same : drop b.0.0 b.0.1 ≡ r.rest =
-          ap (λ (y : Reading). y.rest) (ok-is made r here.1) in
+          ap (λ (y : TlvData). y.rest) (ok-is made r here.1) in
           omega (
             arith,
             ap length same,
@@ -84,10 +84,10 @@ unfolding values_within
 none-left zero = refl
 none-left (suc most) = refl
 
-same-front : (n m : ℕ) (t : Result Reading BerFault)
-    → ((r : Reading) → t ≡ Ok r → values_within n r.rest ≡ values_within m r.rest)
+same-front : (n m : ℕ) (t : Result TlvData BerFault)
+    → ((r : TlvData) → t ≡ Ok r → values_within n r.rest ≡ values_within m r.rest)
     → with_value_first t (values_within n) ≡ with_value_first t (values_within m)
-same-front n m (Ok r) same = ap (prepend_values (part_in r ∷ [])) (same r refl)
+same-front n m (Ok r) same = ap (prepend_values (part_of_tlv r ∷ [])) (same r refl)
 same-front n m (Err fault) same = refl
 
 enough : (n m : ℕ) (octets : List ℕ) → length octets ≤ n → length octets ≤ m
@@ -107,13 +107,13 @@ pub no-values : values_in [] ≡ Some []
 unfolding values_in
 no-values = none-left 0
 
-pub values-step : (octets : List ℕ) (r : Reading) → (octets ≡ [] → ⊥) → tlv_at octets ≡ Ok r
-    → values_in octets ≡ prepend_values (part_in r ∷ []) (values_in r.rest)
+pub values-step : (octets : List ℕ) (r : TlvData) → (octets ≡ [] → ⊥) → tlv_at octets ≡ Ok r
+    → values_in octets ≡ prepend_values (part_of_tlv r ∷ []) (values_in r.rest)
 unfolding values_in values_within
 values-step [] r some e = absurd (some refl)
 values-step (octet ∷ octets) r some e =
     let s = tlv-shorter (octet ∷ octets) r e in
-    rw e (ap (prepend_values (part_in r ∷ []))
+    rw e (ap (prepend_values (part_of_tlv r ∷ []))
     (enough (length octets) (length r.rest) r.rest (omega arith) (omega arith)))
 
 pub values-stop : (octets : List ℕ) (fault : BerFault) → (octets ≡ [] → ⊥)
@@ -139,15 +139,15 @@ rest-bytes octets front rest parts fits i =
     ∙ ap (λ (k : ℕ). get_or rest k 0) (omega arith) in
     omega (arith, fits (length front + i), at)
 
-front-takes : (octets : List ℕ) (most : ℕ) (t : Result Reading BerFault) (parts : List Part)
+front-takes : (octets : List ℕ) (most : ℕ) (t : Result TlvData BerFault) (parts : List Part)
     → tlv_at octets ≡ t → IsBytes octets → with_value_first t (values_within most) ≡ Some parts
-    → ((r : Reading) (later : List Part) → IsBytes r.rest → values_within most r.rest ≡ Some later
+    → ((r : TlvData) (later : List Part) → IsBytes r.rest → values_within most r.rest ≡ Some later
     → SpellAll r.rest later) → SpellAll octets parts
 front-takes octets most (Err fault) parts read fits e more = absurd cc
 front-takes octets most (Ok r) parts read fits e more =
     let b = tlv-takes octets r fits read in
-    let s = onto-some (part_in r ∷ []) (values_within most r.rest) parts e in
-    let whole : SpellAll octets (part_in r ∷ s.0) = (
+    let s = onto-some (part_of_tlv r ∷ []) (values_within most r.rest) parts e in
+    let whole : SpellAll octets (part_of_tlv r ∷ s.0) = (
       b.front,
       r.rest,
       b.parts,
@@ -175,7 +175,7 @@ pub values-again : (octets : List ℕ) (parts : List Part) → SpellAll octets p
     → values_in octets ≡ Some parts
 values-again octets [] is = ap values_in is ∙ no-values
 values-again octets (part ∷ parts) is =
-    let r : Reading = record { tag = part.tag; content = part.content; rest = is.1 } in
+    let r : TlvData = record { tag = part.tag; content = part.content; rest = is.1 } in
     let e : tlv_at octets ≡ Ok r =
     tlv-again octets r (record { front = is.0; spelled = is.3; parts = is.2 }) in
     let some : octets ≡ [] → ⊥ = λ none. let s =
@@ -184,17 +184,17 @@ values-again octets (part ∷ parts) is =
 
 -- ---- the one value, and few
 
-pub tlv-some : (octets : List ℕ) (r : Reading) → tlv_at octets ≡ Ok r → octets ≡ [] → ⊥
+pub tlv-some : (octets : List ℕ) (r : TlvData) → tlv_at octets ≡ Ok r → octets ≡ [] → ⊥
 tlv-some octets r e none = let s = tlv-shorter octets r e in let z : length octets ≡ 0 =
     ap length none in omega arith
 
-pub one-is : (octets : List ℕ) (r : Reading) → tlv_at octets ≡ Ok r → r.rest ≡ []
-    → value_in octets ≡ Some (part_in r)
+pub one-is : (octets : List ℕ) (r : TlvData) → tlv_at octets ≡ Ok r → r.rest ≡ []
+    → value_in octets ≡ Some (part_of_tlv r)
 one-is octets r e none =
     ap (λ (o : Option (List Part)). o >>= only_one)
     (values-step octets r (tlv-some octets r e) e
-    ∙ ap (λ (xs : List ℕ). prepend_values (part_in r ∷ []) (values_in xs)) none
-    ∙ ap (prepend_values (part_in r ∷ [])) no-values)
+    ∙ ap (λ (xs : List ℕ). prepend_values (part_of_tlv r ∷ []) (values_in xs)) none
+    ∙ ap (prepend_values (part_of_tlv r ∷ [])) no-values)
 
 not-one : (part : Part) (o : Option (List Part)) → (o ≡ Some [] → ⊥)
     → (prepend_values (part ∷ []) o >>= only_one) ≡ None
@@ -202,19 +202,19 @@ not-one part None some = refl
 not-one part (Some []) some = absurd (some refl)
 not-one part (Some (next ∷ later)) some = refl
 
-values-some : (octets : List ℕ) (t : Result Reading BerFault) → tlv_at octets ≡ t
+values-some : (octets : List ℕ) (t : Result TlvData BerFault) → tlv_at octets ≡ t
     → (octets ≡ [] → ⊥) → values_in octets ≡ Some [] → ⊥
 values-some octets (Ok r) read some e = let s =
-    onto-some (part_in r ∷ []) (values_in r.rest) [] (sym (values-step octets r some read) ∙ e) in
-    let same : [] ≡ part_in r ∷ s.0 = s.2 in cc
+    onto-some (part_of_tlv r ∷ []) (values_in r.rest) [] (sym (values-step octets r some read) ∙ e) in
+    let same : [] ≡ part_of_tlv r ∷ s.0 = s.2 in cc
 values-some octets (Err fault) read some e = let n : values_in octets ≡ None =
     values-stop octets fault some read in cc
 
-pub one-more : (octets : List ℕ) (r : Reading) → tlv_at octets ≡ Ok r → (r.rest ≡ [] → ⊥)
+pub one-more : (octets : List ℕ) (r : TlvData) → tlv_at octets ≡ Ok r → (r.rest ≡ [] → ⊥)
     → value_in octets ≡ None
 one-more octets r e more =
     ap (λ (o : Option (List Part)). o >>= only_one) (values-step octets r (tlv-some octets r e) e)
-    ∙ not-one (part_in r) (values_in r.rest) (values-some r.rest (tlv_at r.rest) refl more)
+    ∙ not-one (part_of_tlv r) (values_in r.rest) (values-some r.rest (tlv_at r.rest) refl more)
 
 pub one-stop : (octets : List ℕ) (fault : BerFault) → tlv_at octets ≡ Err fault
     → value_in octets ≡ None
@@ -238,7 +238,7 @@ pub record Passed {B : Type 0} (f : Part → Option B) (whole rest : List ℕ) (
     : Type 0 where
   pub front : List Part
   pub read : values_in whole ≡ prepend_values front (values_in rest)
-  pub each : all_of f front ≡ Some done
+  pub each : read_each f front ≡ Some done
 
 pub onto-nil : (o : Option (List Part)) → o ≡ prepend_values [] o
 onto-nil None = refl
@@ -258,15 +258,15 @@ bind-some None f y e = absurd cc
 bind-some (Some x) f y e = (x, refl, e)
 
 all-more : {B : Type 0} (f : Part → Option B) (front : List Part) (part : Part) (xs : List B)
-    (x : B) → all_of f front ≡ Some xs → f part ≡ Some x
-    → all_of f (front ++ part ∷ []) ≡ Some (xs ++ x ∷ [])
+    (x : B) → read_each f front ≡ Some xs → f part ≡ Some x
+    → read_each f (front ++ part ∷ []) ≡ Some (xs ++ x ∷ [])
 all-more {B = B} f [] part xs x each here =
     ap (λ (o : Option B). o >>= λ y. Some (y ∷ [])) here
     ∙ ap (λ (ys : List B). Some (ys ++ x ∷ [])) (same_Some [] xs each)
 all-more {B = B} f (first ∷ front) part xs x each here =
-    let a = bind-some (f first) (λ y. all_of f front >>= λ ys. Some (y ∷ ys)) xs each in
-    let b = bind-some (all_of f front) (λ ys. Some (a.0 ∷ ys)) xs a.2 in
-    ap (λ (o : Option B). o >>= λ y. all_of f (front ++ part ∷ []) >>= λ ys. Some (y ∷ ys)) a.1
+    let a = bind-some (f first) (λ y. read_each f front >>= λ ys. Some (y ∷ ys)) xs each in
+    let b = bind-some (read_each f front) (λ ys. Some (a.0 ∷ ys)) xs a.2 in
+    ap (λ (o : Option B). o >>= λ y. read_each f (front ++ part ∷ []) >>= λ ys. Some (y ∷ ys)) a.1
     ∙ ap (λ (o : Option (List B)). o >>= λ ys. Some (a.0 ∷ ys))
     (all-more f front part b.0 x b.1 here)
     ∙ ap (λ (ys : List B). Some (ys ++ x ∷ [])) (same_Some (a.0 ∷ b.0) xs b.2)
@@ -277,10 +277,10 @@ bind-none None r e = refl
 bind-none (Some y) r e = rw e refl
 
 all_bad : {B : Type 0} (f : Part → Option B) (front : List Part) (part : Part) (later : List Part)
-    → f part ≡ None → all_of f (front ++ part ∷ later) ≡ None
+    → f part ≡ None → read_each f (front ++ part ∷ later) ≡ None
 all_bad f [] part later bad = rw bad refl
 all_bad f (first ∷ front) part later bad =
-    bind-none (f first) (all_of f (front ++ part ∷ later)) (all_bad f front part later bad)
+    bind-none (f first) (read_each f (front ++ part ∷ later)) (all_bad f front part later bad)
 
 pub passed-more : {B : Type 0} (f : Part → Option B) (whole rest new : List ℕ) (done : List B)
     (part : Part) (x : B) → Passed f whole rest done
@@ -296,12 +296,12 @@ pub passed-end : {B : Type 0} (f : Part → Option B) (whole rest : List ℕ) (d
     → Passed f whole rest done → values_in rest ≡ Some [] → each_in f whole ≡ Some done
 passed-end f whole rest done p last =
     let read : values_in whole ≡ Some (p.front ++ []) = p.read ∙ ap (prepend_values p.front) last in
-    ap (λ (o : Option (List Part)). o >>= all_of f) read ∙ ap (all_of f) (append-nil p.front)
+    ap (λ (o : Option (List Part)). o >>= read_each f) read ∙ ap (read_each f) (append-nil p.front)
     ∙ p.each
 
 bad-at : {B : Type 0} (f : Part → Option B) (front : List Part) (part : Part)
     (o : Option (List Part)) → f part ≡ None
-    → (prepend_values front (prepend_values (part ∷ []) o) >>= all_of f) ≡ None
+    → (prepend_values front (prepend_values (part ∷ []) o) >>= read_each f) ≡ None
 bad-at f front part None bad = refl
 bad-at f front part (Some later) bad = all_bad f front part later bad
 
@@ -310,13 +310,13 @@ pub passed-bad : {B : Type 0} (f : Part → Option B) (whole rest new : List ℕ
     → values_in rest ≡ prepend_values (part ∷ []) (values_in new)
     → f part ≡ None → each_in f whole ≡ None
 passed-bad f whole rest new done part p step bad =
-    ap (λ (o : Option (List Part)). o >>= all_of f) (p.read ∙ ap (prepend_values p.front) step)
+    ap (λ (o : Option (List Part)). o >>= read_each f) (p.read ∙ ap (prepend_values p.front) step)
     ∙ bad-at f p.front part (values_in new) bad
 
 pub passed-stop : {B : Type 0} (f : Part → Option B) (whole rest : List ℕ) (done : List B)
     → Passed f whole rest done → values_in rest ≡ None → each_in f whole ≡ None
 passed-stop f whole rest done p stop =
-    ap (λ (o : Option (List Part)). o >>= all_of f) (p.read ∙ ap (prepend_values p.front) stop)
+    ap (λ (o : Option (List Part)). o >>= read_each f) (p.read ∙ ap (prepend_values p.front) stop)
 
 -- ---- few values
 

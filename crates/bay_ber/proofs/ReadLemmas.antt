@@ -3,7 +3,7 @@ use Rattle.std.proofs.Common.{◌≡◌, ℕ, ◌+◌, ◌-◌, ◌<◌, ◌≤�
 use Rattle.std.specs.Prelude.{IfOk, IsOkAnd}
 use Rattle.std.proofs.lemmas.Bool.{ltb-true, ltb-false, lt-ltb, le-ltb, eqb-true, eqb-false, eq-eqb, ne_eqb}
 use Rattle.std.proofs.lemmas.List.{take_at, drop_at, take-append-drop, length-append, length-take, append_cancel_right}
-use Rattle.bay_base.specs.Results.{◌>>=◌, IsRead}
+use Rattle.bay_base.specs.Results.{◌>>=◌, Exact}
 use Rattle.bay_ber.specs.declared.fault.BerFault.{BerFault}
 use Rattle.bay_ber.specs.declared.fault.BerFault.TheVariants.{Truncated, Indefinite, LengthTooLong, TagTooLarge, BadContent}
 use Rattle.bay_ber.specs.declared.tag.Class.{Class}
@@ -11,7 +11,7 @@ use Rattle.bay_ber.specs.declared.tag.Tag.{Tag}
 use Rattle.bay_ber.specs.declared.tlv.Tlv.{Tlv}
 use Rattle.bay_ber.specs.Octets.{number_of}
 use Rattle.bay_ber.specs.Spelling.{identifier, IsTag, IsLength, Spells}
-use Rattle.bay_ber.specs.Reading.{Reading, reading_of, Begins, HasLargeTag, HasLengthOctet, IsIndefinite, HasLongLength, IsTruncated, class_of, is_constructed, low_bits, second_at, tag_at, length_at, tlv_at}
+use Rattle.bay_ber.specs.Reading.{TlvData, tlv_data, BeginsWithTlv, HasLargeTag, HasLengthOctet, IsIndefinite, HasLongLength, IsTruncated, class_of, is_constructed, low_bits, two_octet_tag, tag_at, length_at, tlv_at}
 use Rattle.bay_ber.proofs.TagLemmas.{class_of-identifier, is_constructed-identifier, low_bits-identifier, identifier-of}
 
 -- each number is an octet
@@ -64,7 +64,7 @@ pub record TagBegins (octets : List ℕ) (t : Tag) (rest : List ℕ) : Type 0 wh
   pub parts : octets ≡ tag ++ rest
 
 second-takes : (first : ℕ) (octets : List ℕ) (x : Tag × List ℕ) → first < 256 → low_bits first ≡ 31
-    → second_at first octets ≡ Ok x → TagBegins (first ∷ octets) x.0 x.1
+    → two_octet_tag first octets ≡ Ok x → TagBegins (first ∷ octets) x.0 x.1
 second-takes first [] x below low e = absurd cc
 second-takes first (second ∷ octets) x below low e =
     elim (chosen (ltb second 128)
@@ -91,7 +91,7 @@ pub tag-takes : (octets : List ℕ) (x : Tag × List ℕ) → IsBytes octets →
 unfolding tag_at
 tag-takes [] x fits e = absurd cc
 tag-takes (first ∷ octets) x fits e =
-    elim (chosen (eqb (low_bits first) 31) (second_at first octets)
+    elim (chosen (eqb (low_bits first) 31) (two_octet_tag first octets)
     (Ok (tag_of (class_of first) (is_constructed first) (low_bits first), octets)) (Ok x) e) [
       | inl here ↦ second-takes first octets x (fits 0) (eqb-true _ _ here.0) here.1
       | inr here ↦
@@ -221,12 +221,12 @@ length-again (first ∷ second ∷ octets) n rest is =
 
 -- ---- the value
 
-abbrev pub with_length : Tag → ℕ × List ℕ → Result Reading BerFault
+abbrev pub with_length : Tag → ℕ × List ℕ → Result TlvData BerFault
 with_length tag n =
     cond (ltb (length n.1) n.0) (Err Truncated)
     (Ok (record { tag = tag; content = take n.0 n.1; rest = drop n.0 n.1 }))
 
-abbrev pub with_tag : Tag × List ℕ → Result Reading BerFault
+abbrev pub with_tag : Tag × List ℕ → Result TlvData BerFault
 with_tag tag = length_at tag.1 >>= with_length tag.0
 
 -- the parts of octets, taken off one after another
@@ -234,8 +234,8 @@ regroup : (octets tag behind len after content rest : List ℕ) → octets ≡ t
     → behind ≡ len ++ after → after ≡ content ++ rest → octets ≡ (tag ++ (len ++ content)) ++ rest
 regroup octets tag behind len after content rest p q r = rw (p, q, r) (simp append_assoc)
 
-pub tlv-takes : (octets : List ℕ) (r : Reading) → IsBytes octets → tlv_at octets ≡ Ok r
-    → Begins octets r
+pub tlv-takes : (octets : List ℕ) (r : TlvData) → IsBytes octets → tlv_at octets ≡ Ok r
+    → BeginsWithTlv octets r
 unfolding tlv_at
 tlv-takes octets r fits e =
     let a = bind-ok (tag_at octets) with_tag r e in
@@ -245,7 +245,7 @@ tlv-takes octets r fits e =
     let behind = b.0.1 in
     let tag = tag-takes octets a.0 fits a.1 in
     let len = length-takes a.0.1 b.0 b.1 in
-    let made : Reading = record { tag = t; content = take n behind; rest = drop n behind } in
+    let made : TlvData = record { tag = t; content = take n behind; rest = drop n behind } in
     elim (chosen (ltb (length behind) n) (Err Truncated) (Ok made) (Ok r) b.2) [
       | inl short ↦ absurd (let e : Err Truncated ≡ Ok r = short.1 in cc)
       | inr here ↦
@@ -264,11 +264,11 @@ tlv-takes octets r fits e =
           let parts : octets ≡ front ++ drop n behind =
           regroup octets tag.tag a.0.1 len.len behind (take n behind) (drop n behind) tag.parts
           len.parts (sym cut) in
-          subst (Begins octets) (ok-is made r here.1)
+          subst (BeginsWithTlv octets) (ok-is made r here.1)
           (record { front = front; spelled = spelled; parts = parts })
     ]
 
-pub tlv-again : (octets : List ℕ) (r : Reading) → Begins octets r → tlv_at octets ≡ Ok r
+pub tlv-again : (octets : List ℕ) (r : TlvData) → BeginsWithTlv octets r → tlv_at octets ≡ Ok r
 unfolding tlv_at
 tlv-again octets r begins =
     let s = begins.spelled in
@@ -296,7 +296,7 @@ FaultHolds TagTooLarge octets = HasLargeTag octets
 FaultHolds BadContent octets = ⊥
 
 second-fault : (first : ℕ) (octets : List ℕ) (d : BerFault) → low_bits first ≡ 31
-    → second_at first octets ≡ Err d → FaultHolds d (first ∷ octets)
+    → two_octet_tag first octets ≡ Err d → FaultHolds d (first ∷ octets)
 second-fault first [] d low e =
     subst (λ (x : BerFault). FaultHolds x (first ∷ [])) (let same : Truncated ≡ d = cc in same) tt
 second-fault first (second ∷ octets) d low e =
@@ -315,7 +315,7 @@ unfolding tag_at
 tag-fault [] d e =
     subst (λ (x : BerFault). FaultHolds x []) (let same : Truncated ≡ d = cc in same) tt
 tag-fault (first ∷ octets) d e =
-    elim (chosen (eqb (low_bits first) 31) (second_at first octets)
+    elim (chosen (eqb (low_bits first) 31) (two_octet_tag first octets)
     (Ok (tag_of (class_of first) (is_constructed first) (low_bits first), octets)) (Err d) e) [
       | inl here ↦ second-fault first octets d (eqb-true _ _ here.0) here.1
       | inr here ↦ absurd (let e
@@ -402,7 +402,7 @@ tlv-fault octets d fits e =
                 let n = b.0.0 in
                 let behind = b.0.1 in
                 let t = a.0.0 in
-                let made : Reading =
+                let made : TlvData =
                 record { tag = t; content = take n behind; rest = drop n behind } in
                 elim (chosen (ltb (length behind) n) (Err Truncated) (Ok made) (Err d) b.2) [
                   | inl short ↦ subst (λ (x : BerFault). FaultHolds x octets) (err-is _ _ short.1)
@@ -442,7 +442,7 @@ long-length-again octets h =
     length-octet-again octets h.0 LengthTooLong h.2 (λ rest. long-refused h.0 rest h.1)
 
 -- no two answers
-two-faults : (c d : BerFault) (x : Result Reading BerFault) → x ≡ Err c → x ≡ Err d → c ≡ d
+two-faults : (c d : BerFault) (x : Result TlvData BerFault) → x ≡ Err c → x ≡ Err d → c ≡ d
 two-faults c d x e f = err-is c d (sym e ∙ f)
 
 pub truncated-holds : (octets : List ℕ) → tlv_at octets ≡ Err Truncated → IsTruncated octets
@@ -459,7 +459,7 @@ truncated-holds octets e = record {
   not_spelled = λ h. not-err h.0 Truncated (sym (tlv-again octets h.0 h.1) ∙ e);
 }
 
-truncated-answer : (octets : List ℕ) (x : Result Reading BerFault) → IsBytes octets
+truncated-answer : (octets : List ℕ) (x : Result TlvData BerFault) → IsBytes octets
     → IsTruncated octets → tlv_at octets ≡ x → x ≡ Err Truncated
 truncated-answer octets (Ok r) fits h e = absurd (h.not_spelled (r, tlv-takes octets r fits e))
 truncated-answer octets (Err Truncated) fits h e = refl
@@ -478,38 +478,38 @@ truncated-again octets fits h = truncated-answer octets (tlv_at octets) fits h r
 -- ---- what a function answers that reads so
 
 pub is_ok : (octets : List ℕ) (result : Result Tlv BerFault) → IsBytes octets
-    → IsRead reading_of result (tlv_at octets) → IfOk result (λ tlv. Begins octets (reading_of tlv))
-is_ok octets (Ok tlv) fits given = tlv-takes octets (reading_of tlv) fits given
+    → Exact tlv_data result (tlv_at octets) → IfOk result (λ tlv. BeginsWithTlv octets (tlv_data tlv))
+is_ok octets (Ok tlv) fits given = tlv-takes octets (tlv_data tlv) fits given
 is_ok octets (Err d) fits given = tt
 
-pub is-only : (octets : List ℕ) (result : Result Tlv BerFault) (r : Reading)
-    → IsRead reading_of result (tlv_at octets) → Begins octets r
-    → IsOkAnd result (λ tlv. reading_of tlv ≡ r)
+pub is-only : (octets : List ℕ) (result : Result Tlv BerFault) (r : TlvData)
+    → Exact tlv_data result (tlv_at octets) → BeginsWithTlv octets r
+    → IsOkAnd result (λ tlv. tlv_data tlv ≡ r)
 is-only octets (Ok tlv) r given begins =
-    ok-is (reading_of tlv) r (sym given ∙ tlv-again octets r begins)
+    ok-is (tlv_data tlv) r (sym given ∙ tlv-again octets r begins)
 is-only octets (Err d) r given begins =
     absurd (not-err r d (sym (tlv-again octets r begins) ∙ given))
 
 pub is_err : (octets : List ℕ) (result : Result Tlv BerFault) (d : BerFault)
-    → IsRead reading_of result (tlv_at octets) → result ≡ Err d → tlv_at octets ≡ Err d
+    → Exact tlv_data result (tlv_at octets) → result ≡ Err d → tlv_at octets ≡ Err d
 is_err octets (Ok tlv) d given e = absurd (not-err tlv d e)
 is_err octets (Err c) d given e = given ∙ ap Err (err-is c d e)
 
 pub err-is-answer : (octets : List ℕ) (result : Result Tlv BerFault) (d : BerFault)
-    → IsRead reading_of result (tlv_at octets) → tlv_at octets ≡ Err d → result ≡ Err d
-err-is-answer octets (Ok tlv) d given e = absurd (not-err (reading_of tlv) d (sym given ∙ e))
+    → Exact tlv_data result (tlv_at octets) → tlv_at octets ≡ Err d → result ≡ Err d
+err-is-answer octets (Ok tlv) d given e = absurd (not-err (tlv_data tlv) d (sym given ∙ e))
 err-is-answer octets (Err c) d given e = ap Err (err-is c d (sym given ∙ e))
 
 -- ---- the law
 
 -- at most one prefix of an input is spelled, in one way
-pub one_reading : (octets : List ℕ) (r s : Reading) → Begins octets r → Begins octets s → r ≡ s
+pub one_reading : (octets : List ℕ) (r s : TlvData) → BeginsWithTlv octets r → BeginsWithTlv octets s → r ≡ s
 one_reading octets r s a b = ok-is r s (sym (tlv-again octets r a) ∙ tlv-again octets s b)
 
-pub one-front : (octets : List ℕ) (r s : Reading) (a : Begins octets r) (b : Begins octets s)
+pub one-front : (octets : List ℕ) (r s : TlvData) (a : BeginsWithTlv octets r) (b : BeginsWithTlv octets s)
     → a.front ≡ b.front
 one-front octets r s a b =
-    let same : r.rest ≡ s.rest = ap (λ (x : Reading). x.rest) (one_reading octets r s a b) in
+    let same : r.rest ≡ s.rest = ap (λ (x : TlvData). x.rest) (one_reading octets r s a b) in
     append_cancel_right a.front b.front s.rest
     (ap (λ (xs : List ℕ). a.front ++ xs) (sym same) ∙ sym a.parts ∙ b.parts)
 
@@ -522,7 +522,7 @@ len-some [] n is = absurd is
 len-some (first ∷ octets) n is = omega arith
 
 -- a tag and a length take two octets at least
-begins-shorter : (octets : List ℕ) (r : Reading) → Begins octets r
+begins-shorter : (octets : List ℕ) (r : TlvData) → BeginsWithTlv octets r
     → length r.content + length r.rest + 2 ≤ length octets
 begins-shorter octets r begins =
     let s = begins.spelled in
@@ -531,8 +531,8 @@ begins-shorter octets r begins =
     omega (arith, tag-some s.front r.tag s.is_tag, len-some s.len (length r.content) s.is_length)
 
 pub is-shorter : (octets : List ℕ) (result : Result Tlv BerFault) → IsBytes octets
-    → IsRead reading_of result (tlv_at octets)
+    → Exact tlv_data result (tlv_at octets)
     → IfOk result (λ tlv. length tlv.content.now + length tlv.rest.now + 2 ≤ length octets)
 is-shorter octets (Ok tlv) fits given =
-    begins-shorter octets (reading_of tlv) (tlv-takes octets (reading_of tlv) fits given)
+    begins-shorter octets (tlv_data tlv) (tlv-takes octets (tlv_data tlv) fits given)
 is-shorter octets (Err d) fits given = tt

@@ -10,7 +10,7 @@ use Rattle.std.specs.Option.{option_map}
 use Rattle.bay_ber.specs.declared.tag.Tag.{Tag}
 use Rattle.bay_ber.specs.Spelling.{octet_of}
 use Rattle.bay_ber.specs.Writing.{octets_needed, length_octets, element}
-use Rattle.bay_ber.specs.EncoderBuffers.{EncoderBuffer, short_value, empty, text_within_limit, text_with, sheet_with, wrap_as_value, close_sheet, message, value_around, with_headers, IsLength, IsEnd, HasTwoAt, IsOpen}
+use Rattle.bay_ber.specs.EncoderBuffers.{EncoderBuffer, short_value, empty_buffer, text_within_limit, text_with, buffer_with, wrap_as_value, close_value, message, value_around, with_headers, IsTextLength, IsTextEnd, HasTwoAt, IsOpen}
 
 -- a text longer than the limit is none
 pub past : (limit : ℕ) (text : List ℕ) → limit < length text → text_within_limit limit text ≡ None
@@ -59,17 +59,17 @@ joined-nil limit None = refl
 joined-nil limit (Some text) =
     room limit text [] (omega arith) ∙ ap (λ (ys : List ℕ). Some ys) (append-nil text)
 
-pub put_nil : (sheet : EncoderBuffer) → sheet_with sheet [] ≡ sheet
-unfolding sheet_with
-put_nil sheet = rw (joined-nil sheet.limit sheet.text) refl
+pub put_nil : (buffer : EncoderBuffer) → buffer_with buffer [] ≡ buffer
+unfolding buffer_with
+put_nil buffer = rw (joined-nil buffer.limit buffer.text) refl
 
-pub put-put : (sheet : EncoderBuffer) (xs ys : List ℕ)
-    → sheet_with (sheet_with sheet xs) ys ≡ sheet_with sheet (xs ++ ys)
-unfolding sheet_with
-put-put sheet xs ys = rw (joined-joined sheet.limit sheet.text xs ys) refl
+pub put-put : (buffer : EncoderBuffer) (xs ys : List ℕ)
+    → buffer_with (buffer_with buffer xs) ys ≡ buffer_with buffer (xs ++ ys)
+unfolding buffer_with
+put-put buffer xs ys = rw (joined-joined buffer.limit buffer.text xs ys) refl
 
-pub put-twice : (old middle new : EncoderBuffer) (xs ys : List ℕ) → middle ≡ sheet_with old xs
-    → new ≡ sheet_with middle ys → new ≡ sheet_with old (xs ++ ys)
+pub put-twice : (old middle new : EncoderBuffer) (xs ys : List ℕ) → middle ≡ buffer_with old xs
+    → new ≡ buffer_with middle ys → new ≡ buffer_with old (xs ++ ys)
 put-twice old middle new xs ys first last = last ∙ rw first (put-put old xs ys)
 
 -- ---- values
@@ -91,7 +91,7 @@ length-tagged tag content =
     omega (arith, length-append (length_octets (length content)) content)
 
 rewritten-joined : (limit : ℕ) (text : Option (List ℕ)) (start tag : ℕ) (content : List ℕ)
-    → IsLength start text
+    → IsTextLength start text
     → wrap_as_value limit (text_with limit text (tag ∷ 0 ∷ content)) start
     ≡ text_with limit text (short_value tag content)
 rewritten-joined limit None start tag content at = refl
@@ -135,15 +135,15 @@ rewritten-joined limit (Some text) start tag content at =
     ]
 
 -- what was opened, written and closed is the value
-pub closed-put : (sheet : EncoderBuffer) (start tag : ℕ) (content : List ℕ) → IsEnd start sheet
-    → close_sheet (sheet_with sheet (tag ∷ 0 ∷ content)) start
-    ≡ sheet_with sheet (short_value tag content)
-unfolding sheet_with close_sheet IsEnd
-closed-put sheet start tag content at =
-    rw (rewritten-joined sheet.limit sheet.text start tag content at) refl
+pub closed-put : (buffer : EncoderBuffer) (start tag : ℕ) (content : List ℕ) → IsTextEnd start buffer
+    → close_value (buffer_with buffer (tag ∷ 0 ∷ content)) start
+    ≡ buffer_with buffer (short_value tag content)
+unfolding buffer_with close_value IsTextEnd
+closed-put buffer start tag content at =
+    rw (rewritten-joined buffer.limit buffer.text start tag content at) refl
 
 two-at : (limit : ℕ) (text : Option (List ℕ)) (start tag : ℕ) (content : List ℕ)
-    → IsLength start text → HasTwoAt start (text_with limit text (tag ∷ 0 ∷ content))
+    → IsTextLength start text → HasTwoAt start (text_with limit text (tag ∷ 0 ∷ content))
 two-at limit None start tag content at = tt
 two-at limit (Some text) start tag content at =
     let n = length-append text (tag ∷ 0 ∷ content) in
@@ -152,10 +152,10 @@ two-at limit (Some text) start tag content at =
       | inr le ↦ rw (room limit text (tag ∷ 0 ∷ content) le) (omega arith)
     ]
 
-pub is_open-put : (sheet : EncoderBuffer) (start tag : ℕ) (content : List ℕ) → IsEnd start sheet
-    → IsOpen start (sheet_with sheet (tag ∷ 0 ∷ content))
-unfolding sheet_with IsEnd IsOpen
-is_open-put sheet start tag content at = two-at sheet.limit sheet.text start tag content at
+pub is_open-put : (buffer : EncoderBuffer) (start tag : ℕ) (content : List ℕ) → IsTextEnd start buffer
+    → IsOpen start (buffer_with buffer (tag ∷ 0 ∷ content))
+unfolding buffer_with IsTextEnd IsOpen
+is_open-put buffer start tag content at = two-at buffer.limit buffer.text start tag content at
 
 pub element-tagged : (tag : Tag) (content : List ℕ)
     → element tag content ≡ short_value (octet_of tag) content
@@ -164,8 +164,8 @@ element-tagged tag content = refl
 
 pub short-value : (old middle new : EncoderBuffer) (tag : Tag) (octet : ℕ) (content : List ℕ)
     → octet ≡ octet_of tag → length content < 128
-    → middle ≡ sheet_with old (octet ∷ length content ∷ []) → new ≡ sheet_with middle content
-    → new ≡ sheet_with old (element tag content)
+    → middle ≡ buffer_with old (octet ∷ length content ∷ []) → new ≡ buffer_with middle content
+    → new ≡ buffer_with old (element tag content)
 unfolding element
 short-value old middle new tag octet content is few first last =
     let e : length_octets (length content) ≡ length content ∷ [] =
@@ -173,23 +173,23 @@ short-value old middle new tag octet content is few first last =
     last ∙ rw (first, put-put old (octet ∷ length content ∷ []) content, is, e) refl
 
 opened-value : (old opened new : EncoderBuffer) (tag : Tag) (content : List ℕ)
-    → opened ≡ sheet_with old (octet_of tag ∷ 0 ∷ []) → new ≡ sheet_with opened content
-    → new ≡ sheet_with old (octet_of tag ∷ 0 ∷ content)
+    → opened ≡ buffer_with old (octet_of tag ∷ 0 ∷ []) → new ≡ buffer_with opened content
+    → new ≡ buffer_with old (octet_of tag ∷ 0 ∷ content)
 opened-value old opened new tag content first last =
     last ∙ rw first (put-put old (octet_of tag ∷ 0 ∷ []) content)
 
 pub open-value : (old opened new : EncoderBuffer) (tag : Tag) (start : ℕ) (content : List ℕ)
-    → IsEnd start old → opened ≡ sheet_with old (octet_of tag ∷ 0 ∷ [])
-    → new ≡ sheet_with opened content
+    → IsTextEnd start old → opened ≡ buffer_with old (octet_of tag ∷ 0 ∷ [])
+    → new ≡ buffer_with opened content
     → IsOpen start new
 open-value old opened new tag start content at first last =
     rw (opened-value old opened new tag content first last)
     (is_open-put old start (octet_of tag) content at)
 
 pub long-value : (old opened middle new : EncoderBuffer) (tag : Tag) (start : ℕ) (content : List ℕ)
-    → IsEnd start old → opened ≡ sheet_with old (octet_of tag ∷ 0 ∷ [])
-    → middle ≡ sheet_with opened content
-    → new ≡ close_sheet middle start → new ≡ sheet_with old (element tag content)
+    → IsTextEnd start old → opened ≡ buffer_with old (octet_of tag ∷ 0 ∷ [])
+    → middle ≡ buffer_with opened content
+    → new ≡ close_value middle start → new ≡ buffer_with old (element tag content)
 long-value old opened middle new tag start content at first next last =
     last ∙ rw (opened-value old opened middle tag content first next, element-tagged tag content)
     (closed-put old start (octet_of tag) content at)
@@ -202,32 +202,32 @@ flat-map-next f xs i d lt =
     ap (λ (ys : List _). flat_map f ys) (take_more xs i d lt)
     ∙ sym (flat_map_more f [] (take i xs) (get_or xs i d))
 
-pub put-next : {X : Type 0} (sheet : EncoderBuffer) (head : List ℕ) (f : X → List ℕ) (xs : List X)
+pub put-next : {X : Type 0} (buffer : EncoderBuffer) (head : List ℕ) (f : X → List ℕ) (xs : List X)
     (i : ℕ)
     (d : X) → i < length xs
-    → sheet_with (sheet_with sheet (head ++ flat_map f (take i xs))) (f (get_or xs i d))
-    ≡ sheet_with sheet (head ++ flat_map f (take (i + 1) xs))
-put-next sheet head f xs i d lt =
-    put-put sheet (head ++ flat_map f (take i xs)) (f (get_or xs i d))
+    → buffer_with (buffer_with buffer (head ++ flat_map f (take i xs))) (f (get_or xs i d))
+    ≡ buffer_with buffer (head ++ flat_map f (take (i + 1) xs))
+put-next buffer head f xs i d lt =
+    put-put buffer (head ++ flat_map f (take i xs)) (f (get_or xs i d))
     ∙ rw (flat-map-next f xs i d lt, append_assoc head (flat_map f (take i xs)) (f (get_or xs i d)))
     refl
 
 -- the same in a value that was opened
-pub put-item : {X : Type 0} (sheet : EncoderBuffer) (tag : ℕ) (f : X → List ℕ) (xs : List X) (i : ℕ)
+pub put-item : {X : Type 0} (buffer : EncoderBuffer) (tag : ℕ) (f : X → List ℕ) (xs : List X) (i : ℕ)
     (d : X)
     → i < length xs
-    → sheet_with (sheet_with sheet (tag ∷ 0 ∷ flat_map f (take i xs))) (f (get_or xs i d))
-    ≡ sheet_with sheet (tag ∷ 0 ∷ flat_map f (take (i + 1) xs))
-put-item sheet tag f xs i d lt = put-next sheet (tag ∷ 0 ∷ []) f xs i d lt
+    → buffer_with (buffer_with buffer (tag ∷ 0 ∷ flat_map f (take i xs))) (f (get_or xs i d))
+    ≡ buffer_with buffer (tag ∷ 0 ∷ flat_map f (take (i + 1) xs))
+put-item buffer tag f xs i d lt = put-next buffer (tag ∷ 0 ∷ []) f xs i d lt
 
-pub closed-items : {X : Type 0} (sheet : EncoderBuffer) (start tag : ℕ) (f : X → List ℕ)
+pub closed-items : {X : Type 0} (buffer : EncoderBuffer) (start tag : ℕ) (f : X → List ℕ)
     (xs : List X)
     (i : ℕ)
-    → IsEnd start sheet → length xs ≤ i
-    → close_sheet (sheet_with sheet (tag ∷ 0 ∷ flat_map f (take i xs))) start
-    ≡ sheet_with sheet (short_value tag (flat_map f xs))
-closed-items sheet start tag f xs i at all =
-    rw (take_all i xs all) (closed-put sheet start tag (flat_map f xs) at)
+    → IsTextEnd start buffer → length xs ≤ i
+    → close_value (buffer_with buffer (tag ∷ 0 ∷ flat_map f (take i xs))) start
+    ≡ buffer_with buffer (short_value tag (flat_map f xs))
+closed-items buffer start tag f xs i at all =
+    rw (take_all i xs all) (closed-put buffer start tag (flat_map f xs) at)
 
 -- the calls on a writer, one after another
 pub ruleset sheet_rules = (put-put, closed-put, is_open-put, put-item, closed-items, element-tagged)
@@ -246,24 +246,24 @@ from-none limit text =
 
 -- of an empty writer
 pub message_put : (limit : ℕ) (text : List ℕ)
-    → message (sheet_with (empty limit) text) ≡ text_within_limit limit text
-unfolding sheet_with message
+    → message (buffer_with (empty_buffer limit) text) ≡ text_within_limit limit text
+unfolding buffer_with message
 message_put limit text = no-heads (text_with limit (Some []) text) ∙ from-none limit text
 
-pub short-message : (limit : ℕ) (text : List ℕ) (start now : EncoderBuffer) → start ≡ empty limit
-    → now ≡ sheet_with start text → length text ≤ limit → message now ≡ Some text
+pub short-message : (limit : ℕ) (text : List ℕ) (start now : EncoderBuffer) → start ≡ empty_buffer limit
+    → now ≡ buffer_with start text → length text ≤ limit → message now ≡ Some text
 short-message limit text start now is_empty is_put le =
     rw (is_put, is_empty) (message_put limit text ∙ fits limit text le)
 
-pub heads-put : (sheet : EncoderBuffer) (text : List ℕ)
-    → (sheet_with sheet text).heads ≡ sheet.heads
-unfolding sheet_with
-heads-put sheet text = refl
+pub heads-put : (buffer : EncoderBuffer) (text : List ℕ)
+    → (buffer_with buffer text).headers ≡ buffer.headers
+unfolding buffer_with
+headers-put buffer text = refl
 
-pub limit-put : (sheet : EncoderBuffer) (text : List ℕ)
-    → (sheet_with sheet text).limit ≡ sheet.limit
-unfolding sheet_with
-limit-put sheet text = refl
+pub limit-put : (buffer : EncoderBuffer) (text : List ℕ)
+    → (buffer_with buffer text).limit ≡ buffer.limit
+unfolding buffer_with
+limit-put buffer text = refl
 
 -- a value of what is within the limit, if that is
 pub within-longer : (f : List ℕ → List ℕ) (limit : ℕ) (text : List ℕ)
@@ -278,24 +278,24 @@ within-longer f limit text longer =
 
 -- ---- heads
 
-front_of : (head heads : List ℕ) (text : Option (List ℕ))
-    → with_headers (head ++ heads) text
-    ≡ option_map (λ octets. head ++ octets) (with_headers heads text)
-front_of head heads None = refl
-front_of head heads (Some text) = ap (λ (ys : List ℕ). Some ys) (append_assoc head heads text)
+front_of : (head headers : List ℕ) (text : Option (List ℕ))
+    → with_headers (head ++ headers) text
+    ≡ option_map (λ octets. head ++ octets) (with_headers headers text)
+front_of head headers None = refl
+front_of head headers (Some text) = ap (λ (ys : List ℕ). Some ys) (append_assoc head headers text)
 
 -- a head in front of the message
-pub message-front : (sheet : EncoderBuffer) (head : List ℕ)
-    → message (record { limit = sheet.limit; heads = head ++ sheet.heads; text = sheet.text })
-    ≡ option_map (λ octets. head ++ octets) (message sheet)
+pub message-front : (buffer : EncoderBuffer) (head : List ℕ)
+    → message (record { limit = buffer.limit; headers = head ++ buffer.headers; text = buffer.text })
+    ≡ option_map (λ octets. head ++ octets) (message buffer)
 unfolding message
-message-front sheet head = front_of head sheet.heads sheet.text
+message-front buffer head = front_of head buffer.headers buffer.text
 
 pub is-headed : (old new : EncoderBuffer) (tag : Tag) (count : ℕ) (octets : List ℕ)
     → Some octets ≡ message old → count ≡ length octets
     → new ≡ record {
       limit = old.limit;
-      heads = (octet_of tag ∷ length_octets count) ++ old.heads;
+      headers = (octet_of tag ∷ length_octets count) ++ old.headers;
       text = old.text;
     }
     → message new ≡ option_map (element tag) (message old)
@@ -314,9 +314,9 @@ pub content-less : (tag : Tag) (content : List ℕ) → length content < length 
 content-less tag content =
     omega (arith, length-element tag content, length-octets (length content))
 
-no-message : (sheet : EncoderBuffer) → sheet.text ≡ None → message sheet ≡ None
+no-message : (buffer : EncoderBuffer) → buffer.text ≡ None → message buffer ≡ None
 unfolding message
-no-message sheet none = rw none refl
+no-message buffer none = rw none refl
 
 -- a value that is longer than the limit
 pub past-wrapped : (old new : EncoderBuffer) (tag : Tag) (octets : List ℕ)
@@ -338,10 +338,10 @@ fits-wrapped old new tag octets is le headed =
 -- the head of a content, in one octet of the length or more
 pub head-short : (old new : EncoderBuffer) (tag : Tag) (octet count : ℕ) → octet ≡ octet_of tag
     → count < 128
-    → new ≡ record { limit = old.limit; heads = octet ∷ count ∷ old.heads; text = old.text }
+    → new ≡ record { limit = old.limit; headers = octet ∷ count ∷ old.headers; text = old.text }
     → new ≡ record {
       limit = old.limit;
-      heads = octet_of tag ∷ (length_octets count ++ old.heads);
+      headers = octet_of tag ∷ (length_octets count ++ old.headers);
       text = old.text;
     }
 head-short old new tag octet count is few headed =
@@ -353,12 +353,12 @@ pub head-long : (old middle new : EncoderBuffer) (tag : Tag) (octet k : ℕ) (by
     (count : ℕ)
     → octet ≡ octet_of tag → 128 ≤ count → k ≡ octets_needed count
     → bytes ≡ bytes_high_first k count
-    → middle ≡ record { limit = old.limit; heads = bytes ++ old.heads; text = old.text }
+    → middle ≡ record { limit = old.limit; headers = bytes ++ old.headers; text = old.text }
     → new
-    ≡ record { limit = middle.limit; heads = octet ∷ (128 + k) ∷ middle.heads; text = middle.text }
+    ≡ record { limit = middle.limit; headers = octet ∷ (128 + k) ∷ middle.headers; text = middle.text }
     → new ≡ record {
       limit = old.limit;
-      heads = octet_of tag ∷ (length_octets count ++ old.heads);
+      headers = octet_of tag ∷ (length_octets count ++ old.headers);
       text = old.text;
     }
 head-long old middle new tag octet k bytes count is many needed high headed twice =
@@ -370,30 +370,30 @@ head-long old middle new tag octet k bytes count is many needed high headed twic
 pub head-few : (old new : EncoderBuffer) (octet count : ℕ)
     → new ≡ record {
       limit = old.limit;
-      heads = octet ∷ (length_octets count ++ old.heads);
+      headers = octet ∷ (length_octets count ++ old.headers);
       text = old.text;
     }
-    → length new.heads ≤ length old.heads + 6
+    → length new.headers ≤ length old.headers + 6
 head-few old new octet count headed =
     rw headed (omega (
       arith,
-      length-append (length_octets count) old.heads,
+      length-append (length_octets count) old.headers,
       length-length_octets count,
     ))
 
 -- a value in front, its content first
 pub fronted-value : (old middle new : EncoderBuffer) (tag : Tag) (content : List ℕ)
-    → middle ≡ record { limit = old.limit; heads = content ++ old.heads; text = old.text }
+    → middle ≡ record { limit = old.limit; headers = content ++ old.headers; text = old.text }
     → new ≡ record {
       limit = middle.limit;
-      heads = octet_of tag ∷ (length_octets (length content) ++ middle.heads);
+      headers = octet_of tag ∷ (length_octets (length content) ++ middle.headers);
       text = middle.text;
     }
     → new ≡ record {
       limit = old.limit;
-      heads = element tag content ++ old.heads;
+      headers = element tag content ++ old.headers;
       text = old.text;
     }
 unfolding element
 fronted-value old middle new tag content first last =
-    last ∙ rw (first, append_assoc (length_octets (length content)) content old.heads) refl
+    last ∙ rw (first, append_assoc (length_octets (length content)) content old.headers) refl

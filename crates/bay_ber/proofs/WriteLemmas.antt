@@ -9,7 +9,7 @@ use Rattle.std.proofs.Math.Nat.{pow-suc}
 use Rattle.bay_ber.specs.declared.tag.Tag.{Tag}
 use Rattle.bay_ber.specs.Octets.{number_of}
 use Rattle.bay_ber.specs.Spelling.{octet_of, IsLength, Spells}
-use Rattle.bay_ber.specs.Reading.{Begins}
+use Rattle.bay_ber.specs.Reading.{BeginsWithTlv}
 use Rattle.bay_ber.specs.Content.{signed_of, IsInteger, HasBits, IsBits, IsTruth}
 use Rattle.bay_ber.specs.Writing.{octets_needed, length_octets, element, truth_octets, is_needless, without_needless, integer_octets, with_unused_clear, bit_octets, bit_string_octets}
 use Rattle.bay_ber.proofs.ContentLemmas.{signed_of-low, signed_of-high}
@@ -71,7 +71,7 @@ element-spells tag content low short = record {
 }
 
 pub element-begins : (tag : Tag) (content rest : List ℕ) → tag.number < 31 → length content < 2 ^ 32
-    → Begins (element tag content ++ rest) (record { tag = tag; content = content; rest = rest })
+    → BeginsWithTlv (element tag content ++ rest) (record { tag = tag; content = content; rest = rest })
 element-begins tag content rest low short = record {
   front = element tag content;
   spelled = element-spells tag content low short;

@@ -5,36 +5,36 @@ use Rattle.std.proofs.lemmas.List.{append_assoc, length-append, length-drop, len
 use Rattle.std.proofs.Math.Seq.{take-append-add, drop-append-add}
 use Rattle.bay_ber.specs.declared.writer.Writer.TheInside.{Inside}
 use Rattle.bay_ber.specs.Writing.{length_octets}
-use Rattle.bay_ber.specs.EncoderBuffers.{EncoderBuffer, encoder_buffer_of, short_value, held_text, empty, sheet_with, close_sheet, message, IsLength, IsEnd, IsOpen}
+use Rattle.bay_ber.specs.EncoderBuffers.{EncoderBuffer, encoder_buffer_of, short_value, text_unless_over, empty_buffer, buffer_with, close_value, message, IsTextLength, IsTextEnd, IsOpen}
 
 abbrev pub seen : Inside → EncoderBuffer
 seen w = encoder_buffer_of w.limit w.first w.over w.octets.items
 
 -- ---- appending
 
-pub over-put : (w : Inside) (sheet : EncoderBuffer) (more : List ℕ) → seen w ≡ sheet → w.over ≡ true
-    → sheet ≡ sheet_with sheet more
-unfolding sheet_with
-over-put w sheet more is over = rw (← is, over) refl
+pub over-put : (w : Inside) (buffer : EncoderBuffer) (more : List ℕ) → seen w ≡ buffer → w.over ≡ true
+    → buffer ≡ buffer_with buffer more
+unfolding buffer_with
+over-put w buffer more is over = rw (← is, over) refl
 
-pub past-put : (w : Inside) (sheet : EncoderBuffer) (more : List ℕ) → seen w ≡ sheet
+pub past-put : (w : Inside) (buffer : EncoderBuffer) (more : List ℕ) → seen w ≡ buffer
     → w.over ≡ false
     → 64 ≤ length w.octets.items → length w.octets.items ≤ 64 + w.limit
     → 64 + w.limit - length w.octets.items < length more
-    → encoder_buffer_of w.limit w.first true w.octets.items ≡ sheet_with sheet more
-unfolding sheet_with
-past-put w sheet more is clear front fit past =
+    → encoder_buffer_of w.limit w.first true w.octets.items ≡ buffer_with buffer more
+unfolding buffer_with
+past-put w buffer more is clear front fit past =
     let t = drop 64 w.octets.items in
     let m = length-drop 64 w.octets.items in
     rw (← is, clear, lt-ltb (w.limit - length t) (length more) (omega arith)) refl
 
-pub fits-put : (w : Inside) (sheet : EncoderBuffer) (more new : List ℕ) → seen w ≡ sheet
+pub fits-put : (w : Inside) (buffer : EncoderBuffer) (more new : List ℕ) → seen w ≡ buffer
     → w.over ≡ false
     → 64 ≤ length w.octets.items → length w.octets.items ≤ 64 + w.limit
     → length more ≤ 64 + w.limit - length w.octets.items → new ≡ w.octets.items ++ more
-    → encoder_buffer_of w.limit w.first w.over new ≡ sheet_with sheet more
-unfolding sheet_with
-fits-put w sheet more new is clear front fit room added =
+    → encoder_buffer_of w.limit w.first w.over new ≡ buffer_with buffer more
+unfolding buffer_with
+fits-put w buffer more new is clear front fit room added =
     let t = drop 64 w.octets.items in
     let m = length-drop 64 w.octets.items in
     rw (
@@ -49,9 +49,9 @@ fits-put w sheet more new is clear front fit room added =
 -- ---- beginning again
 
 -- a writer cut to the room of its heads holds no text
-pub cleared : (w : Inside) (sheet : EncoderBuffer) (new : List ℕ) → seen w ≡ sheet
-    → new ≡ take 64 w.octets.items → encoder_buffer_of w.limit 64 false new ≡ empty sheet.limit
-cleared w sheet new is cut =
+pub cleared : (w : Inside) (buffer : EncoderBuffer) (new : List ℕ) → seen w ≡ buffer
+    → new ≡ take 64 w.octets.items → encoder_buffer_of w.limit 64 false new ≡ empty_buffer buffer.limit
+cleared w buffer new is cut =
     let n = ap length cut ∙ length-take 64 w.octets.items in
     let m = length-take 64 new in
     rw (← is, drop_all 64 new (omega arith), drop_all 64 (take 64 new) (omega arith)) refl
@@ -59,27 +59,27 @@ cleared w sheet new is cut =
 -- ---- a value in place
 
 at-end : (over : Bool) (octets : List ℕ) (place : ℕ) → place ≡ length octets - 64
-    → IsLength place (held_text over (drop 64 octets))
+    → IsTextLength place (text_unless_over over (drop 64 octets))
 at-end true octets place is = tt
 at-end false octets place is = is ∙ sym (length-drop 64 octets)
 
-pub is_end : (w : Inside) (sheet : EncoderBuffer) (place : ℕ) → seen w ≡ sheet
-    → place ≡ length w.octets.items - 64 → IsEnd place sheet
-unfolding IsEnd
-is_end w sheet place is at = rw (← is) (at-end w.over w.octets.items place at)
+pub is_end : (w : Inside) (buffer : EncoderBuffer) (place : ℕ) → seen w ≡ buffer
+    → place ≡ length w.octets.items - 64 → IsTextEnd place buffer
+unfolding IsTextEnd
+is_end w buffer place is at = rw (← is) (at-end w.over w.octets.items place at)
 
-pub is_open : (w : Inside) (sheet : EncoderBuffer) (start : ℕ) → seen w ≡ sheet → w.over ≡ false
-    → IsOpen start sheet → 64 + start + 2 ≤ length w.octets.items
+pub is_open : (w : Inside) (buffer : EncoderBuffer) (start : ℕ) → seen w ≡ buffer → w.over ≡ false
+    → IsOpen start buffer → 64 + start + 2 ≤ length w.octets.items
 unfolding IsOpen
-is_open w sheet start is clear open_here =
-    let text : sheet.text ≡ Some (drop 64 w.octets.items) = rw (← is, clear) refl in
+is_open w buffer start is clear open_here =
+    let text : buffer.text ≡ Some (drop 64 w.octets.items) = rw (← is, clear) refl in
     let two = rw text at open_here in
     omega (arith, two, length-drop 64 w.octets.items)
 
-pub over-closed : (w : Inside) (sheet : EncoderBuffer) (start : ℕ) → seen w ≡ sheet → w.over ≡ true
-    → sheet ≡ close_sheet sheet start
-unfolding close_sheet
-over-closed w sheet start is over = rw (← is, over) refl
+pub over-closed : (w : Inside) (buffer : EncoderBuffer) (start : ℕ) → seen w ≡ buffer → w.over ≡ true
+    → buffer ≡ close_value buffer start
+unfolding close_value
+over-closed w buffer start is over = rw (← is, over) refl
 
 -- how long the text is with the value in place
 value-length : (text : List ℕ) (start tag more : ℕ) → start + 2 ≤ length text
@@ -94,13 +94,13 @@ value-length text start tag more two is =
     let b = length-drop (start + 2) text in
     omega arith
 
-pub past-closed : (w : Inside) (sheet : EncoderBuffer) (start count more : ℕ) → seen w ≡ sheet
+pub past-closed : (w : Inside) (buffer : EncoderBuffer) (start count more : ℕ) → seen w ≡ buffer
     → w.over ≡ false → 64 + start + 2 ≤ length w.octets.items
     → length w.octets.items ≤ 64 + w.limit → count ≡ length w.octets.items - (64 + start + 2)
     → more + 1 ≡ length (length_octets count) → 64 + w.limit - length w.octets.items < more
-    → encoder_buffer_of w.limit w.first true w.octets.items ≡ close_sheet sheet start
-unfolding close_sheet
-past-closed w sheet start count more is clear two fit counted size past =
+    → encoder_buffer_of w.limit w.first true w.octets.items ≡ close_value buffer start
+unfolding close_value
+past-closed w buffer start count more is clear two fit counted size past =
     let t = drop 64 w.octets.items in
     let m = length-drop 64 w.octets.items in
     let c : length (drop (start + 2) t) ≡ count = length-drop (start + 2) t ∙ omega arith in
@@ -142,22 +142,22 @@ value-in-place octets place start is two =
     )
     refl
 
-pub fits-closed : (w : Inside) (sheet : EncoderBuffer) (start count more place : ℕ) (new : List ℕ)
-    → seen w ≡ sheet → w.over ≡ false → 64 + start + 2 ≤ length w.octets.items
+pub fits-closed : (w : Inside) (buffer : EncoderBuffer) (start count more place : ℕ) (new : List ℕ)
+    → seen w ≡ buffer → w.over ≡ false → 64 + start + 2 ≤ length w.octets.items
     → length w.octets.items ≤ 64 + w.limit → count ≡ length w.octets.items - (64 + start + 2)
     → more + 1 ≡ length (length_octets count) → more ≤ 64 + w.limit - length w.octets.items
     → place ≡ 64 + (start + 1)
     → new ≡ take place w.octets.items ++ (length_octets count ++ drop (place + 1) w.octets.items)
-    → encoder_buffer_of w.limit w.first w.over new ≡ close_sheet sheet start
-unfolding close_sheet
-fits-closed w sheet start count more place new is clear two fit counted size room at written =
+    → encoder_buffer_of w.limit w.first w.over new ≡ close_value buffer start
+unfolding close_value
+fits-closed w buffer start count more place new is clear two fit counted size room at written =
     let o = w.octets.items in
     let t = drop 64 o in
     let m = length-drop 64 o in
     let c : length (drop (start + 2) t) ≡ count = length-drop (start + 2) t ∙ omega arith in
     let n = value-length t start (get_or t start 0) more (omega arith) (rw c size) in
     let a = length-take-le place o (omega arith) in
-    let heads : take 64 new ≡ take 64 o =
+    let headers : take 64 new ≡ take 64 o =
     rw (
       written,
       take-append-le 64 (take place o) (length_octets count ++ drop (place + 1) o)
@@ -170,7 +170,7 @@ fits-closed w sheet start count more place new is clear two fit counted size roo
     rw (
       ← is,
       clear,
-      heads,
+      headers,
       text,
       le-ltb w.limit (length (take start t ++ short_value (get_or t start 0) (drop (start + 2) t)))
           (omega arith),
@@ -194,12 +194,12 @@ room-in-front : (first : ℕ) (octets : List ℕ) → 64 ≤ length octets
 room-in-front first octets front =
     length-drop first (take 64 octets) ∙ ap (λ (n : ℕ). n - first) (length-take-le 64 octets front)
 
-pub head-fits : (w : Inside) (sheet : EncoderBuffer) (head : List ℕ) → seen w ≡ sheet
-    → 64 ≤ length w.octets.items → w.first ≤ 64 → length head + length sheet.heads ≤ 64
+pub head-fits : (w : Inside) (buffer : EncoderBuffer) (head : List ℕ) → seen w ≡ buffer
+    → 64 ≤ length w.octets.items → w.first ≤ 64 → length head + length buffer.headers ≤ 64
     → length head ≤ w.first
-head-fits w sheet head is front heads fits =
+head-fits w buffer head is front headers fits =
     let n = room-in-front w.first w.octets.items front in
-    let e : length sheet.heads ≡ length (drop w.first (take 64 w.octets.items)) =
+    let e : length buffer.headers ≡ length (drop w.first (take 64 w.octets.items)) =
     rw (← is) refl in
     omega arith
 
@@ -208,7 +208,7 @@ head-in-front : (first n : ℕ) (octets head : List ℕ) → n ≡ length head �
     → 64 ≤ length octets
     → drop (first - n) (take 64 (take (first - n) octets ++ (head ++ drop (first - n + n) octets)))
     ≡ head ++ drop first (take 64 octets)
-head-in-front first n octets head count fits heads front =
+head-in-front first n octets head count fits headers front =
     let k = first - n in
     let rest = drop (k + n) octets in
     let new = take k octets ++ (head ++ rest) in
@@ -231,7 +231,7 @@ head-in-front first n octets head count fits heads front =
 text-stays : (first n : ℕ) (octets head : List ℕ) → n ≡ length head → n ≤ first → first ≤ 64
     → 64 ≤ length octets
     → drop 64 (take (first - n) octets ++ (head ++ drop (first - n + n) octets)) ≡ drop 64 octets
-text-stays first n octets head count fits heads front =
+text-stays first n octets head count fits headers front =
     let k = first - n in
     let sum : k + n ≡ first = omega arith in
     let a = length-take-le k octets (omega arith) in
@@ -244,31 +244,31 @@ text-stays first n octets head count fits heads front =
     ∙ rw (drop-drop (64 - first) (k + n) octets, sum, all) refl)
 
 -- a head copied in front of the first octet is one head more
-pub fronted : (w : Inside) (sheet : EncoderBuffer) (head new : List ℕ) → seen w ≡ sheet
+pub fronted : (w : Inside) (buffer : EncoderBuffer) (head new : List ℕ) → seen w ≡ buffer
     → 64 ≤ length w.octets.items → w.first ≤ 64 → length head ≤ w.first
     → new ≡ take (w.first - length head) w.octets.items
     ++ (head ++ drop (w.first - length head + length head) w.octets.items)
     → encoder_buffer_of w.limit (w.first - length head) w.over new
-    ≡ record { limit = sheet.limit; heads = head ++ sheet.heads; text = sheet.text }
-fronted w sheet head new is front heads fits written =
+    ≡ record { limit = buffer.limit; headers = head ++ buffer.headers; text = buffer.text }
+fronted w buffer head new is front headers fits written =
     rw (
       ← is,
       written,
-      head-in-front w.first (length head) w.octets.items head refl fits heads front,
-      text-stays w.first (length head) w.octets.items head refl fits heads front,
+      head-in-front w.first (length head) w.octets.items head refl fits headers front,
+      text-stays w.first (length head) w.octets.items head refl fits headers front,
     ) refl
 
-pub message-is : (w : Inside) (sheet : EncoderBuffer) → seen w ≡ sheet → w.over ≡ false
+pub message-is : (w : Inside) (buffer : EncoderBuffer) → seen w ≡ buffer → w.over ≡ false
     → 64 ≤ length w.octets.items → w.first ≤ 64
-    → Some (drop w.first w.octets.items) ≡ message sheet
+    → Some (drop w.first w.octets.items) ≡ message buffer
 unfolding message
-message-is w sheet is clear front heads =
+message-is w buffer is clear front headers =
     let o = w.octets.items in
     let n = length-take-le 64 o front in
     let e = drop-append-le w.first (take 64 o) (drop 64 o) (omega arith) in
     rw (← is, clear, ← e, take-append-drop 64 o) refl
 
-pub over-message : (w : Inside) (sheet : EncoderBuffer) → seen w ≡ sheet → w.over ≡ true
-    → None ≡ message sheet
+pub over-message : (w : Inside) (buffer : EncoderBuffer) → seen w ≡ buffer → w.over ≡ true
+    → None ≡ message buffer
 unfolding message
-over-message w sheet is over = rw (← is, over) refl
+over-message w buffer is over = rw (← is, over) refl

@@ -50,20 +50,20 @@ pub record BitString : Type 0 where
   pub count : ℕ
 
 -- the view of a bit string
-abbrev pub bits_of : Bits → BitString
-bits_of b = record { octets = b.octets.now; count = b.count }
+abbrev pub bit_string_view : Bits → BitString
+bit_string_view b = record { octets = b.octets.now; count = b.count }
 
 -- ---- X.690 8.3: integers as they are read; laws prove that this agrees with the relation above
 
 -- whether a number is within 64 bits
-abbrev pub is_long : ℤ → Bool
-is_long (pos n) = nat_lt n 9223372036854775808
-is_long (negsuc n) = nat_lt n 9223372036854775808
+abbrev pub fits_64_bits : ℤ → Bool
+fits_64_bits (pos n) = nat_lt n 9223372036854775808
+fits_64_bits (negsuc n) = nat_lt n 9223372036854775808
 
 -- whether the content has 1 to 9 octets and its number is within 64 bits
 unfoldable pub is_integer : List ℕ → Bool
 is_integer content =
-    nat_lt 0 (length content) && (nat_lt (length content) 10 && is_long (signed_of content))
+    nat_lt 0 (length content) && (nat_lt (length content) 10 && fits_64_bits (signed_of content))
 
 -- the number of an integer's content, or None
 abbrev pub integer_in : List ℕ → Option ℤ
@@ -72,8 +72,8 @@ integer_in content = if is_integer content then Some (signed_of content) else No
 -- ---- X.690 8.6: bit strings as they are read; laws prove that this agrees with the relation above
 
 -- whether the last octet may have this number of unused bits
-unfoldable pub are_unused : ℕ → List ℕ → Bool
-are_unused unused octets =
+unfoldable pub is_unused_count : ℕ → List ℕ → Bool
+is_unused_count unused octets =
     nat_lt unused 8 && (nat_lt unused (8 * length octets + 1)
     && nat_lt (length octets) 2305843009213693952)
 
@@ -81,7 +81,7 @@ are_unused unused octets =
 abbrev pub bits_in : List ℕ → Option BitString
 bits_in [] = None
 bits_in (unused ∷ octets) =
-    if are_unused unused octets
+    if is_unused_count unused octets
     then Some (record { octets = octets; count = 8 * length octets - unused }) else None
 
 -- ---- X.690 8.2: booleans as they are read; laws prove that this agrees with the relation above

@@ -10,12 +10,12 @@ use Rattle.bay_ber.specs.Writing.{length_octets, element}
 -- not count.
 pub record EncoderBuffer : Type 0 where
   pub limit : ℕ
-  pub heads : List ℕ
+  pub headers : List ℕ
   pub text : Option (List ℕ)
 
 -- a buffer with an empty text and no headers
-abbrev pub empty : ℕ → EncoderBuffer
-empty limit = record { limit = limit; heads = []; text = Some [] }
+abbrev pub empty_buffer : ℕ → EncoderBuffer
+empty_buffer limit = record { limit = limit; headers = []; text = Some [] }
 
 -- a text, or None if it is longer than the limit
 abbrev pub text_within_limit : ℕ → List ℕ → Option (List ℕ)
@@ -28,12 +28,12 @@ text_with limit (Some text) octets =
     if nat_lt (limit - length text) (length octets) then None else Some (text ++ octets)
 
 -- the buffer with octets appended to its text
-unfoldable pub sheet_with : EncoderBuffer → List ℕ → EncoderBuffer
-sheet_with sheet octets =
+unfoldable pub buffer_with : EncoderBuffer → List ℕ → EncoderBuffer
+buffer_with buffer octets =
     record {
-      limit = sheet.limit;
-      heads = sheet.heads;
-      text = text_with sheet.limit sheet.text octets;
+      limit = buffer.limit;
+      headers = buffer.headers;
+      text = text_with buffer.limit buffer.text octets;
     }
 
 -- a value: a tag's octet, the shortest length, and the content
@@ -50,22 +50,22 @@ wrap_as_value limit (Some text) start =
 
 -- the buffer with the value at `start` closed: all octets after its tag and the placeholder of its
 -- length become its content
-unfoldable pub close_sheet : EncoderBuffer → ℕ → EncoderBuffer
-close_sheet sheet start =
+unfoldable pub close_value : EncoderBuffer → ℕ → EncoderBuffer
+close_value buffer start =
     record {
-      limit = sheet.limit;
-      heads = sheet.heads;
-      text = wrap_as_value sheet.limit sheet.text start;
+      limit = buffer.limit;
+      headers = buffer.headers;
+      text = wrap_as_value buffer.limit buffer.text start;
     }
 
 -- the position is the length of the text, if there is one
-abbrev pub IsLength : ℕ → Option (List ℕ) → Type 0
-IsLength place None = Unit {0}
-IsLength place (Some text) = place ≡ length text
+abbrev pub IsTextLength : ℕ → Option (List ℕ) → Type 0
+IsTextLength place None = Unit {0}
+IsTextLength place (Some text) = place ≡ length text
 
 -- the position is the end of the text, if there is one
-unfoldable pub IsEnd : ℕ → EncoderBuffer → Type 0
-IsEnd place sheet = IsLength place sheet.text
+unfoldable pub IsTextEnd : ℕ → EncoderBuffer → Type 0
+IsTextEnd place buffer = IsTextLength place buffer.text
 
 -- the text, if there is one, has two octets at the position
 abbrev pub HasTwoAt : ℕ → Option (List ℕ) → Type 0
@@ -74,25 +74,25 @@ HasTwoAt place (Some text) = place + 2 ≤ length text
 
 -- the text, if there is one, has room at the position for a tag and the placeholder of the length
 unfoldable pub IsOpen : ℕ → EncoderBuffer → Type 0
-IsOpen place sheet = HasTwoAt place sheet.text
+IsOpen place buffer = HasTwoAt place buffer.text
 
 -- the text after the headers, if there is one
 abbrev pub with_headers : List ℕ → Option (List ℕ) → Option (List ℕ)
-with_headers heads None = None
-with_headers heads (Some text) = Some (heads ++ text)
+with_headers headers None = None
+with_headers headers (Some text) = Some (headers ++ text)
 
 -- the message: the headers followed by the text, if there is one
 unfoldable pub message : EncoderBuffer → Option (List ℕ)
-message sheet = with_headers sheet.heads sheet.text
+message buffer = with_headers buffer.headers buffer.text
 
 -- a message as the content of a value, or None if that is longer than the limit
 abbrev pub value_around : Tag → ℕ → Option (List ℕ) → Option (List ℕ)
 value_around tag limit text = text >>= λ octets. text_within_limit limit (element tag octets)
 
 -- the text, or None if it got too long
-abbrev pub held_text : Bool → List ℕ → Option (List ℕ)
-held_text true octets = None
-held_text false octets = Some octets
+abbrev pub text_unless_over : Bool → List ℕ → Option (List ℕ)
+text_unless_over true octets = None
+text_unless_over false octets = Some octets
 
 -- the view of a writer: the headers are the octets from `first` up to 64, and the text those from
 -- 64 on
@@ -100,14 +100,14 @@ abbrev pub encoder_buffer_of : ℕ → ℕ → Bool → List ℕ → EncoderBuff
 encoder_buffer_of limit first over octets =
     record {
       limit = limit;
-      heads = drop first (take 64 octets);
-      text = held_text over (drop 64 octets);
+      headers = drop first (take 64 octets);
+      text = text_unless_over over (drop 64 octets);
     }
 
 -- The invariant of a writer: 64 octets of headroom, whose octets before `first` are free, followed
 -- by a capacity of the limit.
 pub record IsSound (count capacity first limit : ℕ) : Type 0 where
-  pub heads : first ≤ 64
+  pub headers : first ≤ 64
   pub front : 64 ≤ count
   pub within : count ≤ 64 + limit
   pub room : 64 + limit ≤ capacity

@@ -13,24 +13,24 @@ use Rattle.bay_ber.specs.Spelling.{IsTag, Spells}
 -- ---- own: the value that octets begin with
 
 -- a value that was read, and the octets after it, as values, without the slices they borrow from
-pub record Reading : Type 0 where
+pub record TlvData : Type 0 where
   pub tag : Tag
   pub content : List ℕ
   pub rest : List ℕ
 
 -- the view of a value that was read
-abbrev pub reading_of : Tlv → Reading
-reading_of t = record { tag = t.tag; content = t.content.now; rest = t.rest.now }
+abbrev pub tlv_data : Tlv → TlvData
+tlv_data t = record { tag = t.tag; content = t.content.now; rest = t.rest.now }
 
 -- A prefix of the octets encodes the value, and the rest follows it.
-pub record Begins (octets : List ℕ) (r : Reading) : Type 0 where
+pub record BeginsWithTlv (octets : List ℕ) (r : TlvData) : Type 0 where
   pub front : List ℕ
   pub spelled : Spells front r.tag r.content
   pub parts : octets ≡ front ++ r.rest
 
 -- Some prefix of the octets encodes a value.
-abbrev pub IsSpelled : List ℕ → Type 0
-IsSpelled octets = (r : Reading) × Begins octets r
+abbrev pub IsPrefixSpelled : List ℕ → Type 0
+IsPrefixSpelled octets = (r : TlvData) × BeginsWithTlv octets r
 
 -- The first octet has 31 in its low five bits, and an octet of 128 or more follows it (X.690
 -- 8.1.2.4).
@@ -60,7 +60,7 @@ pub record IsTruncated (octets : List ℕ) : Type 0 where
   pub no_large_tag : HasLargeTag octets → ⊥
   pub not_indefinite : IsIndefinite octets → ⊥
   pub no_long_length : HasLongLength octets → ⊥
-  pub not_spelled : IsSpelled octets → ⊥
+  pub not_spelled : IsPrefixSpelled octets → ⊥
 
 -- ---- X.690 8.1.2: tags, read from the left; laws prove that this agrees with the relations above
 
@@ -80,9 +80,9 @@ abbrev pub low_bits : ℕ → ℕ
 low_bits first = first % 32
 
 -- a tag of two octets, from the first and the octets after it (X.690 8.1.2.4)
-abbrev pub second_at : ℕ → List ℕ → Result (Tag × List ℕ) BerFault
-second_at first [] = Err Truncated
-second_at first (second ∷ octets) =
+abbrev pub two_octet_tag : ℕ → List ℕ → Result (Tag × List ℕ) BerFault
+two_octet_tag first [] = Err Truncated
+two_octet_tag first (second ∷ octets) =
     if nat_lt second 128 then Ok
     (record { class = class_of first; constructed = is_constructed first; number = second }, octets)
     else Err TagTooLarge
@@ -91,7 +91,7 @@ second_at first (second ∷ octets) =
 unfoldable pub tag_at : List ℕ → Result (Tag × List ℕ) BerFault
 tag_at [] = Err Truncated
 tag_at (first ∷ octets) =
-    if low_bits first == 31 then second_at first octets
+    if low_bits first == 31 then two_octet_tag first octets
     else Ok (
       record {
         class = class_of first;
@@ -116,7 +116,7 @@ length_at (first ∷ octets) =
 -- ---- X.690 8.1.1: values, read from the left
 
 -- the value that octets begin with, and the octets after it
-unfoldable pub tlv_at : List ℕ → Result Reading BerFault
+unfoldable pub tlv_at : List ℕ → Result TlvData BerFault
 tlv_at octets = do
   tag ← tag_at octets
   n ← length_at tag.1

@@ -6,7 +6,7 @@ use Rattle.bay_ber.specs.declared.tag.Tag.{Tag}
 use Rattle.bay_ber.specs.declared.values.Value.{Value}
 use Rattle.bay_ber.specs.Content.{integer_in}
 use Rattle.bay_ber.specs.Spelling.{Spells}
-use Rattle.bay_ber.specs.Reading.{Reading, Begins, IsSpelled, tlv_at}
+use Rattle.bay_ber.specs.Reading.{TlvData, BeginsWithTlv, IsPrefixSpelled, tlv_at}
 use Rattle.bay_ber.specs.Tags.{same_tag}
 use Rattle.bay_base.specs.Options.{◌>>=◌}
 
@@ -35,26 +35,26 @@ SpellAll octets (part ∷ parts) =
 
 -- The result of reading the next value, and the octets left: None if no octet is left; else the
 -- first value and the octets after it; or a fault, if the octets begin with no value.
-abbrev pub Next : List ℕ → Result (Option Value) BerFault → List ℕ → Type 0
-Next old (Ok None) new = (old ≡ []) × (new ≡ [])
-Next old (Ok (Some value)) new =
-    Begins old (record { tag = value.tag; content = value.content.now; rest = new })
-Next old (Err fault) new = (new ≡ old) × (old ≡ [] → ⊥) × (IsSpelled old → ⊥)
+abbrev pub NextValue : List ℕ → Result (Option Value) BerFault → List ℕ → Type 0
+NextValue old (Ok None) new = (old ≡ []) × (new ≡ [])
+NextValue old (Ok (Some value)) new =
+    BeginsWithTlv old (record { tag = value.tag; content = value.content.now; rest = new })
+NextValue old (Err fault) new = (new ≡ old) × (old ≡ [] → ⊥) × (IsPrefixSpelled old → ⊥)
 
 -- ---- own: the values that octets encode; laws prove that this agrees with the relation above
 
 -- the value that was read, without the octets after it
-abbrev pub part_in : Reading → Part
-part_in r = record { tag = r.tag; content = r.content }
+abbrev pub part_of_tlv : TlvData → Part
+part_of_tlv r = record { tag = r.tag; content = r.content }
 
 -- values before others, if there are others (None stays None)
 abbrev pub prepend_values : List Part → Option (List Part) → Option (List Part)
 prepend_values front = option_map (λ parts. front ++ parts)
 
 -- a value that was read, before those in the rest, if the rest are values
-abbrev pub with_value_first : Result Reading BerFault → (List ℕ → Option (List Part))
+abbrev pub with_value_first : Result TlvData BerFault → (List ℕ → Option (List Part))
     → Option (List Part)
-with_value_first (Ok r) rest = prepend_values (part_in r ∷ []) (rest r.rest)
+with_value_first (Ok r) rest = prepend_values (part_of_tlv r ∷ []) (rest r.rest)
 with_value_first (Err fault) rest = None
 
 -- the values that the octets encode, if there are at most `most`
@@ -101,13 +101,13 @@ values_with_tags tags octets =
     values_in octets >>= λ parts. at_most_five (filter (has_tag_among tags) parts)
 
 -- the results of reading each value, or None if one can't be read
-abbrev pub all_of : {B : Type 0} → (Part → Option B) → List Part → Option (List B)
-all_of f [] = Some []
-all_of f (part ∷ parts) = f part >>= λ x. all_of f parts >>= λ xs. Some (x ∷ xs)
+abbrev pub read_each : {B : Type 0} → (Part → Option B) → List Part → Option (List B)
+read_each f [] = Some []
+read_each f (part ∷ parts) = f part >>= λ x. read_each f parts >>= λ xs. Some (x ∷ xs)
 
 -- the results of reading each value that the octets encode, or None if one can't be read
 abbrev pub each_in : {B : Type 0} → (Part → Option B) → List ℕ → Option (List B)
-each_in f octets = values_in octets >>= all_of f
+each_in f octets = values_in octets >>= read_each f
 
 -- the content of a value, if the value has this tag (X.690 8.14)
 abbrev pub content_with_tag : Tag → Part → Option (List ℕ)
@@ -118,8 +118,8 @@ unfoldable pub integer_under : Tag → Part → Option ℤ
 integer_under tag part = content_with_tag tag part >>= integer_in
 
 -- the result of reading the next value, and the octets left, by the function `values_in`
-abbrev pub NextIn : List ℕ → Result (Option Value) BerFault → List ℕ → Type 0
-NextIn old (Ok None) new = values_in old ≡ Some []
-NextIn old (Ok (Some value)) new =
+abbrev pub NextByFunction : List ℕ → Result (Option Value) BerFault → List ℕ → Type 0
+NextByFunction old (Ok None) new = values_in old ≡ Some []
+NextByFunction old (Ok (Some value)) new =
     values_in old ≡ prepend_values (part_of value ∷ []) (values_in new)
-NextIn old (Err fault) new = values_in old ≡ None
+NextByFunction old (Err fault) new = values_in old ≡ None

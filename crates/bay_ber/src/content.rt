@@ -90,11 +90,11 @@ fn bits_of_octets(unused: u8, octets: &[u8]) -> Result<Bits<'_>, BerFault>
 pub fn bits_of(content: &[u8]) -> Result<Bits<'_>, BerFault>
     ensures ok { IfOk result (λ bits. IsBits content.now bits.octets.now bits.count) }
     ensures only { (b : BitString) → IsBits content.now b.octets b.count
-        → IsOkAnd result (λ bits. spec.bits_of bits ≡ b) }
+        → IsOkAnd result (λ bits. spec.bit_string_view bits ≡ b) }
     ensures err { IfErr result
         (λ fault. (fault ≡ BerFault.BadContent)
         × ((octets : List ℕ) (count : ℕ) → IsBits content.now octets count → ⊥)) }
-    ensures exact { option_map spec.bits_of (result_ok result) ≡ bits_in content.now }
+    ensures exact { option_map spec.bit_string_view (result_ok result) ≡ bits_in content.now }
 {
     match content {
         [unused, octets @ ..] => bits_of_octets(*unused, octets),

@@ -4,7 +4,7 @@ ghost use Rattle.bay_ber.specs.Values.{part_of, append_if_tagged, values_with_ta
 ghost use Rattle.bay_ber.specs.Values as spec;
 
 use crate::tag::Tag;
-use crate::values::{Few, Value, Values};
+use crate::values::{FewValues, Value, Values};
 
 // Returns whether a value has one of these tags.
 fn has_tag_among(value: &Value<'_>, tags: &[Tag]) -> bool
@@ -15,7 +15,7 @@ fn has_tag_among(value: &Value<'_>, tags: &[Tag]) -> bool
 
 // Appends a value to the known ones, if it has one of these tags. Returns `None` if there are
 // already five.
-fn add_known<'a>(known: &mut Few<'a>, value: Value<'a>, tags: &[Tag]) -> Option<()>
+fn add_known<'a>(known: &mut FewValues<'a>, value: Value<'a>, tags: &[Tag]) -> Option<()>
     requires { length known.old ≤ 5 }
     ensures some { OnSome result
         ((known.new ≡ append_if_tagged tags.now known.old (part_of value.entry))
@@ -32,10 +32,10 @@ fn add_known<'a>(known: &mut Few<'a>, value: Value<'a>, tags: &[Tag]) -> Option<
 /// Returns those of the consecutive values in the octets whose tags are in `tags`, in order. The
 /// other values may have any tags (X.690 8.11). Returns `None` if the octets are not consecutive
 /// values, or if more than five values have one of the tags.
-pub fn known_values<'a>(octets: &'a [u8], tags: &[Tag]) -> Option<Few<'a>>
+pub fn known_values<'a>(octets: &'a [u8], tags: &[Tag]) -> Option<FewValues<'a>>
     ensures { result ≡ values_with_tags tags.now octets.now }
 {
-    let mut known = Few::new();
+    let mut known = FewValues::new();
     let mut values = Values::new(octets);
     loop {
         match values.next_value() {

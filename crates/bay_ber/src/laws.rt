@@ -3,7 +3,7 @@ ghost use Rattle.std.specs.Prelude.{◌≡◌, ◌*◌, ◌^◌, ◌<◌, ◌≤
 ghost use Rattle.std.specs.Int.{w64};
 ghost use Rattle.bay_ber.specs.Content.{IsInteger, IsBits, IsTruth};
 ghost use Rattle.bay_ber.specs.Octets.{AreOctets};
-ghost use Rattle.bay_ber.specs.Reading.{Reading, Begins, class_of, is_constructed, low_bits};
+ghost use Rattle.bay_ber.specs.Reading.{TlvData, BeginsWithTlv, class_of, is_constructed, low_bits};
 ghost use Rattle.bay_ber.specs.Spelling.{identifier, octet_of, Spells};
 ghost use Rattle.bay_ber.specs.Writing.{element, element_length, integer_octets, truth_octets, bit_octets, bit_string_octets};
 ghost use Rattle.bay_ber.specs.Values.{Part, SpellAll, values_in};
@@ -11,9 +11,9 @@ ghost use Rattle.bay_ber.specs.declared.tag.Tag.{Tag};
 
 /// At most one prefix of some octets encodes a value, and it encodes only one.
 pub fn one_spelling()
-    ensures reading { (octets : List ℕ) (r s : Reading) → Begins octets r → Begins octets s
+    ensures reading { (octets : List ℕ) (r s : TlvData) → BeginsWithTlv octets r → BeginsWithTlv octets s
         → r ≡ s }
-    ensures prefix { (octets : List ℕ) (r s : Reading) (a : Begins octets r) (b : Begins octets s)
+    ensures prefix { (octets : List ℕ) (r s : TlvData) (a : BeginsWithTlv octets r) (b : BeginsWithTlv octets s)
         → a.front ≡ b.front }
 {}
 
@@ -39,7 +39,7 @@ pub fn written_is_read()
     ensures octet { (octet : ℕ) → octet < 256
         → octet ≡ identifier (class_of octet) (is_constructed octet) (low_bits octet) }
     ensures value { (tag : Tag) (content rest : List ℕ) → tag.number < 31 → length content < 2 ^ 32
-        → Begins (element tag content ++ rest)
+        → BeginsWithTlv (element tag content ++ rest)
         (record { tag = tag; content = content; rest = rest }) }
     ensures integer { (value : ℤ) → FitsSigned w64 value → IsInteger (integer_octets value) value }
     ensures bits { (octets : List ℕ) (count : ℕ) → count ≤ 8 * length octets → count < 2 ^ 35

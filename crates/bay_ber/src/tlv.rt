@@ -1,8 +1,8 @@
 // Reading the tag, length and content that octets begin with.
 ghost use Rattle.std.specs.Prelude.{◌≡◌, ◌+◌, ◌*◌, ◌^◌, ◌<◌, ◌≤◌, ◌==◌, ◌↔◌, Ok, Err, length, IfOk, IsOkAnd};
 ghost use Rattle.bay_ber.specs.Octets as spec_octets;
-ghost use Rattle.bay_base.specs.Results.{IsRead};
-ghost use Rattle.bay_ber.specs.Reading.{Reading, Begins, HasLargeTag, IsIndefinite, HasLongLength, IsTruncated, reading_of};
+ghost use Rattle.bay_base.specs.Results.{Exact};
+ghost use Rattle.bay_ber.specs.Reading.{TlvData, BeginsWithTlv, HasLargeTag, IsIndefinite, HasLongLength, IsTruncated, tlv_data};
 ghost use Rattle.bay_ber.specs.Reading as spec;
 
 use crate::fault::BerFault;
@@ -48,7 +48,7 @@ fn low_bits(first: u8) -> u8
 // Reads the tag that octets begin with, and returns the octets after it (X.690 8.1.2).
 #[tactic(auto, unfolding(crate::specs::Reading::tag_at))]
 fn tag_at(octets: &[u8]) -> Result<(Tag, &[u8]), BerFault>
-    ensures { IsRead (λ x. (x.0, x.1.now)) result (spec.tag_at octets.now) }
+    ensures { Exact (λ x. (x.0, x.1.now)) result (spec.tag_at octets.now) }
 {
     let (first, rest) = match octets {
         [] => return Err(BerFault::Truncated),
@@ -97,7 +97,7 @@ pub(crate) fn number_of(octets: &[u8]) -> u128
 // Reads the length that octets begin with, and returns the octets after it (X.690 8.1.3).
 #[tactic(auto, unfolding(crate::specs::Reading::length_at))]
 fn length_at(octets: &[u8]) -> Result<(usize, &[u8]), BerFault>
-    ensures { IsRead (λ x. (x.0, x.1.now)) result (spec.length_at octets.now) }
+    ensures { Exact (λ x. (x.0, x.1.now)) result (spec.length_at octets.now) }
 {
     let (first, rest) = match octets {
         [] => return Err(BerFault::Truncated),
@@ -123,7 +123,7 @@ fn length_at(octets: &[u8]) -> Result<(usize, &[u8]), BerFault>
 // Reads the value that octets begin with: its tag, its length and its content.
 #[tactic(auto, unfolding(crate::specs::Reading::tlv_at))]
 fn tlv_at(octets: &[u8]) -> Result<Tlv<'_>, BerFault>
-    ensures { IsRead reading_of result (spec.tlv_at octets.now) }
+    ensures { Exact tlv_data result (spec.tlv_at octets.now) }
 {
     let (tag, rest) = tag_at(octets)?;
     let (length, rest) = length_at(rest)?;
@@ -144,9 +144,9 @@ fn tlv_at(octets: &[u8]) -> Result<Tlv<'_>, BerFault>
 /// after its first, and with `Truncated` if the octets end before the end of the value.
 pub fn read_tlv(octets: &[u8]) -> Result<Tlv<'_>, BerFault>
     // The value read is encoded by a prefix of the octets, and any value so encoded is read.
-    ensures ok { IfOk result (λ tlv. Begins octets.now (reading_of tlv)) }
-    ensures only { (r : Reading) → Begins octets.now r
-        → IsOkAnd result (λ tlv. reading_of tlv ≡ r) }
+    ensures ok { IfOk result (λ tlv. BeginsWithTlv octets.now (tlv_data tlv)) }
+    ensures only { (r : TlvData) → BeginsWithTlv octets.now r
+        → IsOkAnd result (λ tlv. tlv_data tlv ≡ r) }
     ensures shorter { IfOk result
         (λ tlv. length tlv.content.now + length tlv.rest.now + 2 ≤ length octets.now) }
     // Each fault, exactly when it occurs.
@@ -155,7 +155,7 @@ pub fn read_tlv(octets: &[u8]) -> Result<Tlv<'_>, BerFault>
     ensures long_length { (result ≡ Err BerFault.LengthTooLong) ↔ HasLongLength octets.now }
     ensures truncated { (result ≡ Err BerFault.Truncated) ↔ IsTruncated octets.now }
     // The result as a function that reads from the left.
-    ensures exact { IsRead reading_of result (spec.tlv_at octets.now) }
+    ensures exact { Exact tlv_data result (spec.tlv_at octets.now) }
 {
     tlv_at(octets)
 }

@@ -1,7 +1,7 @@
 // Reading consecutive values, and octets that are exactly one value.
 ghost use Rattle.std.specs.Prelude.{◌≡◌, ◌+◌, ◌≤◌, [], ◌∷◌, ◌++◌, length, map, List, ℕ, IfSome, IfOk, IsSomeAnd, OnSome, IfNone, option_map};
 ghost use Rattle.bay_ber.specs.Spelling.{Spells};
-ghost use Rattle.bay_ber.specs.Values.{Part, part_of, Next, NextIn, value_in, few_in};
+ghost use Rattle.bay_ber.specs.Values.{Part, part_of, NextValue, NextByFunction, value_in, few_in};
 ghost use Rattle.bay_ber.specs.Values as spec;
 ghost use Rattle.bay_ber.specs.declared.tag.Tag.{Tag};
 
@@ -92,8 +92,8 @@ impl<'a> Values<'a> {
     /// Reads the next value; returns `None` if no octet is left. Fails like `read_tlv` if no value
     /// comes next, and then does not advance.
     pub fn next_value(&mut self) -> Result<Option<Value<'a>>, BerFault>
-        ensures next { Next self.old result self.new }
-        ensures exact { NextIn self.old result self.new }
+        ensures next { NextValue self.old result self.new }
+        ensures exact { NextByFunction self.old result self.new }
         ensures shorter { IfOk result
             (λ next. IfSome next (λ value. length value.content.now + length self.new + 2
             ≤ length self.old)) }
@@ -112,12 +112,12 @@ impl<'a> Values<'a> {
 
 /// At most five values, which contracts view as a list of tags and contents.
 #[derive(Drop)]
-pub struct Few<'a> {
+pub struct FewValues<'a> {
     values: [Value<'a>; 5],
     count: usize,
 }
 
-impl<'a> Model for Few<'a> {
+impl<'a> Model for FewValues<'a> {
     ghost use Rattle.std.specs.Prelude.{List, ◌≡◌, ◌≤◌, length, map, take};
     ghost use Rattle.bay_ber.specs.Values.{Part, part_of};
 
@@ -128,16 +128,16 @@ impl<'a> Model for Few<'a> {
     ghost invariant = { λ f. (f.count ≤ 5) × (length f.values ≡ 5) };
 }
 
-impl<'a> Few<'a> {
+impl<'a> FewValues<'a> {
     /// Creates an empty list.
-    pub fn new() -> Few<'a>
+    pub fn new() -> FewValues<'a>
         ensures { result ≡ [] }
     {
         let value = Value {
             tag: Tag::universal(0),
             content: &[],
         };
-        Few {
+        FewValues {
             values: [value; 5],
             count: 0,
         }
@@ -167,10 +167,10 @@ impl<'a> Few<'a> {
 
 /// Reads octets that are consecutive values (X.690 8.9.2). Returns `None` if they are not, or if
 /// there are more than five values.
-pub fn few_values(octets: &[u8]) -> Option<Few<'_>>
+pub fn few_values(octets: &[u8]) -> Option<FewValues<'_>>
     ensures { result ≡ few_in octets.now }
 {
-    let mut few = Few::new();
+    let mut few = FewValues::new();
     let mut values = Values::new(octets);
     loop {
         match values.next_value() {

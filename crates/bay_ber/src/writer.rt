@@ -4,7 +4,7 @@ ghost use Rattle.std.specs.Option.{option_map};
 ghost use Rattle.bay_ber.specs.Spelling.{octet_of};
 ghost use Rattle.bay_ber.specs.Writing.{length_octets, element, truth_octets, integer_octets, bit_string_octets};
 ghost use Rattle.bay_ber.specs.Writing as spec;
-ghost use Rattle.bay_ber.specs.EncoderBuffers.{empty, sheet_with, close_sheet, message, value_around, IsEnd, IsOpen};
+ghost use Rattle.bay_ber.specs.EncoderBuffers.{empty_buffer, buffer_with, close_value, message, value_around, IsTextEnd, IsOpen};
 
 use crate::content::Bits;
 use crate::outgoing::Outgoing;
@@ -212,7 +212,7 @@ impl Writer {
     /// Creates a writer for a text of at most `limit` octets. Allocates the whole buffer; fails
     /// only if the allocation fails.
     pub fn new(alloc: Global, limit: u32) -> Result<Self, AllocError>
-        ensures { IfOk result (λ writer. writer ≡ empty limit) }
+        ensures { IfOk result (λ writer. writer ≡ empty_buffer limit) }
     {
         let limit = limit as usize;
         let mut octets = Vec::with_capacity(alloc, HEADROOM + limit)?;
@@ -227,7 +227,7 @@ impl Writer {
 
     /// Resets the writer to an empty text without headers.
     pub fn clear(&mut self)
-        ensures { self.new ≡ empty self.old.limit }
+        ensures { self.new ≡ empty_buffer self.old.limit }
     {
         self.octets.truncate(HEADROOM);
         self.first = HEADROOM;
@@ -236,7 +236,7 @@ impl Writer {
 
     /// Appends octets to the text.
     pub fn append(&mut self, octets: &[u8])
-        ensures { self.new ≡ sheet_with self.old octets.now }
+        ensures { self.new ≡ buffer_with self.old octets.now }
     {
         if self.over {
             return;
@@ -252,8 +252,8 @@ impl Writer {
     /// appended until `close` are its content.
     pub fn open(&mut self, tag: Tag) -> usize
         requires { tag.number < 31 }
-        ensures start { IsEnd result self.old }
-        ensures tag { self.new ≡ sheet_with self.old (octet_of tag ∷ 0 ∷ []) }
+        ensures start { IsTextEnd result self.old }
+        ensures tag { self.new ≡ buffer_with self.old (octet_of tag ∷ 0 ∷ []) }
     {
         let start = self.octets.len() - HEADROOM;
         self.append(&[tag.octet(), 0]);
@@ -263,7 +263,7 @@ impl Writer {
     /// Ends the value that begins at position `start`: writes its length in the fewest octets.
     pub fn close(&mut self, start: usize)
         requires { IsOpen start self.old }
-        ensures { self.new ≡ close_sheet self.old start }
+        ensures { self.new ≡ close_value self.old start }
     {
         if self.over {
             return;
@@ -279,7 +279,7 @@ impl Writer {
     /// Appends an octet string (X.690 8.7), or any value with this content.
     pub fn octets(&mut self, tag: Tag, content: &[u8])
         requires { tag.number < 31 }
-        ensures { self.new ≡ sheet_with self.old (element tag content.now) }
+        ensures { self.new ≡ buffer_with self.old (element tag content.now) }
     {
         if content.len() < 0x80 {
             self.append(&[tag.octet(), content.len() as u8]);
@@ -294,7 +294,7 @@ impl Writer {
     /// Appends a value with the octets of a string as its content.
     pub fn text(&mut self, tag: Tag, text: &str)
         requires { tag.number < 31 }
-        ensures { self.new ≡ sheet_with self.old (element tag text.now) }
+        ensures { self.new ≡ buffer_with self.old (element tag text.now) }
     {
         self.octets(tag, text.as_bytes());
     }
@@ -302,7 +302,7 @@ impl Writer {
     /// Appends a constructed value with an encoded content (X.690 8.9).
     pub fn nest(&mut self, tag: Tag, inner: &[u8])
         requires { tag.number < 31 }
-        ensures { self.new ≡ sheet_with self.old (element tag inner.now) }
+        ensures { self.new ≡ buffer_with self.old (element tag inner.now) }
     {
         self.octets(tag, inner);
     }
@@ -311,7 +311,7 @@ impl Writer {
     #[tactic(auto, using(crate::proofs::SheetLemmas::sheet_rules))]
     fn append_bits(&mut self, bits: Bits<'_>)
         requires { bits.count ≤ 8 * length bits.octets.now }
-        ensures { self.new ≡ sheet_with self.old
+        ensures { self.new ≡ buffer_with self.old
             (bit_string_octets bits.entry.octets.now bits.entry.count) }
     {
         let (whole, left) = (bits.count / 8, bits.count % 8);
@@ -332,7 +332,7 @@ impl Writer {
     pub fn bits(&mut self, tag: Tag, bits: Bits<'_>)
         requires tag { tag.number < 31 }
         requires held { bits.count ≤ 8 * length bits.octets.now }
-        ensures { self.new ≡ sheet_with self.old
+        ensures { self.new ≡ buffer_with self.old
             (element tag (bit_string_octets bits.entry.octets.now bits.entry.count)) }
     {
         let start = self.open(tag);
@@ -344,7 +344,7 @@ impl Writer {
     #[tactic(auto, using(crate::proofs::SmallLemmas::small_is))]
     pub fn int(&mut self, tag: Tag, value: i64)
         requires { tag.number < 31 }
-        ensures { self.new ≡ sheet_with self.old (element tag (integer_octets value)) }
+        ensures { self.new ≡ buffer_with self.old (element tag (integer_octets value)) }
     {
         match small_of(value) {
             Some(small) => self.append(&[tag.octet(), 1, small]),
@@ -356,7 +356,7 @@ impl Writer {
     #[tactic(auto, unfolding(crate::specs::Writing::element, crate::specs::Writing::length_octets))]
     pub fn boolean(&mut self, tag: Tag, value: bool)
         requires { tag.number < 31 }
-        ensures { self.new ≡ sheet_with self.old (element tag (truth_octets value)) }
+        ensures { self.new ≡ buffer_with self.old (element tag (truth_octets value)) }
     {
         let octet = if value { 0xFF } else { 0x00 };
         self.append(&[tag.octet(), 1, octet]);
@@ -371,8 +371,8 @@ impl Writer {
 
     /// Writes a header before the text and the headers already written.
     pub fn front(&mut self, head: &[u8])
-        requires { length head.now + length self.old.heads ≤ HEADROOM }
-        ensures { self.new ≡ record self.old { heads = head.now ++ self.old.heads } }
+        requires { length head.now + length self.old.headers ≤ HEADROOM }
+        ensures { self.new ≡ record self.old { headers = head.now ++ self.old.headers } }
     {
         self.first -= head.len();
         overwrite(&mut self.octets, self.first, head);
@@ -381,9 +381,9 @@ impl Writer {
     // Writes a tag and the shortest length before the message, as a header.
     fn head(&mut self, tag: Tag, count: u32)
         requires tag { tag.number < 31 }
-        requires room { length self.old.heads + 6 ≤ HEADROOM }
+        requires room { length self.old.headers + 6 ≤ HEADROOM }
         ensures { self.new ≡ record self.old
-            { heads = (octet_of tag ∷ length_octets count) ++ self.old.heads } }
+            { headers = (octet_of tag ∷ length_octets count) ++ self.old.headers } }
     {
         if count < 0x80 {
             self.front(&[tag.octet(), count as u8]);
@@ -398,10 +398,10 @@ impl Writer {
     /// message, its headers included, is then longer than the limit, the writer drops it.
     pub fn wrap(&mut self, tag: Tag)
         requires tag { tag.number < 31 }
-        requires room { length self.old.heads + 6 ≤ HEADROOM }
+        requires room { length self.old.headers + 6 ≤ HEADROOM }
         ensures limit { self.new.limit ≡ self.old.limit }
         ensures message { message self.new ≡ value_around tag self.old.limit (message self.old) }
-        ensures few { length self.new.heads ≤ length self.old.heads + 6 }
+        ensures few { length self.new.headers ≤ length self.old.headers + 6 }
     {
         let Some(octets) = self.message() else {
             return;
@@ -422,9 +422,9 @@ impl Writer {
     // Writes a value before the message, as a header.
     fn front_value(&mut self, tag: Tag, content: &[u8])
         requires tag { tag.number < 31 }
-        requires room { length content.now + length self.old.heads + 6 ≤ HEADROOM }
+        requires room { length content.now + length self.old.headers + 6 ≤ HEADROOM }
         ensures { self.new ≡ record self.old
-            { heads = element tag content.now ++ self.old.heads } }
+            { headers = element tag content.now ++ self.old.headers } }
     {
         self.front(content);
         self.head(tag, content.len() as u32);
@@ -433,9 +433,9 @@ impl Writer {
     /// Writes an integer before the message, as a header.
     pub fn prepend_int(&mut self, tag: Tag, value: i64)
         requires tag { tag.number < 31 }
-        requires room { length self.old.heads + 14 ≤ HEADROOM }
+        requires room { length self.old.headers + 14 ≤ HEADROOM }
         ensures { self.new ≡ record self.old
-            { heads = element tag (integer_octets value) ++ self.old.heads } }
+            { headers = element tag (integer_octets value) ++ self.old.headers } }
     {
         self.front_value(tag, without_needless(&value.to_be_bytes()));
     }

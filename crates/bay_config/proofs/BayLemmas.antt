@@ -8,9 +8,9 @@ use Rattle.bay_config.specs.declared.read.Lists.{Lists}
 use Rattle.bay_config.specs.declared.read.Sections.{Sections}
 use Rattle.bay_config.specs.Bay.{bay_section, switch_section, name_section, sections, bay_table, nameplate_in, switches_in, names_in, bay_in, bay_of_table}
 use Rattle.bay_base.specs.Exact.{unless_refused}
-use Rattle.bay_config.specs.Key.{first_of, unknown_refusal}
-use Rattle.bay_nodes.specs.Node.{rows_of_all}
-use Rattle.bay_config.specs.Point.{points_of_all, names_refusal}
+use Rattle.bay_config.specs.Key.{first_fault, unknown_refusal}
+use Rattle.bay_nodes.specs.Node.{bay_rows}
+use Rattle.bay_config.specs.Point.{bay_points, names_refusal}
 use Rattle.bay_config.specs.Remote.{remotes_refusal}
 use Rattle.bay_config.specs.Section.{section_refusal}
 use Rattle.bay_config.proofs.KeyLemmas.{then, judged-last, judged-step}
@@ -44,7 +44,7 @@ by_section f =
     }))))))
 
 pub sections-by-section : (f : Members)
-    → unless_refused (first_of (section_checks f)) (sections_in f) ≡ by_section f
+    → unless_refused (first_fault (section_checks f)) (sections_in f) ≡ by_section f
 sections-by-section f =
     let bay = section_refusal f bay_section in
     let switches = section_refusal f switch_section in
@@ -60,9 +60,9 @@ sections-by-section f =
 
 -- the last checks, after the others
 judged-last_of : {S R : Type 0} (checks last : List (Option BayFault)) (x : S) (v : R)
-    (g : S → Result R BayFault) → unless_refused (first_of last) v ≡ g x
-    → unless_refused (first_of (checks ++ last)) v
-    ≡ then (unless_refused (first_of checks) x) g
+    (g : S → Result R BayFault) → unless_refused (first_fault last) v ≡ g x
+    → unless_refused (first_fault (checks ++ last)) v
+    ≡ then (unless_refused (first_fault checks) x) g
 judged-last_of [] last x v g e = e
 judged-last_of (None ∷ checks) last x v g e = judged-last_of checks last x v g e
 judged-last_of (Some fault ∷ checks) last x v g e = refl
@@ -70,8 +70,8 @@ judged-last_of (Some fault ∷ checks) last x v g e = refl
 abbrev pub lists_in : Sections → Lists
 lists_in s =
     record {
-      points = points_of_all s.switches s.inputs s.meters;
-      rows = rows_of_all s.nameplate s.switches s.meters;
+      points = bay_points s.switches s.inputs s.meters;
+      rows = bay_rows s.nameplate s.switches s.meters;
     }
 
 -- the checks of the lists: the names of the points, and then the keys of the switches
@@ -80,7 +80,7 @@ list_checks_in s =
     names_refusal (lists_in s).points ∷ remotes_refusal s.inputs s.switches ∷ []
 
 pub lists-by-check : (s : Sections)
-    → unless_refused (first_of (list_checks_in s)) (lists_in s)
+    → unless_refused (first_fault (list_checks_in s)) (lists_in s)
     ≡ then (unless_refused {B = Unit {0}} (names_refusal (lists_in s).points) tt)
     (λ _. then (unless_refused {B = Unit {0}} (remotes_refusal s.inputs s.switches) tt)
     (λ _. Ok (lists_in s)))
@@ -92,8 +92,8 @@ lists-by-check s =
 -- the bay: the sections, and then the lists
 abbrev pub bay_by_parts : Members → Result Bay BayFault
 bay_by_parts f =
-    then (unless_refused (first_of (section_checks f)) (sections_in f))
-    (λ s. then (unless_refused (first_of (list_checks_in s)) (lists_in s))
+    then (unless_refused (first_fault (section_checks f)) (sections_in f))
+    (λ s. then (unless_refused (first_fault (list_checks_in s)) (lists_in s))
     (λ l. Ok (record {
       domain = s.nameplate.domain;
       vendor = s.nameplate.vendor;
@@ -111,4 +111,4 @@ pub by-parts : (f : Members) → bay_of_table f ≡ bay_by_parts f
 by-parts f =
     let s = sections_in f in
     judged-last_of (section_checks f) (list_checks_in s) s (bay_in f) _
-    (judged-last (first_of (list_checks_in s)) (lists_in s) (bay_in f) _ refl)
+    (judged-last (first_fault (list_checks_in s)) (lists_in s) (bay_in f) _ refl)

@@ -13,7 +13,7 @@ use Rattle.toml.proofs.Views.{Entry}
 use Rattle.bay_config.specs.declared.fault.BayFault.{BayFault}
 use Rattle.bay_config.specs.declared.fault.BayFault.TheVariants.{OutOfMemory}
 use Rattle.bay_base.specs.Exact.{unless_refused}
-use Rattle.bay_config.specs.Key.{first_of, is_among, has_unknown, value_named}
+use Rattle.bay_config.specs.Key.{first_fault, is_among, has_unknown, value_named}
 
 pub among-map : (known : List (Bor (List ℕ))) (k : List ℕ)
     → list_any (λ o. bytes_eq k o.now) known ≡ is_among (map (λ o. o.now) known) k
@@ -57,8 +57,8 @@ then-refused r e g (inr h) = inr (ap (λ x. then x g) h)
 
 -- the first check, and then what the rest gives
 pub judged-step : {S R : Type 0} (check : Option BayFault) (rest : List (Option BayFault)) (x : S)
-    (v : R) (g : S → Result R BayFault) → unless_refused (first_of rest) v ≡ g x
-    → unless_refused (first_of (check ∷ rest)) v ≡ then (unless_refused check x) g
+    (v : R) (g : S → Result R BayFault) → unless_refused (first_fault rest) v ≡ g x
+    → unless_refused (first_fault (check ∷ rest)) v ≡ then (unless_refused check x) g
 judged-step None rest x v g e = e
 judged-step (Some fault) rest x v g e = refl
 

@@ -18,7 +18,7 @@ use Rattle.bay_config.specs.Bay.{bay_section, switch_section, name_section, max_
 use Rattle.bay_config.specs.Key.{Key, is_among, unknown_refusal, refused_if}
 use Rattle.bay_config.specs.Laws.{IsOwned, IsBay}
 use Rattle.bay_config.specs.Remote.{are_inputs, remotes_refusal}
-use Rattle.bay_config.specs.Point.{points_of, points_from, inputs_from, meter_points, meters_from, points_of_all, has_twin, names_refusal}
+use Rattle.bay_config.specs.Point.{points_of, points_from, inputs_from, meter_points, meters_from, bay_points, has_twin, names_refusal}
 use Rattle.bay_config.specs.Section.{are_tables, count_of, tables_of, items_at, items_refusal, list_refusal, section_refusal, section_tables}
 use Rattle.bay_config.specs.Switch.{switch_keys, switch_in}
 use Rattle.bay_config.proofs.KeyLemmas.{judged-Ok}
@@ -150,7 +150,7 @@ own-meters ss is all k (m ∷ ms) rest =
     (own-meters ss is all (k + 1) ms (rest-of-rest all k m ms rest))
 
 all-owned : (ss : List Switch) (is ms : List (List ℕ))
-    → All (IsOwned ss is ms) (points_of_all ss is ms)
+    → All (IsOwned ss is ms) (bay_points ss is ms)
 all-owned ss is ms =
     All-append (IsOwned ss is ms) (points_from 0 ss) (inputs_from 0 is ++ meters_from 0 ms)
     (All-from_recursion (IsOwned ss is ms) (points_from 0 ss) (own-points-from ss is ms 0 ss refl))
@@ -216,7 +216,7 @@ sound-bay f h =
     let ss = switches_in f in
     let is = names_in f Input in
     let ms = names_in f Meter in
-    let names = names_refusal (points_of_all ss is ms) in
+    let names = names_refusal (bay_points ss is ms) in
     let keys = remotes_refusal is ss in
     let bay = section_refusal f bay_section in
     let switches = section_refusal f switch_section in
@@ -239,10 +239,10 @@ sound-bay f h =
     let few_inputs : length is ≤ 64 = names-counts f Input four.0 in
     let few_meters : length ms ≤ 8 = names-counts f Meter five.0 in
     let twin =
-    none-first (refused_if (has_twin (names_of (points_of_all ss is ms))) DuplicateName) _
+    none-first (refused_if (has_twin (names_of (bay_points ss is ms))) DuplicateName) _
     six.0 in
     let differ =
-    AllDiffer-from_twin (names_of (points_of_all ss is ms))
+    AllDiffer-from_twin (names_of (bay_points ss is ms))
     (refused_if-None _ DuplicateName twin.0) in
     record {
       some_switch = some;
@@ -251,7 +251,7 @@ sound-bay f h =
       few_meters = few_meters;
       points = refl;
       rows = refl;
-      names = pairs-differ (points_of_all ss is ms) differ;
+      names = pairs-differ (bay_points ss is ms) differ;
       owners = all-owned ss is ms;
       keyed = not-false (are_inputs is ss) (refused_if-None _ BadValue seven.0);
       tree = rows-make-tree (nameplate_in (bay_table f)) ss ms (omega arith) (omega arith);

@@ -10,14 +10,14 @@ use Rattle.toml.proofs.Views.{items_view-drop}
 use Rattle.bay_base.specs.Exact.{unless_refused}
 use Rattle.bay_config.specs.declared.fault.BayFault.{BayFault}
 use Rattle.bay_config.specs.declared.fault.BayFault.TheVariants.{MissingKey, BadValue, TooMany}
-use Rattle.bay_config.specs.Key.{first_of}
+use Rattle.bay_config.specs.Key.{first_fault}
 use Rattle.bay_config.specs.Section.{are_tables, count_of, tables_of, list_checks}
 use Rattle.bay_config.proofs.KeyLemmas.{then, judged-step, judged-last}
 
 -- what some tables are, or the first refusal
 abbrev pub read_all : {T : Type 0} → (Members → Option BayFault) → (Members → T) → List Members
     → Result (List T) BayFault
-read_all check make tables = unless_refused (first_of (map check tables)) (map make tables)
+read_all check make tables = unless_refused (first_fault (map check tables)) (map make tables)
 
 -- what was read so far, and then the rest
 abbrev pub after : {T : Type 0} → List T → Result (List T) BayFault → Result (List T) BayFault
@@ -30,7 +30,7 @@ read_all-cons : {T : Type 0} (check : Members → Option BayFault) (make : Membe
     (λ s. then (read_all check make ts) (λ ss. Ok (s ∷ ss)))
 read_all-cons check make t ts =
     judged-step (check t) (map check ts) (make t) (map make (t ∷ ts)) _
-    (judged-last (first_of (map check ts)) (map make ts) (map make (t ∷ ts)) _ refl)
+    (judged-last (first_fault (map check ts)) (map make ts) (map make (t ∷ ts)) _ refl)
 
 after-push : {T : Type 0} (done : List T) (s : T) (r : Result (List T) BayFault)
     → after done (then r (λ ss. Ok (s ∷ ss))) ≡ after (done ++ s ∷ []) r
@@ -91,16 +91,16 @@ count-items (v ∷ vs) = let rest = count-items vs in omega arith
 
 -- checks, and then what the rest gives
 pub judged-append : {T : Type 0} (checks rest : List (Option BayFault)) (v : T)
-    → unless_refused (first_of (checks ++ rest)) v
-    ≡ then (unless_refused {B = Unit {0}} (first_of checks) tt)
-    (λ _. unless_refused (first_of rest) v)
+    → unless_refused (first_fault (checks ++ rest)) v
+    ≡ then (unless_refused {B = Unit {0}} (first_fault checks) tt)
+    (λ _. unless_refused (first_fault rest) v)
 judged-append [] rest v = refl
 judged-append (None ∷ checks) rest v = judged-append checks rest v
 judged-append (Some fault ∷ checks) rest v = refl
 
 -- what is judged of a list as a whole
 abbrev whole : ℕ → ℕ → Items → Result (Unit {0}) BayFault
-whole least most items = unless_refused {B = Unit {0}} (first_of (list_checks least most items)) tt
+whole least most items = unless_refused {B = Unit {0}} (first_fault (list_checks least most items)) tt
 
 pub too-few : (least most : ℕ) (items : Items) → count_of items < least
     → Err MissingKey ≡ whole least most items

@@ -17,7 +17,7 @@ use Rattle.bay_base.specs.declared.switch.SwitchKind.{SwitchKind}
 use Rattle.bay_base.specs.declared.switch.SwitchKind.TheVariants.{Breaker, Disconnector, Earthing}
 use Rattle.bay_config.specs.Laws.{nameplate_of, IsBay, HasNode, HasPosition, HasCancel, HasControl, HasCommands, HasEnable, HasMeter, HasValue, NamesPosition, NamesControl, NamesInterlocking, NamesMeter}
 use Rattle.bay_nodes.specs.Names.{StatusNames, opening_names, closing_names, control_names_of, meter_names_of}
-use Rattle.bay_nodes.specs.Node.{Parts, Node, row, node_rows, node_name, class_of, is_breaker, is_of, node_number, device_node, physical_node, position_node, position_nodes, position_parts, control_node, control_nodes, control_parts, interlocking_node, interlocking_nodes, interlocking_parts, meter_node, meter_nodes, meter_parts, nodes_of}
+use Rattle.bay_nodes.specs.Node.{Parts, Node, row, node_rows, node_name, class_of, is_breaker, is_in_group, node_number, device_node, physical_node, position_node, position_nodes, position_parts, control_node, control_nodes, control_parts, interlocking_node, interlocking_nodes, interlocking_parts, meter_node, meter_nodes, meter_parts, nodes_of}
 
 Contains-cons : {X : Type 0} (y : X) (xs : List X) (x : X) → Contains xs x → Contains (y ∷ xs) x
 Contains-cons y xs x w = (suc w.0, omega (arith, w.1), w.2)
@@ -46,65 +46,65 @@ has-node nodes node w =
     λ k d lt. rows-among nodes node (get_or (node_rows node) k d) w.0 w.1 w.2
     (Contains-get_or (node_rows node) k d lt)
 
-numbered-step : (b : Bool) (t : Switch) (ss : List Switch) (place : ℕ) (s : Switch) (n : ℕ)
-    (c : Bool) → is_of b t ≡ c
-    → ((m : ℕ) → Contains (enumerate_from m (filter (is_of b) ss))
-    (m + length (filter (is_of b) (take place ss)), s))
-    → Contains (enumerate_from n (filter (is_of b) (t ∷ ss)))
-    (n + length (filter (is_of b) (t ∷ take place ss)), s)
-numbered-step b t ss place s n true e rest =
-    let more : n + 1 + length (filter (is_of b) (take place ss))
-    ≡ n + suc (length (filter (is_of b) (take place ss))) = omega arith in
-    rw e (subst (λ m. Contains ((n, t) ∷ enumerate_from (n + 1) (filter (is_of b) ss)) (m, s)) more
-    (Contains-cons (n, t) (enumerate_from (n + 1) (filter (is_of b) ss))
-    (n + 1 + length (filter (is_of b) (take place ss)), s) (rest (n + 1))))
-numbered-step b t ss place s n false e rest =
+numbered-step : (b : Bool) (t : Switch) (ss : List Switch) (index : ℕ) (s : Switch) (n : ℕ)
+    (c : Bool) → is_in_group b t ≡ c
+    → ((m : ℕ) → Contains (enumerate_from m (filter (is_in_group b) ss))
+    (m + length (filter (is_in_group b) (take index ss)), s))
+    → Contains (enumerate_from n (filter (is_in_group b) (t ∷ ss)))
+    (n + length (filter (is_in_group b) (t ∷ take index ss)), s)
+numbered-step b t ss index s n true e rest =
+    let more : n + 1 + length (filter (is_in_group b) (take index ss))
+    ≡ n + suc (length (filter (is_in_group b) (take index ss))) = omega arith in
+    rw e (subst (λ m. Contains ((n, t) ∷ enumerate_from (n + 1) (filter (is_in_group b) ss)) (m, s)) more
+    (Contains-cons (n, t) (enumerate_from (n + 1) (filter (is_in_group b) ss))
+    (n + 1 + length (filter (is_in_group b) (take index ss)), s) (rest (n + 1))))
+numbered-step b t ss index s n false e rest =
     rw e (rest n)
 
-numbered-first : (b : Bool) (t : Switch) (ss : List Switch) (n : ℕ) → is_of b t ≡ true
-    → Contains (enumerate_from n (filter (is_of b) (t ∷ ss))) (n + 0, t)
+numbered-first : (b : Bool) (t : Switch) (ss : List Switch) (n : ℕ) → is_in_group b t ≡ true
+    → Contains (enumerate_from n (filter (is_in_group b) (t ∷ ss))) (n + 0, t)
 numbered-first b t ss n is =
     let none : n + 0 ≡ n = omega arith in
     rw is (0, omega arith, ap (λ m. (m, t)) (sym none))
 
-numbered-has : (b : Bool) (ss : List Switch) (place : ℕ) (s : Switch) (n : ℕ)
-    → slice_get ss place ≡ Some s → is_of b s ≡ true
-    → Contains (enumerate_from n (filter (is_of b) ss))
-    (n + length (filter (is_of b) (take place ss)), s)
-numbered-has b [] place s n here is = cc
+numbered-has : (b : Bool) (ss : List Switch) (index : ℕ) (s : Switch) (n : ℕ)
+    → slice_get ss index ≡ Some s → is_in_group b s ≡ true
+    → Contains (enumerate_from n (filter (is_in_group b) ss))
+    (n + length (filter (is_in_group b) (take index ss)), s)
+numbered-has b [] index s n here is = cc
 numbered-has b (t ∷ ss) zero s n here is =
     let same : s ≡ t = cc in
-    subst (λ u. Contains (enumerate_from n (filter (is_of b) (t ∷ ss))) (n + 0, u)) (sym same)
-    (numbered-first b t ss n (ap (is_of b) (sym same) ∙ is))
-numbered-has b (t ∷ ss) (suc place) s n here is =
-    numbered-step b t ss place s n (is_of b t) refl (λ m. numbered-has b ss place s m here is)
+    subst (λ u. Contains (enumerate_from n (filter (is_in_group b) (t ∷ ss))) (n + 0, u)) (sym same)
+    (numbered-first b t ss n (ap (is_in_group b) (sym same) ∙ is))
+numbered-has b (t ∷ ss) (suc index) s n here is =
+    numbered-step b t ss index s n (is_in_group b t) refl (λ m. numbered-has b ss index s m here is)
 
-enumerate-has : {T : Type 0} (ts : List T) (place n : ℕ) → place < length ts
-    → (t : T) × Contains (enumerate_from n ts) (n + place, t) × (slice_get ts place ≡ Some t)
-enumerate-has [] place n lt = absurd (omega arith)
+enumerate-has : {T : Type 0} (ts : List T) (index n : ℕ) → index < length ts
+    → (t : T) × Contains (enumerate_from n ts) (n + index, t) × (slice_get ts index ≡ Some t)
+enumerate-has [] index n lt = absurd (omega arith)
 enumerate-has (t ∷ ts) zero n lt =
     let none : n + 0 ≡ n = omega arith in
     (t, (0, omega arith, ap (λ m. (m, t)) (sym none)), refl)
-enumerate-has (t ∷ ts) (suc place) n lt =
-    let w = enumerate-has ts place (n + 1) (omega arith) in
-    let more : n + 1 + place ≡ n + suc place = omega arith in (
+enumerate-has (t ∷ ts) (suc index) n lt =
+    let w = enumerate-has ts index (n + 1) (omega arith) in
+    let more : n + 1 + index ≡ n + suc index = omega arith in (
       w.0,
       subst (λ m. Contains ((n, t) ∷ enumerate_from (n + 1) ts) (m, w.0)) more
-          (Contains-cons (n, t) (enumerate_from (n + 1) ts) (n + 1 + place, w.0) w.1),
+          (Contains-cons (n, t) (enumerate_from (n + 1) ts) (n + 1 + index, w.0) w.1),
       w.2,
     )
 
-among-class : (b : Bool) (ss : List Switch) (place : ℕ) (s : Switch) → slice_get ss place ≡ Some s
+among-class : (b : Bool) (ss : List Switch) (index : ℕ) (s : Switch) → slice_get ss index ≡ Some s
     → is_breaker s.kind ≡ b → Contains (position_nodes b ss)
-    (position_node (length (filter (is_of b) (take place ss)) + 1, s))
-among-class b ss place s here e =
-    let count = length (filter (is_of b) (take place ss)) in
+    (position_node (length (filter (is_in_group b) (take index ss)) + 1, s))
+among-class b ss index s here e =
+    let count = length (filter (is_in_group b) (take index ss)) in
     let more : 1 + count ≡ count + 1 = omega arith in
-    Contains-map position_node (enumerate_from 1 (filter (is_of b) ss)) (count + 1, s)
-    (subst (λ m. Contains (enumerate_from 1 (filter (is_of b) ss)) (m, s)) more
-    (numbered-has b ss place s 1 here (is-own b s e)))
+    Contains-map position_node (enumerate_from 1 (filter (is_in_group b) ss)) (count + 1, s)
+    (subst (λ m. Contains (enumerate_from 1 (filter (is_in_group b) ss)) (m, s)) more
+    (numbered-has b ss index s 1 here (is-own b s e)))
   where
-    is-own : (b : Bool) (s : Switch) → is_breaker s.kind ≡ b → is_of b s ≡ true
+    is-own : (b : Bool) (s : Switch) → is_breaker s.kind ≡ b → is_in_group b s ≡ true
     is-own true s e = e
     is-own false s e = rw e
 
@@ -164,13 +164,13 @@ meters-within n ss ms node h =
     (Contains-append_right (control_nodes ss) (interlocking_nodes ss ++ meter_nodes ms) node
     (Contains-append_right (interlocking_nodes ss) (meter_nodes ms) node h))
 
-position-among : (b : Bool) (n : Nameplate) (ss : List Switch) (ms : List (List ℕ)) (place : ℕ)
-    (s : Switch) → slice_get ss place ≡ Some s → is_breaker s.kind ≡ b
-    → Contains (nodes_of n ss ms) (position_node (length (filter (is_of b) (take place ss)) + 1, s))
-position-among true n ss ms place s here e =
-    breakers-within n ss ms _ (among-class true ss place s here e)
-position-among false n ss ms place s here e =
-    others-within n ss ms _ (among-class false ss place s here e)
+position-among : (b : Bool) (n : Nameplate) (ss : List Switch) (ms : List (List ℕ)) (index : ℕ)
+    (s : Switch) → slice_get ss index ≡ Some s → is_breaker s.kind ≡ b
+    → Contains (nodes_of n ss ms) (position_node (length (filter (is_in_group b) (take index ss)) + 1, s))
+position-among true n ss ms index s here e =
+    breakers-within n ss ms _ (among-class true ss index s here e)
+position-among false n ss ms index s here e =
+    others-within n ss ms _ (among-class false ss index s here e)
 
 -- a row of a node, by its place among them
 row-at : (bay : Bay) (node : Node) → HasNode bay node → (k : ℕ)
@@ -333,45 +333,45 @@ node-there bay node is_bay at =
     subst (λ rows. All (Contains rows) (node_rows node)) (sym is_bay.rows)
     (has-node (nodes_of (nameplate_of bay) bay.switches bay.meters) node at)
 
-position-node : (bay : Bay) (place : ℕ) (s : Switch) (name : List ℕ)
-    → slice_get bay.switches place ≡ Some s
-    → name ≡ node_name (class_of s.kind) (node_number bay.switches s place) → IsBay bay
+position-node : (bay : Bay) (index : ℕ) (s : Switch) (name : List ℕ)
+    → slice_get bay.switches index ≡ Some s
+    → name ≡ node_name (class_of s.kind) (node_number bay.switches s index) → IsBay bay
     → HasNode bay (record { name = name; parts = position_parts s.kind })
-position-node bay place s name here named is_bay =
+position-node bay index s name here named is_bay =
     let ss = bay.switches in
     let all = nodes_of (nameplate_of bay) ss bay.meters in
     let node : Node = record { name = name; parts = position_parts s.kind } in
-    let own : position_node (node_number ss s place, s) ≡ node =
+    let own : position_node (node_number ss s index, s) ≡ node =
     ap (λ n. record { name = n; parts = position_parts s.kind }) (sym named) in
     node-there bay node is_bay
     (subst (Contains all) own
-    (position-among (is_breaker s.kind) (nameplate_of bay) ss bay.meters place s here refl))
+    (position-among (is_breaker s.kind) (nameplate_of bay) ss bay.meters index s here refl))
 
 -- a node that is numbered by its place
 numbered-among : {T : Type 0} (make : ℕ × T → Node) (class : List ℕ) (parts : T → Parts)
     → ((n : ℕ) (t : T) → make (n, t) ≡ record { name = node_name class n; parts = parts t })
-    → (ts : List T) (place : ℕ) (name : List ℕ) → place < length ts
-    → name ≡ node_name class (place + 1)
+    → (ts : List T) (index : ℕ) (name : List ℕ) → index < length ts
+    → name ≡ node_name class (index + 1)
     → (t : T) × Contains (map make (enumerate_from 1 ts)) (record { name = name; parts = parts t })
-    × (slice_get ts place ≡ Some t)
-numbered-among make class parts is ts place name lt named =
-    let w = enumerate-has ts place 1 lt in
-    let e : 1 + place ≡ place + 1 = omega arith in
-    let own : make (1 + place, w.0) ≡ record { name = name; parts = parts w.0 } =
-    is (1 + place) w.0 ∙ ap (λ m. record { name = node_name class m; parts = parts w.0 }) e
+    × (slice_get ts index ≡ Some t)
+numbered-among make class parts is ts index name lt named =
+    let w = enumerate-has ts index 1 lt in
+    let e : 1 + index ≡ index + 1 = omega arith in
+    let own : make (1 + index, w.0) ≡ record { name = name; parts = parts w.0 } =
+    is (1 + index) w.0 ∙ ap (λ m. record { name = node_name class m; parts = parts w.0 }) e
     ∙ ap (λ n. record { name = n; parts = parts w.0 }) (sym named) in (
       w.0,
       subst (Contains (map make (enumerate_from 1 ts))) own
-          (Contains-map make (enumerate_from 1 ts) (1 + place, w.0) w.1),
+          (Contains-map make (enumerate_from 1 ts) (1 + index, w.0) w.1),
       w.2,
     )
 
-pub names-position : (bay : Bay) (place : ℕ) (s : Switch) (name : List ℕ)
-    → slice_get bay.switches place ≡ Some s
-    → name ≡ node_name (class_of s.kind) (node_number bay.switches s place)
-    → NamesPosition bay place name
-names-position bay place s name here named =
-    let node = position-node bay place s name here named in
+pub names-position : (bay : Bay) (index : ℕ) (s : Switch) (name : List ℕ)
+    → slice_get bay.switches index ≡ Some s
+    → name ≡ node_name (class_of s.kind) (node_number bay.switches s index)
+    → NamesPosition bay index name
+names-position bay index s name here named =
+    let node = position-node bay index s name here named in
     record {
       switch = s;
       here = here;
@@ -380,11 +380,11 @@ names-position bay place s name here named =
       rows = λ is_bay. has-position bay name s.kind (node is_bay);
     }
 
-pub names-control : (bay : Bay) (place : ℕ) (name : List ℕ) → place < length bay.switches
-    → name ≡ node_name (codes "CSWI") (place + 1) → NamesControl bay place name
-names-control bay place name lt named =
+pub names-control : (bay : Bay) (index : ℕ) (name : List ℕ) → index < length bay.switches
+    → name ≡ node_name (codes "CSWI") (index + 1) → NamesControl bay index name
+names-control bay index name lt named =
     let w = numbered-among control_node (codes "CSWI")
-    (λ s. control_parts s.control s.sbo_timeout_ms) (λ n t. refl) bay.switches place name lt
+    (λ s. control_parts s.control s.sbo_timeout_ms) (λ n t. refl) bay.switches index name lt
     named in
     let node : IsBay bay → HasNode bay
     (record { name = name; parts = control_parts w.0.control w.0.sbo_timeout_ms }) =
@@ -399,11 +399,11 @@ names-control bay place name lt named =
       commands = λ is_bay. has-commands bay name w.0.control w.0.sbo_timeout_ms (node is_bay);
     }
 
-pub names-interlocking : (bay : Bay) (place : ℕ) (name : List ℕ) → place < length bay.switches
-    → name ≡ node_name (codes "CILO") (place + 1) → NamesInterlocking bay place name
-names-interlocking bay place name lt named =
+pub names-interlocking : (bay : Bay) (index : ℕ) (name : List ℕ) → index < length bay.switches
+    → name ≡ node_name (codes "CILO") (index + 1) → NamesInterlocking bay index name
+names-interlocking bay index name lt named =
     let w = numbered-among interlocking_node (codes "CILO") (λ s. interlocking_parts) (λ n t. refl)
-    bay.switches place name lt named in
+    bay.switches index name lt named in
     let node : IsBay bay → HasNode bay (record { name = name; parts = interlocking_parts }) =
     λ is_bay. node-there bay _ is_bay
     (interlockings-within (nameplate_of bay) bay.switches bay.meters _ w.1) in
@@ -414,18 +414,18 @@ names-interlocking bay place name lt named =
       close_rows = λ is_bay. has-close bay name (node is_bay);
     }
 
-pub names-meter : (bay : Bay) (place : ℕ) (name : List ℕ) → place < length bay.meters
-    → name ≡ node_name (codes "MMXU") (place + 1) → NamesMeter bay place name
-names-meter bay place name lt named =
+pub names-meter : (bay : Bay) (index : ℕ) (name : List ℕ) → index < length bay.meters
+    → name ≡ node_name (codes "MMXU") (index + 1) → NamesMeter bay index name
+names-meter bay index name lt named =
     let w = numbered-among meter_node (codes "MMXU") (λ s. meter_parts) (λ n t. refl) bay.meters
-    place name lt named in
+    index name lt named in
     let node : IsBay bay → HasNode bay (record { name = name; parts = meter_parts }) =
     λ is_bay. node-there bay _ is_bay
     (meters-within (nameplate_of bay) bay.switches bay.meters _ w.1) in
     record { named = named; node = node; rows = λ is_bay. has-meter bay name (node is_bay) }
 
-pub get-at : (ss : List Switch) (place : ℕ) (s : Switch) → place < length ss → s ≡ get_or ss place s
-    → slice_get ss place ≡ Some s
-get-at [] place s lt at = absurd (omega arith)
+pub get-at : (ss : List Switch) (index : ℕ) (s : Switch) → index < length ss → s ≡ get_or ss index s
+    → slice_get ss index ≡ Some s
+get-at [] index s lt at = absurd (omega arith)
 get-at (t ∷ ss) zero s lt at = ap Some (sym at)
-get-at (t ∷ ss) (suc place) s lt at = get-at ss place s (omega arith) at
+get-at (t ∷ ss) (suc index) s lt at = get-at ss index s (omega arith) at

@@ -3,8 +3,8 @@ use Rattle.std.proofs.Common.{◌≡◌, ℕ, Bool, true, false, cond, List, [],
 use Rattle.toml.specs.Data.{Items, no_items, Members, get_member}
 use Rattle.bay_nodes.specs.declared.switch.Switch.{Switch}
 use Rattle.bay_config.specs.Bay.{bay_in, bay_of, bay_of_document, document_of, bay_section, file_refusal, name_section, names_in, sections, switch_section, switches_in}
-use Rattle.bay_config.specs.Key.{entry_refusal, first_of, unknown_refusal}
-use Rattle.bay_config.specs.Point.{names_refusal, points_of_all}
+use Rattle.bay_config.specs.Key.{entry_refusal, first_fault, unknown_refusal}
+use Rattle.bay_config.specs.Point.{names_refusal, bay_points}
 use Rattle.bay_config.specs.Remote.{remotes_refusal}
 use Rattle.bay_config.specs.Section.{items_at, list_checks, list_refusal, section_refusal, tables_of}
 use Rattle.bay_config.specs.Switch.{switch_in, switch_keys}
@@ -16,12 +16,12 @@ use Rattle.bay_config.proofs.KeyLemmas.{judged-Ok}
 
 -- no check of some refuses
 pub none-first : (check : Option BayFault) (rest : List (Option BayFault))
-    → first_of (check ∷ rest) ≡ None → (check ≡ None) × (first_of rest ≡ None)
+    → first_fault (check ∷ rest) ≡ None → (check ≡ None) × (first_fault rest ≡ None)
 none-first None rest none = (refl, none)
 none-first (Some fault) rest none = absurd cc
 
-pub none-behind : (checks rest : List (Option BayFault)) → first_of (checks ++ rest) ≡ None
-    → first_of rest ≡ None
+pub none-behind : (checks rest : List (Option BayFault)) → first_fault (checks ++ rest) ≡ None
+    → first_fault rest ≡ None
 none-behind [] rest none = none
 none-behind (None ∷ checks) rest none = none-behind checks rest none
 none-behind (Some fault ∷ checks) rest none = absurd cc
@@ -41,7 +41,7 @@ module _
     (more : (t : Members) (ss : List Switch) → entry_refusal (switch_keys t) t ≡ None → Q ss
     → Q (switch_in t ∷ ss))
   where
-    tables-pass : (ts : List Members) → first_of (map switch_refusal ts) ≡ None
+    tables-pass : (ts : List Members) → first_fault (map switch_refusal ts) ≡ None
         → Q (map switch_in ts)
     tables-pass [] none = empty
     tables-pass (t ∷ ts) none =
@@ -58,7 +58,7 @@ module _
     file-passes : (file : Members) → file_refusal file ≡ None → Q (switches_in file)
     file-passes file none =
         let names =
-        names_refusal (points_of_all (switches_in file) (names_in file Input) (names_in file Meter))
+        names_refusal (bay_points (switches_in file) (names_in file Input) (names_in file Meter))
         in
         let keys = remotes_refusal (names_in file Input) (switches_in file) in
         let bay = section_refusal file bay_section in

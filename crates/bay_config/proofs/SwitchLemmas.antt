@@ -8,7 +8,7 @@ use Rattle.bay_base.specs.declared.switch.Control.{Control}
 use Rattle.bay_base.specs.declared.switch.Control.TheVariants.{Status, Direct, Sbo, SboEnhanced}
 use Rattle.bay_config.specs.declared.fault.BayFault.{BayFault}
 use Rattle.bay_base.specs.Exact.{unless_refused}
-use Rattle.bay_config.specs.Key.{Key, first_of, unknown_refusal, key_refusal, entry_refusal, text_in, number_in, natural, has_unknown, is_among}
+use Rattle.bay_config.specs.Key.{Key, first_fault, unknown_refusal, key_refusal, entry_refusal, text_in, number_in, natural, has_unknown, is_among}
 use Rattle.bay_config.specs.Switch.{kind_of, control_of, id_key, kind_key, control_key, time_keys, remote_in, refuses_in, optional_keys, switch_keys, switch_in}
 use Rattle.bay_config.proofs.KeyLemmas.{then, judged-step, judged-last, unknown-absent}
 
@@ -23,33 +23,33 @@ checks_of t keys = map (key_refusal t) keys
 
 -- the first keys, and then what the others give
 judged-keys : {S R : Type 0} (t : Members) (keys more : List Key) (x : S) (v : R)
-    (g : S → Result R BayFault) → unless_refused (first_of (checks_of t more)) v ≡ g x
-    → unless_refused (first_of (checks_of t (keys ++ more))) v
-    ≡ then (unless_refused (first_of (checks_of t keys)) x) g
+    (g : S → Result R BayFault) → unless_refused (first_fault (checks_of t more)) v ≡ g x
+    → unless_refused (first_fault (checks_of t (keys ++ more))) v
+    ≡ then (unless_refused (first_fault (checks_of t keys)) x) g
 judged-keys t [] more x v g e = e
 judged-keys t (key ∷ keys) more x v g e =
     judged-first (key_refusal t key) (checks_of t (keys ++ more)) (checks_of t keys)
     (judged-keys t keys more x v g e)
   where
     judged-first : (check : Option BayFault) (all some : List (Option BayFault))
-        → unless_refused (first_of all) v ≡ then (unless_refused (first_of some) x) g
-        → unless_refused (first_of (check ∷ all)) v
-        ≡ then (unless_refused (first_of (check ∷ some)) x) g
+        → unless_refused (first_fault all) v ≡ then (unless_refused (first_fault some) x) g
+        → unless_refused (first_fault (check ∷ all)) v
+        ≡ then (unless_refused (first_fault (check ∷ some)) x) g
     judged-first None all some h = h
     judged-first (Some fault) all some h = refl
 
 -- where no key is refused, none of the first is
 pub first-keys : (t : Members) (keys more : List Key)
-    → first_of (map (key_refusal t) (keys ++ more)) ≡ None
-    → first_of (map (key_refusal t) keys) ≡ None
+    → first_fault (map (key_refusal t) (keys ++ more)) ≡ None
+    → first_fault (map (key_refusal t) keys) ≡ None
 first-keys t [] more none = refl
 first-keys t (key ∷ keys) more none =
     none-of (key_refusal t key) (checks_of t (keys ++ more)) (checks_of t keys) none
     (first-keys t keys more)
   where
     none-of : (check : Option BayFault) (all some : List (Option BayFault))
-        → first_of (check ∷ all) ≡ None → (first_of all ≡ None → first_of some ≡ None)
-        → first_of (check ∷ some) ≡ None
+        → first_fault (check ∷ all) ≡ None → (first_fault all ≡ None → first_fault some ≡ None)
+        → first_fault (check ∷ some) ≡ None
     none-of None all some h next = next h
     none-of (Some fault) all some h next = absurd cc
 
@@ -62,9 +62,9 @@ switch_by_keys t c k =
     (λ _. then (unless_refused (key_refusal t id_key) (text_in t (codes "id")))
     (λ id. then (unless_refused (key_refusal t kind_key) (unwrap_or k Breaker))
     (λ kind. then (unless_refused (key_refusal t control_key) (unwrap_or c Status))
-    (λ control. then (unless_refused (first_of (map (key_refusal t) (time_keys c))) (times_in t))
+    (λ control. then (unless_refused (first_fault (map (key_refusal t) (time_keys c))) (times_in t))
     (λ times. then
-    (unless_refused (first_of (map (key_refusal t) (optional_keys c k))) (options_in t))
+    (unless_refused (first_fault (map (key_refusal t) (optional_keys c k))) (options_in t))
     (λ options. Ok
     (record {
       id = id;
@@ -91,7 +91,7 @@ by-keys t =
     (unwrap_or (kind_of t) Breaker) (switch_in t) _
     (judged-step (key_refusal t control_key) last (unwrap_or (control_of t) Status) (switch_in t) _
     (judged-keys t times options (times_in t) (switch_in t) _
-    (judged-last (first_of (map (key_refusal t) options)) (options_in t) (switch_in t) _ refl)))))
+    (judged-last (first_fault (map (key_refusal t) options)) (options_in t) (switch_in t) _ refl)))))
 
 pub by_keys : (t : Members) (c : Option Control) (k : Option SwitchKind) → control_of t ≡ c
     → kind_of t ≡ k

@@ -10,9 +10,9 @@ use Rattle.bay_config.specs.declared.names.NameSection.TheVariants.{Input, Meter
 use Rattle.bay_config.specs.declared.fault.BayFault.{BayFault}
 use Rattle.bay_config.specs.declared.fault.BayFault.TheVariants.{BadToml}
 use Rattle.bay_base.specs.Exact.{unless_refused}
-use Rattle.bay_config.specs.Key.{Key, identifier, description, number, first_of, unknown_refusal, text_in, number_in}
-use Rattle.bay_nodes.specs.Node.{rows_of_all}
-use Rattle.bay_config.specs.Point.{points_of_all, names_refusal}
+use Rattle.bay_config.specs.Key.{Key, identifier, description, number, first_fault, unknown_refusal, text_in, number_in}
+use Rattle.bay_nodes.specs.Node.{bay_rows}
+use Rattle.bay_config.specs.Point.{bay_points, names_refusal}
 use Rattle.bay_config.specs.Remote.{remotes_refusal}
 use Rattle.bay_config.specs.Section.{Section, one, many, section_refusal, section_tables}
 use Rattle.bay_config.specs.Switch.{switch_keys, switch_in}
@@ -101,8 +101,8 @@ bay_with nameplate switches inputs meters = record {
   model = nameplate.model;
   revision = nameplate.revision;
   scan_max_age_ms = nameplate.scan_max_age_ms;
-  rows = rows_of_all nameplate switches meters;
-  points = points_of_all switches inputs meters;
+  rows = bay_rows nameplate switches meters;
+  points = bay_points switches inputs meters;
   switches = switches;
   inputs = inputs;
   meters = meters;
@@ -118,10 +118,10 @@ bay_in file =
 -- of the points, then the inputs of the switches' keys
 abbrev pub file_refusal : Members → Option BayFault
 file_refusal file =
-    first_of
+    first_fault
     (unknown_refusal (map (λ section. section.name) sections) file
     ∷ map (section_refusal file) sections
-    ++ names_refusal (points_of_all (switches_in file) (names_in file Input) (names_in file Meter))
+    ++ names_refusal (bay_points (switches_in file) (names_in file Input) (names_in file Meter))
     ∷ remotes_refusal (names_in file Input) (switches_in file)
     ∷ [])
 

@@ -76,23 +76,23 @@ missing_refusal (word words) = Some MissingKey
 missing_refusal (optional form) = None
 
 -- the refusal of the value at a key, or of a missing value
-abbrev pub held_refusal : Form → Option Data → Option BayFault
-held_refusal form None = missing_refusal form
-held_refusal form (Some d) = if accepts form d then None else Some BadValue
+abbrev pub value_refusal : Form → Option Data → Option BayFault
+value_refusal form None = missing_refusal form
+value_refusal form (Some d) = if accepts form d then None else Some BadValue
 
 -- the refusal of a key of a table
 abbrev pub key_refusal : Members → Key → Option BayFault
-key_refusal table key = held_refusal key.form (get_member key.name table)
+key_refusal table key = value_refusal key.form (get_member key.name table)
 
 -- a check that refuses if its test is true
 abbrev pub refused_if : Bool → BayFault → Option BayFault
 refused_if test fault = if test then Some fault else None
 
 -- the first refusal of a list of checks
-abbrev pub first_of : List (Option BayFault) → Option BayFault
-first_of [] = None
-first_of (None ∷ checks) = first_of checks
-first_of (Some fault ∷ checks) = Some fault
+abbrev pub first_fault : List (Option BayFault) → Option BayFault
+first_fault [] = None
+first_fault (None ∷ checks) = first_fault checks
+first_fault (Some fault ∷ checks) = Some fault
 
 -- some key of the table is not one of the known keys
 abbrev pub has_unknown : List (List ℕ) → Members → Bool
@@ -106,7 +106,7 @@ unknown_refusal known table = if has_unknown known table then Some UnknownKey el
 -- the first refusal of a table with these keys: an unknown key, then key by key
 abbrev pub entry_refusal : List Key → Members → Option BayFault
 entry_refusal keys table =
-    first_of (unknown_refusal (map (λ key. key.name) keys) table ∷ map (key_refusal table) keys)
+    first_fault (unknown_refusal (map (λ key. key.name) keys) table ∷ map (key_refusal table) keys)
 
 -- the text at a key; empty if there is none
 abbrev pub text_in : Members → List ℕ → List ℕ

@@ -15,34 +15,34 @@ use Rattle.bay_base.specs.declared.switch.Control.{Control}
 use Rattle.bay_base.specs.declared.switch.Control.TheVariants.{Status, Direct, Sbo, SboEnhanced}
 use Rattle.bay_nodes.specs.declared.switch.Switch.{Switch}
 use Rattle.bay_nodes.specs.declared.nameplate.Nameplate.{Nameplate}
-use Rattle.bay_nodes.specs.Node.{Node, row, node_rows, node_name, class_of, node_number, position_parts, control_parts, interlocking_parts, meter_parts, rows_of_all}
+use Rattle.bay_nodes.specs.Node.{Node, row, node_rows, node_name, class_of, node_number, position_parts, control_parts, interlocking_parts, meter_parts, bay_rows}
 use Rattle.bay_nodes.specs.Names.{StatusNames, position_names, operation_names, opening_names, closing_names, ControlNames, control_names_of, MeterNames, meter_names_of}
-use Rattle.bay_config.specs.Point.{points_of, input_point, meter_points, points_of_all}
+use Rattle.bay_config.specs.Point.{points_of, input_point, meter_points, bay_points}
 use Rattle.bay_config.specs.Remote.{are_inputs}
 
 -- the point is one of those of the switch at this index
-pub record Owns (switches : List Switch) (place : ℕ) (point : Point) : Type 0 where
+pub record Owns (switches : List Switch) (index : ℕ) (point : Point) : Type 0 where
   pub switch : Switch
-  pub here : slice_get switches place ≡ Some switch
-  pub has : Contains (points_of place switch) point
+  pub here : slice_get switches index ≡ Some switch
+  pub has : Contains (points_of index switch) point
 
 -- the point is that of the input at this index
-pub record OwnsInput (inputs : List (List ℕ)) (place : ℕ) (point : Point) : Type 0 where
+pub record OwnsInput (inputs : List (List ℕ)) (index : ℕ) (point : Point) : Type 0 where
   pub name : List ℕ
-  pub here : slice_get inputs place ≡ Some name
-  pub is : point ≡ input_point place name
+  pub here : slice_get inputs index ≡ Some name
+  pub is : point ≡ input_point index name
 
 -- the point is one of those of the meter at this index
-pub record OwnsField (meters : List (List ℕ)) (place : ℕ) (point : Point) : Type 0 where
+pub record OwnsField (meters : List (List ℕ)) (index : ℕ) (point : Point) : Type 0 where
   pub id : List ℕ
-  pub here : slice_get meters place ≡ Some id
-  pub has : Contains (meter_points place id) point
+  pub here : slice_get meters index ≡ Some id
+  pub has : Contains (meter_points index id) point
 
 -- the point is one of the switch, the input or the meter that the source names
 abbrev pub IsOwnedAt : List Switch → List (List ℕ) → List (List ℕ) → Point → Source → Type 0
-IsOwnedAt switches inputs meters point (sources.Switch place which) = Owns switches place point
-IsOwnedAt switches inputs meters point (sources.Input place) = OwnsInput inputs place point
-IsOwnedAt switches inputs meters point (sources.Meter place field) = OwnsField meters place point
+IsOwnedAt switches inputs meters point (sources.Switch index which) = Owns switches index point
+IsOwnedAt switches inputs meters point (sources.Input index) = OwnsInput inputs index point
+IsOwnedAt switches inputs meters point (sources.Meter index field) = OwnsField meters index point
 
 -- the point is one of the switch, the input or the meter that its own source names
 abbrev pub IsOwned : List Switch → List (List ℕ) → List (List ℕ) → Point → Type 0
@@ -67,8 +67,8 @@ pub record IsBay (bay : Bay) : Type 0 where
   pub few_inputs : length bay.inputs ≤ 64
   pub few_meters : length bay.meters ≤ 8
   -- the points and the rows are derived from the nameplate, the switches, the inputs and the meters
-  pub points : bay.points ≡ points_of_all bay.switches bay.inputs bay.meters
-  pub rows : bay.rows ≡ rows_of_all (nameplate_of bay) bay.switches bay.meters
+  pub points : bay.points ≡ bay_points bay.switches bay.inputs bay.meters
+  pub rows : bay.rows ≡ bay_rows (nameplate_of bay) bay.switches bay.meters
   -- no two points have the same name, and each is one of the object that its source names
   pub names : AllPairs (λ p q. p.name ≢ q.name) bay.points
   pub owners : All (IsOwned bay.switches bay.inputs bay.meters) bay.points
@@ -152,32 +152,32 @@ pub record HasMeter (rows : List Row) (names : MeterNames) : Type 0 where
   pub phase_c : HasMeasured rows names.phase_c
 
 -- the name is that of the node XCBR or XSWI of the switch at this index
-pub record NamesPosition (bay : Bay) (place : ℕ) (name : List ℕ) : Type 0 where
+pub record NamesPosition (bay : Bay) (index : ℕ) (name : List ℕ) : Type 0 where
   pub switch : Switch
-  pub here : slice_get bay.switches place ≡ Some switch
-  pub named : name ≡ node_name (class_of switch.kind) (node_number bay.switches switch place)
+  pub here : slice_get bay.switches index ≡ Some switch
+  pub named : name ≡ node_name (class_of switch.kind) (node_number bay.switches switch index)
   pub node : IsBay bay → HasNode bay (record { name = name; parts = position_parts switch.kind })
   pub rows : IsBay bay → HasPosition bay.rows name
 
 -- the name is that of the node CSWI of the switch at this index
-pub record NamesControl (bay : Bay) (place : ℕ) (name : List ℕ) : Type 0 where
+pub record NamesControl (bay : Bay) (index : ℕ) (name : List ℕ) : Type 0 where
   pub switch : Switch
-  pub here : slice_get bay.switches place ≡ Some switch
-  pub named : name ≡ node_name (codes "CSWI") (place + 1)
+  pub here : slice_get bay.switches index ≡ Some switch
+  pub named : name ≡ node_name (codes "CSWI") (index + 1)
   pub node : IsBay bay → HasNode bay
       (record { name = name; parts = control_parts switch.control switch.sbo_timeout_ms })
   pub rows : IsBay bay → HasControl bay.rows name
   pub commands : IsBay bay → HasCommands bay.rows (control_names_of name) switch.control
 
 -- the name is that of the node CILO of the switch at this index
-pub record NamesInterlocking (bay : Bay) (place : ℕ) (name : List ℕ) : Type 0 where
-  pub named : name ≡ node_name (codes "CILO") (place + 1)
+pub record NamesInterlocking (bay : Bay) (index : ℕ) (name : List ℕ) : Type 0 where
+  pub named : name ≡ node_name (codes "CILO") (index + 1)
   pub node : IsBay bay → HasNode bay (record { name = name; parts = interlocking_parts })
   pub open_rows : IsBay bay → HasEnable bay.rows (opening_names name)
   pub close_rows : IsBay bay → HasEnable bay.rows (closing_names name)
 
 -- the name is that of the node MMXU of the meter at this index
-pub record NamesMeter (bay : Bay) (place : ℕ) (name : List ℕ) : Type 0 where
-  pub named : name ≡ node_name (codes "MMXU") (place + 1)
+pub record NamesMeter (bay : Bay) (index : ℕ) (name : List ℕ) : Type 0 where
+  pub named : name ≡ node_name (codes "MMXU") (index + 1)
   pub node : IsBay bay → HasNode bay (record { name = name; parts = meter_parts })
   pub rows : IsBay bay → HasMeter bay.rows (meter_names_of name)

@@ -14,86 +14,86 @@ use Rattle.bay_base.specs.declared.types.ElementaryType.{ElementaryType}
 use Rattle.bay_base.specs.declared.types.ElementaryType.TheVariants.{Bool as Truth, Int, Dint}
 use Rattle.bay_config.specs.declared.fault.BayFault.{BayFault}
 use Rattle.bay_config.specs.declared.fault.BayFault.TheVariants.{BadValue, DuplicateName}
-use Rattle.bay_config.specs.Key.{is_among, first_of, refused_if}
+use Rattle.bay_config.specs.Key.{is_among, first_fault, refused_if}
 
 -- a point of the switch at an index with this id: the ending of its name, its type, whether a
 -- program may write it, and which of the switch's points it is
 abbrev pub point_of : ℕ → List ℕ → List ℕ → ElementaryType → Bool → SwitchPoint → Point
-point_of place id ending kind writable which = record {
+point_of index id ending kind writable which = record {
   name = str_to_ascii_uppercase id ++ ending;
   kind = kind;
   writable = writable;
-  source = sources.Switch place which;
+  source = sources.Switch index which;
 }
 
 -- the points with the position of a switch
 abbrev pub position_points : ℕ → List ℕ → List Point
-position_points place id =
-    point_of place id (codes "_POS") Int false Position
-    ∷ point_of place id (codes "_OPEN") Truth false Open
-    ∷ point_of place id (codes "_CLOSED") Truth false Closed
+position_points index id =
+    point_of index id (codes "_POS") Int false Position
+    ∷ point_of index id (codes "_OPEN") Truth false Open
+    ∷ point_of index id (codes "_CLOSED") Truth false Closed
     ∷ []
 
 -- the points that release its opening and its closing
 abbrev pub enable_points : ℕ → List ℕ → List Point
-enable_points place id =
-    point_of place id (codes "_ENA_OPN") Truth true EnableOpen
-    ∷ point_of place id (codes "_ENA_CLS") Truth true EnableClose
+enable_points index id =
+    point_of index id (codes "_ENA_OPN") Truth true EnableOpen
+    ∷ point_of index id (codes "_ENA_CLS") Truth true EnableClose
     ∷ []
 
 -- the points of the switch at an index
 abbrev pub points_of : ℕ → Switch → List Point
-points_of place switch = position_points place switch.id ++ enable_points place switch.id
+points_of index switch = position_points index switch.id ++ enable_points index switch.id
 
 -- the points of a list of switches, the first of which has this index
 abbrev pub points_from : ℕ → List Switch → List Point
-points_from place [] = []
-points_from place (switch ∷ switches) = points_of place switch ++ points_from (place + 1) switches
+points_from index [] = []
+points_from index (switch ∷ switches) = points_of index switch ++ points_from (index + 1) switches
 
 -- the point of the input at an index, named after the input
 abbrev pub input_point : ℕ → List ℕ → Point
-input_point place name =
+input_point index name =
     record {
       name = str_to_ascii_uppercase name;
       kind = Truth;
       writable = false;
-      source = sources.Input place;
+      source = sources.Input index;
     }
 
 -- the points of a list of inputs, the first of which has this index
 abbrev pub inputs_from : ℕ → List (List ℕ) → List Point
-inputs_from place [] = []
-inputs_from place (name ∷ names) = input_point place name ∷ inputs_from (place + 1) names
+inputs_from index [] = []
+inputs_from index (name ∷ names) = input_point index name ∷ inputs_from (index + 1) names
 
 -- the point of a field of the meter at an index with this id: the ending of its name, and the field
 abbrev pub field_point : ℕ → List ℕ → List ℕ → MeterField → Point
-field_point place id ending field =
+field_point index id ending field =
     record {
       name = str_to_ascii_uppercase id ++ ending;
       kind = Dint;
       writable = false;
-      source = sources.Meter place field;
+      source = sources.Meter index field;
     }
 
 -- the points of the meter at an index
 abbrev pub meter_points : ℕ → List ℕ → List Point
-meter_points place id =
-    field_point place id (codes "_TOTW") TotW
-    ∷ field_point place id (codes "_TOTVAR") TotVAr
-    ∷ field_point place id (codes "_HZ") Hz
-    ∷ field_point place id (codes "_AA") PhaseA
-    ∷ field_point place id (codes "_AB") PhaseB
-    ∷ field_point place id (codes "_AC") PhaseC
+meter_points index id =
+    field_point index id (codes "_TOTW") TotW
+    ∷ field_point index id (codes "_TOTVAR") TotVAr
+    ∷ field_point index id (codes "_HZ") Hz
+    ∷ field_point index id (codes "_AA") PhaseA
+    ∷ field_point index id (codes "_AB") PhaseB
+    ∷ field_point index id (codes "_AC") PhaseC
     ∷ []
 
 -- the points of a list of meters, the first of which has this index
 abbrev pub meters_from : ℕ → List (List ℕ) → List Point
-meters_from place [] = []
-meters_from place (id ∷ ids) = meter_points place id ++ meters_from (place + 1) ids
+meters_from index [] = []
+meters_from index (id ∷ ids) = meter_points index id ++ meters_from (index + 1) ids
 
 -- the points of a bay: of its switches, its inputs and its meters
-abbrev pub points_of_all : List Switch → List (List ℕ) → List (List ℕ) → List Point
-points_of_all switches inputs meters =
+abbrev pub bay_points : List Switch → List (List ℕ) → List (List ℕ) → List Point
+bay_points switches inputs meters =
     points_from 0 switches ++ (inputs_from 0 inputs ++ meters_from 0 meters)
 
 -- some text occurs twice in the list
@@ -106,5 +106,5 @@ has_twin (s ∷ rest) = is_among rest s || has_twin rest
 abbrev pub names_refusal : List Point → Option BayFault
 names_refusal points =
     let names = map (λ p. p.name) points in
-    first_of (refused_if (has_twin names) DuplicateName
+    first_fault (refused_if (has_twin names) DuplicateName
     ∷ refused_if (list_any (λ name. is_some (reserved_of name)) names) BadValue ∷ [])

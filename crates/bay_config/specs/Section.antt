@@ -4,7 +4,7 @@ use Rattle.std.specs.Prelude.{ℕ, ◌+◌, nat_lt, Bool, true, not, ◌&&◌, L
 use Rattle.toml.specs.Data.{Data, Items, no_items, item, Members, get_member, as_table, as_array}
 use Rattle.bay_config.specs.declared.fault.BayFault.{BayFault}
 use Rattle.bay_config.specs.declared.fault.BayFault.TheVariants.{MissingKey, BadValue, TooMany}
-use Rattle.bay_config.specs.Key.{Key, first_of, refused_if, entry_refusal}
+use Rattle.bay_config.specs.Key.{Key, first_fault, refused_if, entry_refusal}
 
 -- how often a section occurs in a file
 pub data Shape : Type 0 where
@@ -50,7 +50,7 @@ list_checks least most items =
 -- the list as a whole, then table by table
 abbrev pub items_refusal : ℕ → ℕ → (Members → List Key) → Items → Option BayFault
 items_refusal least most keys items =
-    first_of (list_checks least most items
+    first_fault (list_checks least most items
     ++ map (λ table. entry_refusal (keys table) table) (tables_of items))
 
 -- the refusal of a section that must be a list; `None` is a section that is not a list

@@ -7,7 +7,7 @@ ghost use Rattle.std.specs.Str.{bytes_eq};
 ghost use Rattle.toml.specs.Data.{as_str, get_member};
 ghost use Rattle.toml.specs.View.{view, table_view};
 ghost use Rattle.bay_config.specs.declared.fault.BayFault.TheVariants.{OutOfMemory};
-ghost use Rattle.bay_base.specs.Exact.{Gives, unless_refused};
+ghost use Rattle.bay_base.specs.Exact.{ExactOr, unless_refused};
 ghost use Rattle.bay_config.specs.Key.{identifier, description, number, optional, unknown_refusal, key_refusal, text_in, number_in};
 ghost use Rattle.bay_config.specs.Key as spec;
 
@@ -102,9 +102,9 @@ fn is_description(text: &str) -> bool
 /// Reads the identifier at a key, of at most `most` characters. `MissingKey` if the table does not
 /// have the key, `BadValue` if its value is not such an identifier, `OutOfMemory` if an allocation
 /// fails.
-pub fn identifier_at(alloc: Global, table: &Table, key: &str, most: usize) -> Result<Text, BayFault>
+pub fn read_identifier(alloc: Global, table: &Table, key: &str, most: usize) -> Result<Text, BayFault>
     ensures { let file = table_view table.now in
-        Gives OutOfMemory (λ x. x) result
+        ExactOr OutOfMemory (λ x. x) result
         (unless_refused (key_refusal file (record { name = key.now; form = identifier most }))
         (text_in file key.now)) }
 {
@@ -120,14 +120,14 @@ pub fn identifier_at(alloc: Global, table: &Table, key: &str, most: usize) -> Re
 /// Reads the identifier at a key, of at most `most` characters; `None` if the table does not have
 /// the key. `BadValue` if its value is not such an identifier, `OutOfMemory` if an allocation
 /// fails.
-pub fn identifier_if(
+pub fn read_optional_identifier(
     alloc: Global,
     table: &Table,
     key: &str,
     most: usize,
 ) -> Result<Option<Text>, BayFault>
     ensures { let file = table_view table.now in
-        Gives OutOfMemory (λ x. x) result
+        ExactOr OutOfMemory (λ x. x) result
         (unless_refused
         (key_refusal file (record { name = key.now; form = optional (identifier most) }))
         (option_and_then as_str (get_member key.now file))) }
@@ -144,9 +144,9 @@ pub fn identifier_if(
 /// Reads the description at a key: 1 to 64 characters from space to `~`. `MissingKey` if the table
 /// does not have the key, `BadValue` if its value is not a description, `OutOfMemory` if an
 /// allocation fails.
-pub fn description_at(alloc: Global, table: &Table, key: &str) -> Result<Text, BayFault>
+pub fn read_description(alloc: Global, table: &Table, key: &str) -> Result<Text, BayFault>
     ensures { let file = table_view table.now in
-        Gives OutOfMemory (λ x. x) result
+        ExactOr OutOfMemory (λ x. x) result
         (unless_refused (key_refusal file (record { name = key.now; form = description }))
         (text_in file key.now)) }
 {
@@ -161,7 +161,7 @@ pub fn description_at(alloc: Global, table: &Table, key: &str) -> Result<Text, B
 
 /// Reads the number at a key, from `least` to `most`. `MissingKey` if the table does not have the
 /// key, `BadValue` if its value is not such a number.
-pub fn number_at(table: &Table, key: &str, least: u32, most: u32) -> Result<u32, BayFault>
+pub fn read_u32(table: &Table, key: &str, least: u32, most: u32) -> Result<u32, BayFault>
     ensures { let file = table_view table.now in
         result ≡ unless_refused
         (key_refusal file (record { name = key.now; form = number least most }))

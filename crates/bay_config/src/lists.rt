@@ -4,7 +4,7 @@ ghost use Rattle.std.specs.List.{list_all};
 ghost use Rattle.toml.specs.Data.{as_table};
 ghost use Rattle.toml.specs.View.{view, items_view};
 ghost use Rattle.bay_base.specs.Exact.{unless_refused};
-ghost use Rattle.bay_config.specs.Key.{first_of};
+ghost use Rattle.bay_config.specs.Key.{first_fault};
 ghost use Rattle.bay_config.specs.Section.{list_checks};
 
 use crate::fault::BayFault;
@@ -20,7 +20,7 @@ fn are_tables(values: &[Value]) -> bool
 /// Checks a list: `MissingKey` if it has fewer than `least` values, then `BadValue` if a value is
 /// not a table, then `TooMany` if it has more than `most` values.
 pub fn check_list(values: &[Value], least: usize, most: usize) -> Result<(), BayFault>
-    ensures { result ≡ unless_refused (first_of (list_checks least most (items_view values.now)))
+    ensures { result ≡ unless_refused (first_fault (list_checks least most (items_view values.now)))
         tt }
 {
     if values.len() < least {

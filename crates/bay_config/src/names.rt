@@ -4,12 +4,12 @@ ghost use Rattle.toml.specs.Data.{get_member};
 ghost use Rattle.toml.specs.View.{table_view, items_view};
 ghost use Rattle.bay_config.specs.declared.fault.BayFault.TheVariants.{OutOfMemory};
 ghost use Rattle.bay_config.specs.Bay.{name_key, name_keys, name_in, section_name, max_names, name_section, names_in};
-ghost use Rattle.bay_base.specs.Exact.{Gives, unless_refused};
-ghost use Rattle.bay_config.specs.Key.{first_of, entry_refusal};
+ghost use Rattle.bay_base.specs.Exact.{ExactOr, unless_refused};
+ghost use Rattle.bay_config.specs.Key.{first_fault, entry_refusal};
 ghost use Rattle.bay_config.specs.Section.{tables_of, items_at, items_refusal, section_refusal};
 
 use crate::fault::BayFault;
-use crate::keys::{check_keys, find, identifier_at};
+use crate::keys::{check_keys, find, read_identifier};
 use crate::lists::check_list;
 use bay_base::listing::Listing;
 use bay_base::text::Text;
@@ -68,30 +68,30 @@ impl NameSection {
 }
 
 // Reads the name in a table.
-fn name_from(alloc: Global, table: &Table, which: NameSection) -> Result<Text, BayFault>
+fn read_name(alloc: Global, table: &Table, which: NameSection) -> Result<Text, BayFault>
     ensures { let t = table_view table.now in
-        Gives OutOfMemory (λ x. x) result
+        ExactOr OutOfMemory (λ x. x) result
         (unless_refused (entry_refusal (name_keys which) t) (name_in which t)) }
 {
     check_keys(table, which.keys())?;
-    identifier_at(alloc, table, which.key(), 16)
+    read_identifier(alloc, table, which.key(), 16)
 }
 
 // Reads the names in the tables of a list.
-fn names_from(
+fn read_names(
     alloc: Global,
     values: &[Value],
     which: NameSection,
 ) -> Result<Listing<Text>, BayFault>
     ensures { let tables = tables_of (items_view values.now) in
-        Gives OutOfMemory (λ x. x) result
-        (unless_refused (first_of (map (λ t. entry_refusal (name_keys which) t) tables))
+        ExactOr OutOfMemory (λ x. x) result
+        (unless_refused (first_fault (map (λ t. entry_refusal (name_keys which) t) tables))
         (map (name_in which) tables)) }
 {
     let mut names = Vec::new(alloc);
     for i in 0..values.len() {
         if let Some(table) = values[i].as_table() {
-            let name = name_from(alloc, table, which)?;
+            let name = read_name(alloc, table, which)?;
             names.push(name)?;
         }
     }
@@ -100,29 +100,29 @@ fn names_from(
 
 // Reads the names in a list. Refuses a list with too many values, or with a value that is not a
 // table.
-fn names_of(alloc: Global, values: &[Value], which: NameSection) -> Result<Listing<Text>, BayFault>
+fn read_name_list(alloc: Global, values: &[Value], which: NameSection) -> Result<Listing<Text>, BayFault>
     ensures { let items = items_view values.now in
-        Gives OutOfMemory (λ x. x) result
+        ExactOr OutOfMemory (λ x. x) result
         (unless_refused (items_refusal 0 (max_names which) (λ _. name_keys which) items)
         (map (name_in which) (tables_of items))) }
 {
     check_list(values, 0, which.most())?;
-    names_from(alloc, values, which)
+    read_names(alloc, values, which)
 }
 
 /// Reads the names in a section; none if the section is missing. `BadValue` if the section is not a
 /// list; otherwise its first fault, or `OutOfMemory` if an allocation fails. Does not allocate for
 /// a value that is not a list.
-pub fn names_at(alloc: Global, file: &Table, which: NameSection) -> Result<Listing<Text>, BayFault>
+pub fn read_name_section(alloc: Global, file: &Table, which: NameSection) -> Result<Listing<Text>, BayFault>
     ensures names { let f = table_view file.now in
-        Gives OutOfMemory (λ x. x) result
+        ExactOr OutOfMemory (λ x. x) result
         (unless_refused (section_refusal f (name_section which)) (names_in f which)) }
     ensures memory { IsErrOf result OutOfMemory
         → IsSome (items_at (get_member (section_name which) (table_view file.now))) }
 {
     match find(file, which.name()) {
         Some(value) => match value.as_array() {
-            Some(values) => names_of(alloc, values.as_slice(), which),
+            Some(values) => read_name_list(alloc, values.as_slice(), which),
             None => Err(BayFault::BadValue),
         },
         None => Ok(Listing::new(Vec::new(alloc))),

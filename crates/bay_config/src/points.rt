@@ -3,7 +3,7 @@ ghost use Rattle.std.specs.Prelude.{◌≡◌, ◌∷◌, [], ◌++◌, map, is_
 ghost use Rattle.std.specs.List.{list_any};
 ghost use Rattle.std.specs.Str.{bytes_eq, str_to_ascii_uppercase};
 ghost use Rattle.bay_base.specs.Exact.{unless_refused};
-ghost use Rattle.bay_config.specs.Point.{position_points, enable_points, points_from, inputs_from, field_point, meter_points, meters_from, points_of_all, names_refusal};
+ghost use Rattle.bay_config.specs.Point.{position_points, enable_points, points_from, inputs_from, field_point, meter_points, meters_from, bay_points, names_refusal};
 ghost use Rattle.bay_config.specs.Point as spec;
 ghost use Rattle.bay_base.specs.Words.{reserved_of};
 
@@ -139,15 +139,15 @@ fn push_enables(
 fn push_points(
     alloc: Global,
     points: &mut Vec<Point>,
-    place: usize,
+    index: usize,
     switch: &Switch,
 ) -> Result<(), AllocError>
     ensures { IfOk result (λ _. points.new.items
-        ≡ points.old.items ++ spec.points_of place switch.now) }
+        ≡ points.old.items ++ spec.points_of index switch.now) }
 {
     let id = switch.id.as_str();
-    push_position(alloc, points, place, id)?;
-    push_enables(alloc, points, place, id)?;
+    push_position(alloc, points, index, id)?;
+    push_enables(alloc, points, index, id)?;
     Ok(())
 }
 
@@ -159,8 +159,8 @@ fn push_switches(
 ) -> Result<(), AllocError>
     ensures { IfOk result (λ _. points.new.items ≡ points.old.items ++ points_from 0 switches.now) }
 {
-    for place in 0..switches.len() {
-        push_points(alloc, points, place, &switches[place])?;
+    for index in 0..switches.len() {
+        push_points(alloc, points, index, &switches[index])?;
     }
     Ok(())
 }
@@ -243,7 +243,7 @@ pub fn points_of(
     inputs: &[Text],
     meters: &[Text],
 ) -> Result<Listing<Point>, AllocError>
-    ensures { IfOk result (λ points. points ≡ points_of_all switches.now inputs.now meters.now) }
+    ensures { IfOk result (λ points. points ≡ bay_points switches.now inputs.now meters.now) }
 {
     let mut points = Vec::new(alloc);
     push_switches(alloc, &mut points, switches)?;

@@ -5,22 +5,22 @@ ghost use Rattle.toml.specs.View.{table_view};
 ghost use Rattle.bay_config.specs.Bay.{bay_table, bay_of_table, bay_of, document_of, nameplate_in, names_in, sections, switches_in};
 ghost use Rattle.bay_config.specs.declared.fault.BayFault.TheVariants.{BadToml, OutOfMemory};
 ghost use Rattle.bay_config.specs.declared.names.NameSection.TheVariants.{Input, Meter};
-ghost use Rattle.bay_base.specs.Exact.{Gives, unless_refused};
-ghost use Rattle.bay_config.specs.Key.{first_of, unknown_refusal};
+ghost use Rattle.bay_base.specs.Exact.{ExactOr, unless_refused};
+ghost use Rattle.bay_config.specs.Key.{first_fault, unknown_refusal};
 ghost use Rattle.bay_config.specs.Laws.{IsBay};
-ghost use Rattle.bay_nodes.specs.Node.{rows_of_all};
-ghost use Rattle.bay_config.specs.Point.{names_refusal, points_of_all};
+ghost use Rattle.bay_nodes.specs.Node.{bay_rows};
+ghost use Rattle.bay_config.specs.Point.{names_refusal, bay_points};
 ghost use Rattle.bay_config.specs.Remote.{remotes_refusal};
 ghost use Rattle.bay_config.specs.Section.{section_refusal};
 
 use crate::bay::{Bay, Point, Switch};
 use crate::fault::BayFault;
 use crate::keys::check_keys;
-use crate::nameplate::nameplate_at;
-use crate::names::{NameSection, names_at};
+use crate::nameplate::read_nameplate;
+use crate::names::{NameSection, read_name_section};
 use crate::points::{check_names, points_of};
 use crate::remotes::check_remotes;
-use crate::switches::switches_at;
+use crate::switches::read_switch_section;
 use bay_base::listing::Listing;
 use bay_base::text::Text;
 use bay_nodes::nameplate::Nameplate;
@@ -39,10 +39,10 @@ struct Sections {
 }
 
 // Reads the sections of a file, in their order.
-fn sections_at(alloc: Global, file: &Table) -> Result<Sections, BayFault>
+fn read_sections(alloc: Global, file: &Table) -> Result<Sections, BayFault>
     ensures { let f = table_view file.now in
-        Gives OutOfMemory (λ x. x) result
-        (unless_refused (first_of (unknown_refusal (map (λ s. s.name) sections) f
+        ExactOr OutOfMemory (λ x. x) result
+        (unless_refused (first_fault (unknown_refusal (map (λ s. s.name) sections) f
         ∷ map (section_refusal f) sections))
         (record {
           nameplate = nameplate_in (bay_table f);
@@ -52,10 +52,10 @@ fn sections_at(alloc: Global, file: &Table) -> Result<Sections, BayFault>
         })) }
 {
     check_keys(file, &["bay", "switch", "input", "meter"])?;
-    let nameplate = nameplate_at(alloc, file)?;
-    let switches = switches_at(alloc, file)?;
-    let inputs = names_at(alloc, file, NameSection::Input)?;
-    let meters = names_at(alloc, file, NameSection::Meter)?;
+    let nameplate = read_nameplate(alloc, file)?;
+    let switches = read_switch_section(alloc, file)?;
+    let inputs = read_name_section(alloc, file, NameSection::Input)?;
+    let meters = read_name_section(alloc, file, NameSection::Meter)?;
     Ok(Sections {
         nameplate,
         switches,
@@ -73,12 +73,12 @@ struct Lists {
 
 // Returns the points and the rows. Refuses two points with the same name, then a point with the
 // name of a reserved word, then a switch whose key is not an input.
-fn lists_of(alloc: Global, sections: &Sections) -> Result<Lists, BayFault>
-    ensures { let s = sections.now in let points = points_of_all s.switches s.inputs s.meters in
-        Gives OutOfMemory (λ x. x) result
+fn derive_lists(alloc: Global, sections: &Sections) -> Result<Lists, BayFault>
+    ensures { let s = sections.now in let points = bay_points s.switches s.inputs s.meters in
+        ExactOr OutOfMemory (λ x. x) result
         (unless_refused
-        (first_of (names_refusal points ∷ remotes_refusal s.inputs s.switches ∷ []))
-        (record { points = points; rows = rows_of_all s.nameplate s.switches s.meters })) }
+        (first_fault (names_refusal points ∷ remotes_refusal s.inputs s.switches ∷ []))
+        (record { points = points; rows = bay_rows s.nameplate s.switches s.meters })) }
 {
     let switches = sections.switches.as_slice();
     let meters = sections.meters.as_slice();
@@ -126,12 +126,12 @@ fn bay_with(sections: Sections, lists: Lists) -> Bay
 }
 
 // Reads the bay from the table of a file.
-fn bay_from(alloc: Global, file: &Table) -> Result<Bay, BayFault>
-    ensures read { Gives OutOfMemory (λ x. x) result (bay_of_table (table_view file.now)) }
+fn read_bay_table(alloc: Global, file: &Table) -> Result<Bay, BayFault>
+    ensures read { ExactOr OutOfMemory (λ x. x) result (bay_of_table (table_view file.now)) }
     ensures sound { IfOk result IsBay }
 {
-    let sections = sections_at(alloc, file)?;
-    let lists = lists_of(alloc, &sections)?;
+    let sections = read_sections(alloc, file)?;
+    let lists = derive_lists(alloc, &sections)?;
     Ok(bay_with(sections, lists))
 }
 
@@ -140,8 +140,8 @@ const MAX_OCTETS: usize = 262_144;
 
 // Parses a bay file into its table. Does not parse a text that is too long.
 #[tactic(auto, unfolding(crate::specs::Bay::document_of))]
-fn document_at(alloc: Global, text: &str) -> Result<Table, BayFault>
-    ensures { Gives OutOfMemory table_view result (ok_or (document_of text.now) BadToml) }
+fn parse_table(alloc: Global, text: &str) -> Result<Table, BayFault>
+    ensures { ExactOr OutOfMemory table_view result (ok_or (document_of text.now) BadToml) }
 {
     if text.len() > MAX_OCTETS {
         return Err(BayFault::BadToml);
@@ -162,10 +162,10 @@ fn document_at(alloc: Global, text: &str) -> Result<Table, BayFault>
 pub fn read_bay(alloc: Global, text: &str) -> Result<Bay, BayFault>
     // The bay that the text describes, or its first refusal; `OutOfMemory` if an allocation fails.
     // A text of more than 262,144 octets is refused, whatever its contents.
-    ensures read { Gives OutOfMemory (λ x. x) result (bay_of text.now) }
+    ensures read { ExactOr OutOfMemory (λ x. x) result (bay_of text.now) }
     ensures sound { IfOk result IsBay }
 {
-    let file = document_at(alloc, text)?;
-    let bay = bay_from(alloc, &file)?;
+    let file = parse_table(alloc, text)?;
+    let bay = read_bay_table(alloc, &file)?;
     Ok(bay)
 }

@@ -5,14 +5,14 @@ ghost use Rattle.bay_base.specs.declared.switch.SwitchKind.TheVariants.{Breaker}
 ghost use Rattle.bay_config.specs.declared.fault.BayFault.TheVariants.{OutOfMemory};
 ghost use Rattle.bay_base.specs.declared.switch.Control.TheVariants.{Status};
 ghost use Rattle.bay_config.specs.Bay.{switch_section, switches_in};
-ghost use Rattle.bay_base.specs.Exact.{Gives, unless_refused};
-ghost use Rattle.bay_config.specs.Key.{first_of, has_unknown, key_refusal, entry_refusal, value_named, number_in};
+ghost use Rattle.bay_base.specs.Exact.{ExactOr, unless_refused};
+ghost use Rattle.bay_config.specs.Key.{first_fault, has_unknown, key_refusal, entry_refusal, value_named, number_in};
 ghost use Rattle.bay_config.specs.Section.{tables_of, items_refusal, section_refusal};
 ghost use Rattle.bay_config.specs.Switch.{kinds, controls, kind_of, control_of, kind_key, control_key, sbo_timeout_key, travel_key, time_keys, remote_key, synchrocheck_key, synchrocheck_keys, optional_keys, remote_in, refuses_in, switch_keys, switch_in};
 
 use crate::bay::{Control, Switch, SwitchKind};
 use crate::fault::BayFault;
-use crate::keys::{check_keys, find, identifier_at, identifier_if, number_at};
+use crate::keys::{check_keys, find, read_identifier, read_optional_identifier, read_u32};
 use crate::lists::check_list;
 use bay_base::listing::Listing;
 use bay_base::text::Text;
@@ -59,7 +59,7 @@ fn readable_kind(table: &Table) -> Option<SwitchKind>
 
 // Reads the kind of a switch: one of three words.
 #[tactic(auto, using(crate::proofs::KeyLemmas::among_named))]
-fn kind_at(table: &Table) -> Result<SwitchKind, BayFault>
+fn read_kind(table: &Table) -> Result<SwitchKind, BayFault>
     ensures held { let t = table_view table.now in
         result ≡ unless_refused (key_refusal t kind_key) (unwrap_or (kind_of t) Breaker) }
     ensures readable { IfOk result (λ k. kind_of (table_view table.now) ≡ Some k) }
@@ -91,7 +91,7 @@ fn readable_control(table: &Table) -> Option<Control>
 
 // Reads the kind of a switch's control: one of four words.
 #[tactic(auto, using(crate::proofs::KeyLemmas::among_named))]
-fn control_at(table: &Table) -> Result<Control, BayFault>
+fn read_control(table: &Table) -> Result<Control, BayFault>
     ensures held { let t = table_view table.now in
         result ≡ unless_refused (key_refusal t control_key) (unwrap_or (control_of t) Status) }
     ensures readable { IfOk result (λ c. control_of (table_view table.now) ≡ Some c) }
@@ -148,39 +148,39 @@ fn switch_key_names(control: Option<Control>, kind: Option<SwitchKind>) -> &'sta
 }
 
 // Reads the time that a selection lasts and the time that the switch may travel, in milliseconds.
-fn both_times_at(table: &Table) -> Result<(u32, u32), BayFault>
+fn read_both_times(table: &Table) -> Result<(u32, u32), BayFault>
     ensures { let t = table_view table.now in
-        result ≡ unless_refused (first_of (map (key_refusal t) (sbo_timeout_key ∷ travel_key ∷ [])))
+        result ≡ unless_refused (first_fault (map (key_refusal t) (sbo_timeout_key ∷ travel_key ∷ [])))
         (number_in t (codes "sbo_timeout_ms"), number_in t (codes "travel_ms")) }
 {
-    let sbo_timeout_ms = number_at(table, "sbo_timeout_ms", 1, 600_000)?;
-    let travel_ms = number_at(table, "travel_ms", 1, 600_000)?;
+    let sbo_timeout_ms = read_u32(table, "sbo_timeout_ms", 1, 600_000)?;
+    let travel_ms = read_u32(table, "travel_ms", 1, 600_000)?;
     Ok((sbo_timeout_ms, travel_ms))
 }
 
 // Reads the time that a selection lasts and the time that the switch may travel, in milliseconds; 0
 // if the kind of control excludes the key.
-fn times_at(table: &Table, control: Control) -> Result<(u32, u32), BayFault>
+fn read_times(table: &Table, control: Control) -> Result<(u32, u32), BayFault>
     requires known { has_unknown (map (λ k. k.name) (switch_keys (table_view table.now)))
         (table_view table.now) ≡ false }
     requires readable { control_of (table_view table.now) ≡ Some control }
     ensures { let t = table_view table.now in
-        result ≡ unless_refused (first_of (map (key_refusal t) (time_keys (Some control))))
+        result ≡ unless_refused (first_fault (map (key_refusal t) (time_keys (Some control))))
         (number_in t (codes "sbo_timeout_ms"), number_in t (codes "travel_ms")) }
 {
     match control {
         Control::Status => Ok((0, 0)),
         Control::Direct => {
-            let travel_ms = number_at(table, "travel_ms", 1, 600_000)?;
+            let travel_ms = read_u32(table, "travel_ms", 1, 600_000)?;
             Ok((0, travel_ms))
         }
-        Control::Sbo => both_times_at(table),
-        Control::SboEnhanced => both_times_at(table),
+        Control::Sbo => read_both_times(table),
+        Control::SboEnhanced => read_both_times(table),
     }
 }
 
 // Reads whether a breaker refuses a synchrocheck: only the word `refuse` may be there.
-fn refusal_at(table: &Table) -> Result<bool, BayFault>
+fn read_synchrocheck(table: &Table) -> Result<bool, BayFault>
     ensures { let t = table_view table.now in
         result ≡ unless_refused (key_refusal t synchrocheck_key) (refuses_in t) }
 {
@@ -200,23 +200,23 @@ fn refusal_at(table: &Table) -> Result<bool, BayFault>
 }
 
 // Reads whether a switch of this kind refuses a synchrocheck; `false` if its kind excludes the key.
-fn refusal_of(table: &Table, kind: SwitchKind) -> Result<bool, BayFault>
+fn read_synchrocheck_of_kind(table: &Table, kind: SwitchKind) -> Result<bool, BayFault>
     requires known { has_unknown (map (λ k. k.name) (switch_keys (table_view table.now)))
         (table_view table.now) ≡ false }
     requires readable { kind_of (table_view table.now) ≡ Some kind }
     ensures { let t = table_view table.now in
-        result ≡ unless_refused (first_of (map (key_refusal t) (synchrocheck_keys (Some kind))))
+        result ≡ unless_refused (first_fault (map (key_refusal t) (synchrocheck_keys (Some kind))))
         (refuses_in t) }
 {
     match kind {
-        SwitchKind::Breaker => refusal_at(table),
+        SwitchKind::Breaker => read_synchrocheck(table),
         SwitchKind::Disconnector => Ok(false),
         SwitchKind::Earthing => Ok(false),
     }
 }
 
 // Reads the name of the input of a controlled switch's key, and whether it refuses a synchrocheck.
-fn both_options_at(
+fn read_both_options(
     alloc: Global,
     table: &Table,
     kind: SwitchKind,
@@ -225,19 +225,19 @@ fn both_options_at(
         (table_view table.now) ≡ false }
     requires readable { kind_of (table_view table.now) ≡ Some kind }
     ensures { let t = table_view table.now in
-        Gives OutOfMemory (λ x. x) result
+        ExactOr OutOfMemory (λ x. x) result
         (unless_refused
-        (first_of (map (key_refusal t) (remote_key ∷ synchrocheck_keys (Some kind))))
+        (first_fault (map (key_refusal t) (remote_key ∷ synchrocheck_keys (Some kind))))
         (remote_in t, refuses_in t)) }
 {
-    let remote = identifier_if(alloc, table, "remote", 16)?;
-    let refuses_synchrocheck = refusal_of(table, kind)?;
+    let remote = read_optional_identifier(alloc, table, "remote", 16)?;
+    let refuses_synchrocheck = read_synchrocheck_of_kind(table, kind)?;
     Ok((remote, refuses_synchrocheck))
 }
 
 // Reads the keys that a switch may leave out: the name of the input of its key, and whether it
 // refuses a synchrocheck. A switch without control has neither.
-fn options_at(
+fn read_options(
     alloc: Global,
     table: &Table,
     control: Control,
@@ -248,34 +248,34 @@ fn options_at(
     requires control { control_of (table_view table.now) ≡ Some control }
     requires kind { kind_of (table_view table.now) ≡ Some kind }
     ensures { let t = table_view table.now in
-        Gives OutOfMemory (λ x. x) result
+        ExactOr OutOfMemory (λ x. x) result
         (unless_refused
-        (first_of (map (key_refusal t) (optional_keys (Some control) (Some kind))))
+        (first_fault (map (key_refusal t) (optional_keys (Some control) (Some kind))))
         (remote_in t, refuses_in t)) }
 {
     match control {
         Control::Status => Ok((None, false)),
-        Control::Direct => both_options_at(alloc, table, kind),
-        Control::Sbo => both_options_at(alloc, table, kind),
-        Control::SboEnhanced => both_options_at(alloc, table, kind),
+        Control::Direct => read_both_options(alloc, table, kind),
+        Control::Sbo => read_both_options(alloc, table, kind),
+        Control::SboEnhanced => read_both_options(alloc, table, kind),
     }
 }
 
 // Reads the switch in a table.
-fn switch_from(alloc: Global, table: &Table) -> Result<Switch, BayFault>
+fn read_switch(alloc: Global, table: &Table) -> Result<Switch, BayFault>
     ensures { let t = table_view table.now in
-        Gives OutOfMemory (λ x. x) result
+        ExactOr OutOfMemory (λ x. x) result
         (unless_refused (entry_refusal (switch_keys t) t) (switch_in t)) }
 {
     check_keys(
         table,
         switch_key_names(readable_control(table), readable_kind(table)),
     )?;
-    let id = identifier_at(alloc, table, "id", 16)?;
-    let kind = kind_at(table)?;
-    let control = control_at(table)?;
-    let (sbo_timeout_ms, travel_ms) = times_at(table, control)?;
-    let (remote, refuses_synchrocheck) = options_at(alloc, table, control, kind)?;
+    let id = read_identifier(alloc, table, "id", 16)?;
+    let kind = read_kind(table)?;
+    let control = read_control(table)?;
+    let (sbo_timeout_ms, travel_ms) = read_times(table, control)?;
+    let (remote, refuses_synchrocheck) = read_options(alloc, table, control, kind)?;
     Ok(Switch {
         id,
         kind,
@@ -288,16 +288,16 @@ fn switch_from(alloc: Global, table: &Table) -> Result<Switch, BayFault>
 }
 
 // Reads the switches in the tables of a list.
-fn switches_from(alloc: Global, values: &[Value]) -> Result<Listing<Switch>, BayFault>
+fn read_switches(alloc: Global, values: &[Value]) -> Result<Listing<Switch>, BayFault>
     ensures { let tables = tables_of (items_view values.now) in
-        Gives OutOfMemory (λ x. x) result
-        (unless_refused (first_of (map (λ t. entry_refusal (switch_keys t) t) tables))
+        ExactOr OutOfMemory (λ x. x) result
+        (unless_refused (first_fault (map (λ t. entry_refusal (switch_keys t) t) tables))
         (map switch_in tables)) }
 {
     let mut switches = Vec::new(alloc);
     for i in 0..values.len() {
         if let Some(table) = values[i].as_table() {
-            let switch = switch_from(alloc, table)?;
+            let switch = read_switch(alloc, table)?;
             switches.push(switch)?;
         }
     }
@@ -305,25 +305,25 @@ fn switches_from(alloc: Global, values: &[Value]) -> Result<Listing<Switch>, Bay
 }
 
 // Reads the switches in a list, which must have 1 to 32 values, each a table.
-fn switches_of(alloc: Global, values: &[Value]) -> Result<Listing<Switch>, BayFault>
+fn read_switch_list(alloc: Global, values: &[Value]) -> Result<Listing<Switch>, BayFault>
     ensures { let items = items_view values.now in
-        Gives OutOfMemory (λ x. x) result
+        ExactOr OutOfMemory (λ x. x) result
         (unless_refused (items_refusal 1 32 switch_keys items) (map switch_in (tables_of items))) }
 {
     check_list(values, 1, 32)?;
-    switches_from(alloc, values)
+    read_switches(alloc, values)
 }
 
 /// Reads the section `switch`. `MissingKey` if the file has no such section, `BadValue` if it is
 /// not a list; otherwise its first fault, or `OutOfMemory` if an allocation fails.
-pub fn switches_at(alloc: Global, file: &Table) -> Result<Listing<Switch>, BayFault>
+pub fn read_switch_section(alloc: Global, file: &Table) -> Result<Listing<Switch>, BayFault>
     ensures { let f = table_view file.now in
-        Gives OutOfMemory (λ x. x) result
+        ExactOr OutOfMemory (λ x. x) result
         (unless_refused (section_refusal f switch_section) (switches_in f)) }
 {
     match find(file, "switch") {
         Some(value) => match value.as_array() {
-            Some(values) => switches_of(alloc, values.as_slice()),
+            Some(values) => read_switch_list(alloc, values.as_slice()),
             None => Err(BayFault::BadValue),
         },
         None => Err(BayFault::MissingKey),

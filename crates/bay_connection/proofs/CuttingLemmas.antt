@@ -7,8 +7,8 @@ use Rattle.bay_transport.proofs.RunLemmas.{doings-append, after-append}
 use Rattle.bay_transport.proofs.SizeLemmas.{after-size}
 use Rattle.bay_assoc.specs.declared.fault.AssocFault.{AssocFault}
 use Rattle.bay_assoc.specs.declared.receive.Phase.{Phase}
-use Rattle.bay_assoc.specs.Receiving.{TsduMeaning, answer, mms, released, aborted, tsdu_meaning}
-use Rattle.bay_connection.specs.ConnectionStates.{ConnectionState, Terms, answers, tells, ConnectionStep, step_on_tsdu, step_on_tsdu_result, data_tpdus, after_doings, connection_step, indications, connection_after}
+use Rattle.bay_assoc.specs.TsduMeanings.{TsduMeaning, answer, mms, released, aborted, tsdu_meaning}
+use Rattle.bay_connection.specs.ConnectionStates.{ConnectionState, Terms, answers, delivers, ConnectionStep, step_on_tsdu, step_on_tsdu_result, data_tpdus, after_doings, connection_step, indications, connection_after}
 use Rattle.bay_connection.specs.Feeding.{and_then}
 
 -- ---- doings, and then octets
@@ -25,7 +25,7 @@ heard-cut s (answer tsdu) terms piece longer later e =
     r) e
 heard-cut s (mms pdu) terms piece longer later e =
     ap (λ (t : ConnectionStep). let r : ConnectionStep =
-    record { indications = tells terms pdu ∷ t.indications; left = t.left } in r) e
+    record { indications = delivers terms pdu ∷ t.indications; left = t.left } in r) e
 heard-cut s (released tsdu) terms piece longer later e = refl
 heard-cut s aborted terms piece longer later e = refl
 

@@ -8,12 +8,12 @@ use Rattle.bay_transport.specs.declared.fed.Got.TheVariants as got
 use Rattle.bay_transport.specs.Code.{code_of}
 use Rattle.bay_transport.specs.Doings.{Doing, Answers, Delivers, Ends, Fails, StreamState, Going, Over, Broken, Stream, doings, after}
 use Rattle.bay_transport.specs.Feeding as feeding
-use Rattle.bay_transport.specs.Feeding.{Received, doing_for, size_agreed, agreed_from, size_after, end_of_stream, broken, IsGoing, RefusesPiece}
+use Rattle.bay_transport.specs.Feeding.{TransportData, doing_of_result, size_agreed, agreed_from, size_after, end_of_stream, broken, AcceptsOctets, RefusesPiece}
 use Rattle.bay_transport.proofs.SizeLemmas.{after-size, delivers-size, quiet-going}
 use Rattle.bay_assoc.specs.declared.receive.Phase.{Phase}
 use Rattle.bay_assoc.specs.declared.receive.Phase.TheVariants as phases
-use Rattle.bay_connection.specs.ConnectionStates.{ConnectionState, Indication, ends, fails, ConnectionStep, over_state, after_doings, connection_step, indications, connection_after}
-use Rattle.bay_connection.specs.Feeding.{CompletesIndication, Completes, Feeds, GoesOn}
+use Rattle.bay_connection.specs.ConnectionStates.{ConnectionState, Indication, ends, fails, ConnectionStep, ended_state, after_doings, connection_step, indications, connection_after}
+use Rattle.bay_connection.specs.Feeding.{CompletesIndication, Completes, Feeds, IndicationThenRest}
 use Rattle.bay_connection.specs.Stack.{AreJoined, IsJoined, IsReady, IndicatesIfSome}
 use Rattle.bay_connection.proofs.CuttingLemmas.{indications-take, left_by-take}
 use Rattle.bay_connection.proofs.GoingLemmas.{told-none}
@@ -28,7 +28,7 @@ comes-does t piece used i h = h.does
 
 pub feeding-indications : (old new : ConnectionState) (piece : List ℕ) (used : ℕ) (i : Indication)
     → new ≡ connection_after old (take used piece) → Completes old piece used i
-    → GoesOn old new piece used i
+    → IndicationThenRest old new piece used i
 feeding-indications old new piece used i is comes =
     indications-take old piece used
     ∙ ap (λ (t : ConnectionState). indications old (take used piece)
@@ -54,8 +54,8 @@ agreed-joined left phase some = absurd (cc)
 pub sized-joined : (t : ConnectionState) → IsSome (size_agreed t.stream) → IsJoined t
 sized-joined t some = agreed-joined t.stream.left t.phase some
 
-going-joined : (old new : StreamState) (phase : Phase) → AreJoined old phase → IsGoing old
-    → IsGoing new
+going-joined : (old new : StreamState) (phase : Phase) → AreJoined old phase → AcceptsOctets old
+    → AcceptsOctets new
     → agreed_from new ≡ agreed_from old → AreJoined new phase
 going-joined (Going connection rest) (Going next more) (phases.Open l) joined a b e = rw e joined
 going-joined (Going connection rest) (Going next more) phase joined a b e = tt
@@ -64,7 +64,7 @@ going-joined old new phase joined a b e = absurd a
 
 -- what octets that do nothing leave
 pub quiet-joined : (s : Stream) (phase : Phase) (octets : List ℕ) → AreJoined s.left phase
-    → IsGoing s.left → doings s octets ≡ [] → AreJoined (after s octets).left phase
+    → AcceptsOctets s.left → doings s octets ≡ [] → AreJoined (after s octets).left phase
 quiet-joined s phase octets joined going quiet =
     going-joined s.left (after s octets).left phase joined going (quiet-going s octets going quiet)
     (after-size s octets ∙ rw quiet refl)
@@ -151,7 +151,7 @@ over-done : (number : ℕ) (phase : Phase) (piece : List ℕ) (used : ℕ) (d : 
     → (i ≡ ends) × (new ≡ talk_with number Over phase)
 over-done number phase piece used Ends i new s over none is same e =
     let a : ends ∷ [] ≡ i ∷ [] = ap (λ (r : ConnectionStep). r.indications) e in
-    let b : over_state s ≡ new = ap (λ (r : ConnectionStep). r.left) e in
+    let b : ended_state s ≡ new = ap (λ (r : ConnectionStep). r.left) e in
     let f : i ≡ ends = cc in (
       f,
       sym b ∙ ap (λ (n : ℕ). talk_with n Over phases.Over) same
@@ -210,11 +210,11 @@ fed-none number Over phase piece used heard new s joined fed is none same =
     absurd (let f : None ≡ Some Ends = fed.1 in cc)
 fed-none number Broken phase piece used heard new s joined fed is none same = absurd joined
 
-pub fed-got : (t : ConnectionState) (r : Received) (got : Got) (piece : List ℕ) (used : ℕ)
+pub fed-got : (t : ConnectionState) (r : TransportData) (got : Got) (piece : List ℕ) (used : ℕ)
     (heard : Option Indication) (new : ConnectionState) → IsJoined t
-    → feeding.Feeds t.stream piece used (doing_for got r)
+    → feeding.Feeds t.stream piece used (doing_of_result got r)
     → r.stream ≡ after t.stream (take used piece)
-    → IndicatesIfSome (record { stream = r.stream; phase = t.phase }) (doing_for got r) heard new
+    → IndicatesIfSome (record { stream = r.stream; phase = t.phase }) (doing_of_result got r) heard new
     → FedSo t piece used heard new
 fed-got t r got.More piece used heard new joined fed is so =
     fed-none t.stream.number t.stream.left t.phase piece used heard new r.stream joined fed is so.0
@@ -258,9 +258,9 @@ tsdu-ready number Over piece used tsdu fed =
     absurd (let f : Some (Delivers tsdu) ≡ Some Ends = fed.1 in cc)
 tsdu-ready number Broken piece used tsdu fed = absurd fed
 
-pub is-ready : (t : ConnectionState) (r : Received) (got : Got) (piece : List ℕ) (used : ℕ)
+pub is-ready : (t : ConnectionState) (r : TransportData) (got : Got) (piece : List ℕ) (used : ℕ)
     → IsJoined t
-    → feeding.Feeds t.stream piece used (doing_for got r)
+    → feeding.Feeds t.stream piece used (doing_of_result got r)
     → r.stream ≡ after t.stream (take used piece)
     → IsReady got (record { stream = r.stream; phase = t.phase })
 is-ready t r got.More piece used joined fed is =
@@ -309,7 +309,7 @@ joined-sound left phase joined e = cc
 pub fed-fault : (t : ConnectionState) (piece : List ℕ) (fault : TransportFault) (code : ℕ)
     → IsJoined t
     → RefusesPiece t.stream piece fault → code_of fault ≡ Some code
-    → FedSo t piece (length piece) (Some (fails code)) (over_state (broken t.stream))
+    → FedSo t piece (length piece) (Some (fails code)) (ended_state (broken t.stream))
 fed-fault t piece Failed code joined refused k =
     absurd (joined-sound t.stream.left t.phase joined refused)
 fed-fault t piece OutOfMemory code joined refused k = absurd (cc)

@@ -1,16 +1,16 @@
 -- Which connections go on.
 use Rattle.std.proofs.Common.{◌≡◌, ℕ, List, [], ◌∷◌, Option, Some, IsSome, Result, Ok, Err, refl, ap, subst, ◌∙◌}
 use Rattle.bay_transport.specs.Doings.{Doing, Answers, Delivers, Ends, Fails, StreamState, Going, Stream, doings, after}
-use Rattle.bay_transport.specs.Feeding.{size_agreed, agreed_from, size_after, IsGoing}
+use Rattle.bay_transport.specs.Feeding.{size_agreed, agreed_from, size_after, AcceptsOctets}
 use Rattle.bay_transport.proofs.SizeLemmas.{after-size, delivers-size, quiet-going}
 use Rattle.bay_assoc.specs.declared.fault.AssocFault.{AssocFault}
 use Rattle.bay_assoc.specs.declared.receive.Phase.{Phase}
-use Rattle.bay_assoc.specs.Receiving.{TsduMeaning, answer, mms, released, aborted, tsdu_meaning}
+use Rattle.bay_assoc.specs.TsduMeanings.{TsduMeaning, answer, mms, released, aborted, tsdu_meaning}
 use Rattle.bay_connection.specs.ConnectionStates.{ConnectionState, Indication, ends, ConnectionStep, step_on_tsdu_result, after_doings, indications, connection_after}
 use Rattle.bay_connection.specs.Feeding.{IsContinued}
 
 -- a size is agreed only where octets are still taken
-agreed-going : (left : StreamState) → IsSome (agreed_from left) → IsGoing left
+agreed-going : (left : StreamState) → IsSome (agreed_from left) → AcceptsOctets left
 agreed-going (Going connection rest) some = tt
 agreed-going left some = absurd (cc)
 
@@ -32,9 +32,9 @@ quiet-left : (s : Stream) (ds : List Doing) (size : Option ℕ) (phase : Phase) 
     → (after_doings s ds size phase).left.stream ≡ s
 quiet-left s ds size phase none = rw none refl
 
-pub nothing-going : (t : ConnectionState) (octets : List ℕ) → IsGoing t.stream.left
+pub nothing-going : (t : ConnectionState) (octets : List ℕ) → AcceptsOctets t.stream.left
     → indications t octets ≡ []
-    → IsGoing (connection_after t octets).stream.left
+    → AcceptsOctets (connection_after t octets).stream.left
 nothing-going t octets going none =
     let quiet : doings t.stream octets ≡ [] =
     told-none (after t.stream octets) (doings t.stream octets) (size_agreed t.stream) t.phase none
@@ -47,8 +47,8 @@ nothing-going t octets going none =
 
 -- What is left is the stream, of which a size is agreed, and so it goes on.
 going-left : (s : Stream) (ds : List Doing) (size : Option ℕ) (phase : Phase)
-    → (after_doings s ds size phase).indications ≡ [] → IsGoing s.left
-    → IsGoing (after_doings s ds size phase).left.stream.left
+    → (after_doings s ds size phase).indications ≡ [] → AcceptsOctets s.left
+    → AcceptsOctets (after_doings s ds size phase).left.stream.left
 going-left s ds size phase none going =
     rw (quiet-left s ds size phase (told-none s ds size phase none)) going
 
@@ -60,8 +60,8 @@ hearing-going : (s : Stream) (r : Result (TsduMeaning × Phase) AssocFault) (siz
     (later : Phase → ConnectionStep) (i : Indication)
     → (step_on_tsdu_result size s r later).indications ≡ i ∷ []
     → IsContinued i → ((p : Phase) → (later p).indications ≡ []
-    → IsGoing (later p).left.stream.left)
-    → IsGoing (step_on_tsdu_result size s r later).left.stream.left
+    → AcceptsOctets (later p).left.stream.left)
+    → AcceptsOctets (step_on_tsdu_result size s r later).left.stream.left
 hearing-going s (Ok (answer tsdu, phase)) size later i e goes rest = rest phase (cc)
 hearing-going s (Ok (mms pdu, phase)) size later i e goes rest = rest phase (cc)
 hearing-going s (Ok (released tsdu, phase)) size later i e goes rest =
@@ -75,7 +75,7 @@ one-going : (s : Stream) (ds : List Doing) (size : Option ℕ) (phase : Phase) (
     → size_agreed s ≡ size_after size ds
     → ((tsdu : List ℕ) (later : List Doing) → ds ≡ Delivers tsdu ∷ later → IsSome size)
     → (after_doings s ds size phase).indications ≡ i ∷ [] → IsContinued i
-    → IsGoing (after_doings s ds size phase).left.stream.left
+    → AcceptsOctets (after_doings s ds size phase).left.stream.left
 one-going s [] size phase i e delivers one goes = absurd (cc)
 one-going s (Answers n reply ∷ ds) size phase i e delivers one goes =
     let none : (after_doings s ds (Some n) phase).indications ≡ [] = cc in
@@ -97,7 +97,7 @@ one-going s (Fails fault ∷ ds) size phase i e delivers one goes =
 
 pub heard-going : (t : ConnectionState) (octets : List ℕ) (i : Indication)
     → indications t octets ≡ i ∷ []
-    → IsContinued i → IsGoing (connection_after t octets).stream.left
+    → IsContinued i → AcceptsOctets (connection_after t octets).stream.left
 heard-going t octets i one goes =
     one-going (after t.stream octets) (doings t.stream octets) (size_agreed t.stream) t.phase i
     (after-size t.stream octets)

@@ -3,8 +3,8 @@ use Rattle.std.proofs.Common.{◌≡◌, ℕ, ◌-◌, List, [], ◌∷◌, ◌+
 use Rattle.std.proofs.lemmas.List.{length-append, drop_at}
 use Rattle.bay_transport.specs.Doings.{Delivers, Stream}
 use Rattle.bay_assoc.specs.declared.receive.Phase.{Phase}
-use Rattle.bay_assoc.specs.Receiving.{mms, tsdu_meaning}
-use Rattle.bay_connection.specs.ConnectionStates.{tells, after_doings}
+use Rattle.bay_assoc.specs.TsduMeanings.{mms, tsdu_meaning}
+use Rattle.bay_connection.specs.ConnectionStates.{delivers, after_doings}
 
 -- ---- what is heard
 
@@ -12,7 +12,7 @@ pub hears-pdu : (s : Stream) (size : Option ℕ) (phase next : Phase) (tsdu pdu 
     → tsdu_meaning phase tsdu ≡ Ok (mms pdu, next)
     → after_doings s (Delivers tsdu ∷ []) size phase
     ≡ record {
-      indications = tells (record { size = size; phase = next }) pdu ∷ [];
+      indications = delivers (record { size = size; phase = next }) pdu ∷ [];
       left = record { stream = s; phase = next };
     }
 hears-pdu s size phase next tsdu pdu h = rw h refl

@@ -10,7 +10,7 @@ use Rattle.bay_assoc.specs.declared.receive.AssociationTerms.{AssociationTerms}
 use Rattle.bay_assoc.specs.declared.receive.Phase.{Phase}
 use Rattle.bay_assoc.specs.declared.receive.Phase.TheVariants.{Over}
 use Rattle.bay_assoc.specs.Code.{code_of as association_code}
-use Rattle.bay_assoc.specs.Receiving.{TsduMeaning, answer, mms, released, aborted, tsdu_meaning}
+use Rattle.bay_assoc.specs.TsduMeanings.{TsduMeaning, answer, mms, released, aborted, tsdu_meaning}
 use Rattle.bay_assoc.specs.Receives.{association_terms}
 use Rattle.bay_assoc.specs.Texts.{user_text, transfer_text}
 
@@ -33,7 +33,7 @@ terms_of t = record { size = size_agreed t.stream; phase = t.phase }
 -- answer it; the end; or a fault, by its number
 pub data Indication : Type 0 where
   answers : List ℕ → Indication
-  tells : Terms → List ℕ → Indication
+  delivers : Terms → List ℕ → Indication
   releases : List ℕ → Indication
   ends : Indication
   fails : ℕ → Indication
@@ -44,8 +44,8 @@ pub record ConnectionStep : Type 0 where
   pub left : ConnectionState
 
 -- the state of a connection that has ended: later octets have no effect
-abbrev pub over_state : Stream → ConnectionState
-over_state s = record { stream = end_of_stream s; phase = Over }
+abbrev pub ended_state : Stream → ConnectionState
+ended_state s = record { stream = end_of_stream s; phase = Over }
 
 -- the data TPDUs of a TSDU, if a size is agreed
 abbrev pub data_tpdus : Option ℕ → List ℕ → List ℕ
@@ -61,10 +61,10 @@ step_on_tsdu s (answer tsdu) terms later =
       left = later.left;
     }
 step_on_tsdu s (mms pdu) terms later =
-    record { indications = tells terms pdu ∷ later.indications; left = later.left }
+    record { indications = delivers terms pdu ∷ later.indications; left = later.left }
 step_on_tsdu s (released tsdu) terms later =
-    record { indications = releases (data_tpdus terms.size tsdu) ∷ []; left = over_state s }
-step_on_tsdu s aborted terms later = record { indications = ends ∷ []; left = over_state s }
+    record { indications = releases (data_tpdus terms.size tsdu) ∷ []; left = ended_state s }
+step_on_tsdu s aborted terms later = record { indications = ends ∷ []; left = ended_state s }
 
 -- the indication of a TSDU, from its meaning or its fault, followed by the later ones; nothing
 -- follows a fault
@@ -74,7 +74,7 @@ abbrev pub step_on_tsdu_result : Option ℕ → Stream → Result (TsduMeaning �
 step_on_tsdu_result size s (Ok x) later =
     step_on_tsdu s x.0 (record { size = size; phase = x.1 }) (later x.1)
 step_on_tsdu_result size s (Err fault) later =
-    record { indications = fails (unwrap_or (association_code fault) 0) ∷ []; left = over_state s }
+    record { indications = fails (unwrap_or (association_code fault) 0) ∷ []; left = ended_state s }
 
 -- The indications of doings, and the state after them: from the stream after the doings, and the
 -- size of TPDUs and the phase before them.
@@ -88,9 +88,9 @@ after_doings s (Answers size_agreed reply ∷ later) size phase =
     }
 after_doings s (Delivers tsdu ∷ later) size phase =
     step_on_tsdu_result size s (tsdu_meaning phase tsdu) (after_doings s later size)
-after_doings s (Ends ∷ later) size phase = record { indications = ends ∷ []; left = over_state s }
+after_doings s (Ends ∷ later) size phase = record { indications = ends ∷ []; left = ended_state s }
 after_doings s (Fails fault ∷ later) size phase =
-    record { indications = fails (unwrap_or (transport_code fault) 0) ∷ []; left = over_state s }
+    record { indications = fails (unwrap_or (transport_code fault) 0) ∷ []; left = ended_state s }
 
 -- the indications of octets, and the state after them
 abbrev pub connection_step : ConnectionState → List ℕ → ConnectionStep

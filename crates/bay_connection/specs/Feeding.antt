@@ -5,7 +5,7 @@ use Rattle.bay_assoc.specs.declared.receive.Phase.{Phase}
 use Rattle.bay_assoc.specs.Receives.{association_terms}
 use Rattle.bay_connection.specs.declared.indication.Indication as code
 use Rattle.bay_connection.specs.declared.indication.Indication.TheVariants as heard
-use Rattle.bay_connection.specs.ConnectionStates.{ConnectionState, terms_of, Indication, answers, tells, releases, ends, fails, ConnectionStep, indications}
+use Rattle.bay_connection.specs.ConnectionStates.{ConnectionState, terms_of, Indication, answers, delivers, releases, ends, fails, ConnectionStep, indications}
 
 -- The consumed octets have this one indication, and the octets before the last of them have none.
 pub record CompletesIndication (t : ConnectionState) (piece : List ℕ) (used : ℕ)
@@ -20,7 +20,7 @@ pub record CompletesIndication (t : ConnectionState) (piece : List ℕ) (used : 
 -- if the indication is a fault, a prefix of the consumed octets may already have it.
 abbrev pub Completes : ConnectionState → List ℕ → ℕ → Indication → Type 0
 Completes t piece used (answers octets) = CompletesIndication t piece used (answers octets)
-Completes t piece used (tells terms pdu) = CompletesIndication t piece used (tells terms pdu)
+Completes t piece used (delivers terms pdu) = CompletesIndication t piece used (delivers terms pdu)
 Completes t piece used (releases octets) = CompletesIndication t piece used (releases octets)
 Completes t piece used ends = CompletesIndication t piece used ends
 Completes t piece used (fails code) =
@@ -42,15 +42,15 @@ Feeds t piece used answer = FeedsFrom t.stream.left t piece used answer
 
 -- The indications of the piece are this one, followed by those of the octets that were not
 -- consumed.
-abbrev pub GoesOn : ConnectionState → ConnectionState → List ℕ → ℕ → Indication → Type 0
-GoesOn old new piece used indication =
+abbrev pub IndicationThenRest : ConnectionState → ConnectionState → List ℕ → ℕ → Indication → Type 0
+IndicationThenRest old new piece used indication =
     indications old piece ≡ indication ∷ indications new (drop used piece)
 
 -- The connection still accepts octets after this indication: after an answer and after a PDU of
 -- MMS.
 abbrev pub IsContinued : Indication → Type 0
 IsContinued (answers octets) = Unit {0}
-IsContinued (tells terms pdu) = Unit {0}
+IsContinued (delivers terms pdu) = Unit {0}
 IsContinued indication = ⊥
 
 -- two steps, one after the other
@@ -59,8 +59,8 @@ and_then first later =
     record { indications = first.indications ++ later.indications; left = later.left }
 
 -- the view of a connection: its state, and the PDU of MMS that was received last
-pub record Client : Type 0 where
-  pub talk : ConnectionState
+pub record ConnectionData : Type 0 where
+  pub state : ConnectionState
   pub pdu : List ℕ
 
 -- A PDU of MMS is returned only if the association is open.
@@ -69,15 +69,15 @@ IsOpenFor heard.Mms phase = IsSome (association_terms phase)
 IsOpenFor h phase = Unit {0}
 
 -- `pdu` is empty unless the result is a PDU of MMS.
-abbrev pub LendsOnly : code.Indication → List ℕ → Type 0
-LendsOnly heard.Mms pdu = Unit {0}
-LendsOnly h pdu = pdu ≡ []
+abbrev pub IsEmptyUnlessMms : code.Indication → List ℕ → Type 0
+IsEmptyUnlessMms heard.Mms pdu = Unit {0}
+IsEmptyUnlessMms h pdu = pdu ≡ []
 
 -- the view of the code's indication, from the connection after it
-abbrev pub indication_of : code.Indication → Client → Option Indication
+abbrev pub indication_of : code.Indication → ConnectionData → Option Indication
 indication_of heard.Nothing c = None
 indication_of (heard.Answer octets) c = Some (answers octets.items)
-indication_of heard.Mms c = Some (tells (terms_of c.talk) c.pdu)
+indication_of heard.Mms c = Some (delivers (terms_of c.state) c.pdu)
 indication_of (heard.Released octets) c = Some (releases octets.items)
 indication_of heard.Ended c = Some ends
 indication_of (heard.Fault code) c = Some (fails code)

@@ -9,7 +9,7 @@ use Rattle.bay_assoc.specs.declared.receive.Phase.TheVariants as phases
 use Rattle.bay_assoc.specs.Receives.{association_terms}
 use Rattle.bay_connection.specs.declared.stack.Stack.{Stack}
 use Rattle.bay_connection.specs.ConnectionStates.{ConnectionState, Indication, after_doings}
-use Rattle.bay_connection.specs.Feeding.{Client}
+use Rattle.bay_connection.specs.Feeding.{ConnectionData}
 
 -- If the association is open, a size of TPDUs is agreed; if the stream has ended, the association
 -- has ended; and no stream has failed.
@@ -32,8 +32,8 @@ abbrev pub pdu_of : Stack → List ℕ
 pdu_of s = drop (length s.transport.shown - s.pdu) s.transport.shown
 
 -- the view of a stack
-abbrev pub client_of : Stack → Client
-client_of s = record { talk = connection_state_of s; pdu = pdu_of s }
+abbrev pub client_of : Stack → ConnectionData
+client_of s = record { state = connection_state_of s; pdu = pdu_of s }
 
 -- The invariant of a stack.
 pub record IsConsistent (s : Stack) : Type 0 where
@@ -49,11 +49,11 @@ IsReady got.Tsdu t = IsSome (size_agreed t.stream)
 IsReady got.Ended t = Unit {0}
 
 -- Which results of the transport make the code allocate: those that may be answered.
-abbrev pub TakesMemory : Got → Type 0
-TakesMemory got.More = ⊥
-TakesMemory got.Answer = Unit {0}
-TakesMemory got.Tsdu = Unit {0}
-TakesMemory got.Ended = ⊥
+abbrev pub MayAllocate : Got → Type 0
+MayAllocate got.More = ⊥
+MayAllocate got.Answer = Unit {0}
+MayAllocate got.Tsdu = Unit {0}
+MayAllocate got.Ended = ⊥
 
 -- A doing after which the stream is that of `old` has this indication, in the phase of `old`, and
 -- the state after it is `new`.

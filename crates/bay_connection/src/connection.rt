@@ -1,11 +1,11 @@
 // The connection of one client, for its user.
 ghost use Rattle.std.specs.Prelude.{◌≡◌, ◌<◌, ◌≤◌, ◌↔◌, [], IfOk, IfSome, IsSome, IsTrue, OnErr, length, take};
-ghost use Rattle.bay_transport.specs.Doings.{start};
-ghost use Rattle.bay_transport.specs.Feeding.{IsGoing, size_agreed};
+ghost use Rattle.bay_transport.specs.Doings.{stream_start};
+ghost use Rattle.bay_transport.specs.Feeding.{AcceptsOctets, size_agreed};
 ghost use Rattle.bay_mms_initiate.specs.Sizes.{IsPduSize};
 ghost use Rattle.bay_assoc.specs.Receives.{association_terms};
-ghost use Rattle.bay_connection.specs.ConnectionStates.{over_state, terms_of, data_tpdus, connection_after, octets_to_send};
-ghost use Rattle.bay_connection.specs.Feeding.{Feeds, indication_of, IsOpenFor, LendsOnly};
+ghost use Rattle.bay_connection.specs.ConnectionStates.{ended_state, terms_of, data_tpdus, connection_after, octets_to_send};
+ghost use Rattle.bay_connection.specs.Feeding.{Feeds, indication_of, IsOpenFor, IsEmptyUnlessMms};
 
 use crate::indication::FeedResult;
 use crate::stack::Stack;
@@ -24,10 +24,10 @@ pub struct Connection {
 }
 
 impl Model for Connection {
-    ghost use Rattle.bay_connection.specs.Feeding.{Client};
+    ghost use Rattle.bay_connection.specs.Feeding.{ConnectionData};
     ghost use Rattle.bay_connection.specs.Stack.{client_of, IsConsistent};
 
-    ghost Value = { Client };
+    ghost Value = { ConnectionData };
 
     ghost view = { λ c. client_of c.stack };
 
@@ -39,8 +39,8 @@ impl Connection {
     /// sent as the reference of this side (X.224 13.4).
     pub fn new(alloc: Global, number: u16) -> Connection
         ensures { result ≡ record {
-          talk = record {
-            stream = record { number = number; left = start };
+          state = record {
+            stream = record { number = number; left = stream_start };
             phase = Phase.Idle;
           };
           pdu = [];
@@ -69,17 +69,17 @@ impl Connection {
         // The result is the first indication of the piece, and the new state is the one after the
         // consumed octets.
         ensures fed { IfOk result
-            (λ fed. Feeds self.old.talk piece.now fed.used (indication_of fed.heard self.new)) }
+            (λ fed. Feeds self.old.state piece.now fed.used (indication_of fed.heard self.new)) }
         ensures left { IfOk result
-            (λ fed. self.new.talk ≡ connection_after self.old.talk (take fed.used piece.now)) }
+            (λ fed. self.new.state ≡ connection_after self.old.state (take fed.used piece.now)) }
         // A PDU is returned only if the association is open, so that it can be answered.
-        ensures open { IfOk result (λ fed. IsOpenFor fed.heard self.new.talk.phase) }
-        ensures lent { IfOk result (λ fed. LendsOnly fed.heard self.new.pdu) }
+        ensures open { IfOk result (λ fed. IsOpenFor fed.heard self.new.state.phase) }
+        ensures lent { IfOk result (λ fed. IsEmptyUnlessMms fed.heard self.new.pdu) }
         // An allocation fails only if octets are still accepted and the piece has some, and then
         // the connection ends.
         ensures memory { OnErr result
-            (IsGoing self.old.talk.stream.left × (0 < length piece.now)) }
-        ensures over { OnErr result (self.new.talk ≡ over_state self.old.talk.stream) }
+            (AcceptsOctets self.old.state.stream.left × (0 < length piece.now)) }
+        ensures over { OnErr result (self.new.state ≡ ended_state self.old.state.stream) }
     {
         match self.stack.feed(piece) {
             Ok(fed) => Ok(fed),
@@ -100,7 +100,7 @@ impl Connection {
 
     /// Returns whether the association is open, so that PDUs of MMS can be sent.
     pub fn is_open(&self) -> bool
-        ensures { IsTrue result ↔ IsSome (association_terms self.now.talk.phase) }
+        ensures { IsTrue result ↔ IsSome (association_terms self.now.state.phase) }
     {
         self.stack.assoc.is_open()
     }
@@ -108,8 +108,8 @@ impl Connection {
     /// Returns the agreed size of the largest PDU of MMS in octets, 256 to 65,000. The association
     /// must be open.
     pub fn pdu_size(&self) -> u32
-        requires { IsSome (association_terms self.now.talk.phase) }
-        ensures size { IfSome (association_terms self.now.talk.phase)
+        requires { IsSome (association_terms self.now.state.phase) }
+        ensures size { IfSome (association_terms self.now.state.phase)
             (λ terms. result ≡ terms.size) }
         ensures sized { IsPduSize result }
     {
@@ -119,9 +119,9 @@ impl Connection {
     // Returns the frames of a TSDU. If one frame holds it and there is headroom, writes the header
     // before it.
     fn frames(&self, mut tsdu: Outgoing) -> Result<Outgoing, AllocError>
-        requires { IsSome (size_agreed self.now.talk.stream) }
+        requires { IsSome (size_agreed self.now.state.stream) }
         ensures { IfOk result (λ octets. octets
-            ≡ data_tpdus (size_agreed self.now.talk.stream) tsdu) }
+            ≡ data_tpdus (size_agreed self.now.state.stream) tsdu) }
     {
         if let Some(header) = self.stack.transport.header(tsdu.as_slice().len()) {
             if tsdu.front(&header) {
@@ -136,8 +136,8 @@ impl Connection {
     /// the agreed size. Copies nothing if one TPDU holds the TSDU and the PDU has enough headroom.
     /// The association must be open. Fails only if an allocation fails.
     pub fn send(&self, mut pdu: Outgoing) -> Result<Outgoing, AllocError>
-        requires { IsSome (association_terms self.now.talk.phase) }
-        ensures { IfOk result (λ octets. octets ≡ octets_to_send (terms_of self.now.talk) pdu) }
+        requires { IsSome (association_terms self.now.state.phase) }
+        ensures { IfOk result (λ octets. octets ≡ octets_to_send (terms_of self.now.state) pdu) }
     {
         let front = self.stack.assoc.data_prefix(pdu.as_slice());
         if pdu.front(front.as_slice()) {

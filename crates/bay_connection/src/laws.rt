@@ -1,9 +1,9 @@
 // Laws about the indications of a client's octets. Each function does nothing, and its contract is
 // the law.
 ghost use Rattle.std.specs.Prelude.{◌≡◌, ◌∷◌, ◌++◌, [], List, ℕ, take, drop};
-ghost use Rattle.bay_transport.specs.Feeding.{IsGoing};
+ghost use Rattle.bay_transport.specs.Feeding.{AcceptsOctets};
 ghost use Rattle.bay_connection.specs.ConnectionStates.{ConnectionState, Indication, connection_step, indications, connection_after};
-ghost use Rattle.bay_connection.specs.Feeding.{Completes, GoesOn, IsContinued, and_then};
+ghost use Rattle.bay_connection.specs.Feeding.{Completes, IndicationThenRest, IsContinued, and_then};
 
 /// The indications of octets do not depend on how the octets are cut into pieces. The indications
 /// of a list followed by a piece are those of the list, followed by those of the piece from the
@@ -26,7 +26,7 @@ pub fn feeding_goes_on()
     ensures indications { (old new : ConnectionState) (piece : List ℕ) (used : ℕ)
         (indication : Indication)
         → new ≡ connection_after old (take used piece)
-        → Completes old piece used indication → GoesOn old new piece used indication }
+        → Completes old piece used indication → IndicationThenRest old new piece used indication }
     ensures left { (old new : ConnectionState) (piece : List ℕ) (used : ℕ)
         → new ≡ connection_after old (take used piece)
         → connection_after old piece ≡ connection_after new (drop used piece) }
@@ -35,10 +35,10 @@ pub fn feeding_goes_on()
 /// A connection that accepts octets accepts more after octets that complete nothing, an answer or a
 /// PDU of MMS.
 pub fn connection_goes_on()
-    ensures quiet { (t : ConnectionState) (octets : List ℕ) → IsGoing t.stream.left
+    ensures quiet { (t : ConnectionState) (octets : List ℕ) → AcceptsOctets t.stream.left
         → indications t octets ≡ []
-        → IsGoing (connection_after t octets).stream.left }
+        → AcceptsOctets (connection_after t octets).stream.left }
     ensures heard { (t : ConnectionState) (octets : List ℕ) (indication : Indication)
         → indications t octets ≡ indication ∷ [] → IsContinued indication
-        → IsGoing (connection_after t octets).stream.left }
+        → AcceptsOctets (connection_after t octets).stream.left }
 {}

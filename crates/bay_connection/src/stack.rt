@@ -2,10 +2,10 @@
 // TSDUs.
 ghost use Rattle.std.specs.Prelude.{◌≡◌, ◌<◌, ◌≤◌, [], Some, IfOk, IsSome, OnErr, OnOk, length, take};
 ghost use Rattle.bay_transport.specs.Doings.{Delivers};
-ghost use Rattle.bay_transport.specs.Feeding.{IsGoing, size_agreed, doing_for};
-ghost use Rattle.bay_connection.specs.ConnectionStates.{answers, over_state, data_tpdus, connection_after};
-ghost use Rattle.bay_connection.specs.Feeding.{Feeds, indication_of, IsOpenFor, LendsOnly};
-ghost use Rattle.bay_connection.specs.Stack.{connection_state_of, pdu_of, client_of, IsConsistent, IsReady, TakesMemory, Indicates, IndicatesIfSome};
+ghost use Rattle.bay_transport.specs.Feeding.{AcceptsOctets, size_agreed, doing_of_result};
+ghost use Rattle.bay_connection.specs.ConnectionStates.{answers, ended_state, data_tpdus, connection_after};
+ghost use Rattle.bay_connection.specs.Feeding.{Feeds, indication_of, IsOpenFor, IsEmptyUnlessMms};
+ghost use Rattle.bay_connection.specs.Stack.{connection_state_of, pdu_of, client_of, IsConsistent, IsReady, MayAllocate, Indicates, IndicatesIfSome};
 
 use crate::indication::{FeedResult, Indication};
 use bay_assoc::assoc::Assoc;
@@ -31,7 +31,7 @@ impl Stack {
     /// Closes both layers: accepts no more octets, and frees the buffers.
     pub(crate) fn close(&mut self)
         ensures kept { IsConsistent self.new }
-        ensures closed { connection_state_of self.new ≡ over_state self.old.transport.stream }
+        ensures closed { connection_state_of self.new ≡ ended_state self.old.transport.stream }
         ensures nothing { pdu_of self.new ≡ [] }
     {
         self.pdu = 0;
@@ -40,7 +40,7 @@ impl Stack {
     }
 
     // Returns the TPDUs of the association's answer to a request.
-    fn wrapped(&self, tsdu: &[u8]) -> Result<Vec<u8>, AllocError>
+    fn wrap_tsdu(&self, tsdu: &[u8]) -> Result<Vec<u8>, AllocError>
         requires { IsSome (size_agreed self.now.transport.stream) }
         ensures { IfOk result (λ octets. octets.items
             ≡ data_tpdus (size_agreed self.now.transport.stream) tsdu.now) }
@@ -58,12 +58,12 @@ impl Stack {
             (indication_of heard (client_of self.new)) (connection_state_of self.new)) }
         ensures number { self.new.transport.stream.number ≡ self.old.transport.stream.number }
         ensures open { IfOk result (λ heard. IsOpenFor heard self.new.assoc) }
-        ensures lent { IfOk result (λ heard. LendsOnly heard (pdu_of self.new)) }
+        ensures lent { IfOk result (λ heard. IsEmptyUnlessMms heard (pdu_of self.new)) }
     {
         let tsdu = self.transport.shown();
         match self.assoc.on_tsdu(tsdu) {
             Ok(receive::Heard::Answer(octets)) => {
-                let frames = self.wrapped(octets.as_slice())?;
+                let frames = self.wrap_tsdu(octets.as_slice())?;
                 Ok(Indication::Answer(frames))
             }
             Ok(receive::Heard::Mms(pdu)) => {
@@ -71,7 +71,7 @@ impl Stack {
                 Ok(Indication::Mms)
             }
             Ok(receive::Heard::Released(octets)) => {
-                let frames = self.wrapped(octets.as_slice())?;
+                let frames = self.wrap_tsdu(octets.as_slice())?;
                 self.close();
                 Ok(Indication::Released(frames))
             }
@@ -95,7 +95,7 @@ impl Stack {
         requires { self.now.pdu ≡ 0 }
         ensures answer { IfOk result (λ heard. indication_of heard (client_of self.now)
             ≡ Some (answers self.now.transport.shown)) }
-        ensures lent { IfOk result (λ heard. LendsOnly heard (pdu_of self.now)) }
+        ensures lent { IfOk result (λ heard. IsEmptyUnlessMms heard (pdu_of self.now)) }
     {
         let octets = self.transport.shown().to_vec(self.alloc)?;
         Ok(Indication::Answer(octets))
@@ -108,12 +108,12 @@ impl Stack {
         ensures kept { OnOk result (IsConsistent self.new) }
         ensures told { IfOk result
             (λ heard. IndicatesIfSome (connection_state_of self.old)
-            (doing_for got self.old.transport)
+            (doing_of_result got self.old.transport)
             (indication_of heard (client_of self.new)) (connection_state_of self.new)) }
-        ensures memory { OnErr result (TakesMemory got) }
+        ensures memory { OnErr result (MayAllocate got) }
         ensures number { self.new.transport.stream.number ≡ self.old.transport.stream.number }
         ensures open { IfOk result (λ heard. IsOpenFor heard self.new.assoc) }
-        ensures lent { IfOk result (λ heard. LendsOnly heard (pdu_of self.new)) }
+        ensures lent { IfOk result (λ heard. IsEmptyUnlessMms heard (pdu_of self.new)) }
     {
         match got {
             Got::More => Ok(Indication::Nothing),
@@ -139,10 +139,10 @@ impl Stack {
             (λ fed. connection_state_of self.new
             ≡ connection_after (connection_state_of self.old) (take fed.used piece.now)) }
         ensures memory { OnErr result
-            (IsGoing self.old.transport.stream.left × (0 < length piece.now)) }
+            (AcceptsOctets self.old.transport.stream.left × (0 < length piece.now)) }
         ensures number { self.new.transport.stream.number ≡ self.old.transport.stream.number }
         ensures open { IfOk result (λ fed. IsOpenFor fed.heard self.new.assoc) }
-        ensures lent { IfOk result (λ fed. LendsOnly fed.heard (pdu_of self.new)) }
+        ensures lent { IfOk result (λ fed. IsEmptyUnlessMms fed.heard (pdu_of self.new)) }
     {
         self.pdu = 0;
         match self.transport.feed(piece) {

@@ -9,7 +9,7 @@ use Rattle.bay_base.specs.declared.switch.Operation.TheVariants as operation
 use Rattle.bay_control.specs.Acts.{Act, Entry}
 use Rattle.bay_control.specs.Acts as act
 use Rattle.bay_control.specs.Backing.{AreBacked, AreBackedAfter, IsBacked}
-use Rattle.bay_control.specs.Happenings.{AreOrderly, Call, Open, Close, Select, SelectWith, Operate, Cancel, Contact, Advance, Happening, Leads, act_of, after_all, entries_of, history, is_open_after, outcome_of}
+use Rattle.bay_control.specs.TimedCalls.{AreOrderly, Call, Open, Close, Select, SelectWith, Operate, Cancel, Contact, Advance, TimedCall, LeadsControls, act_of, state_after_calls, entries_of, entries_of_calls, is_open_after, outcome_of}
 use Rattle.bay_control.specs.Decisions.{State, is_choice, is_chosen, is_selected_by, operate_outcome, selection_at}
 use Rattle.bay_control.specs.Requests.{requested_choice, control_of, is_enhanced, is_sbo, same_choice, same_operation}
 use Rattle.bay_control.specs.declared.cause.AddCause.{AddCause}
@@ -91,7 +91,7 @@ backed-by controls past s choice now t in_time chosen = record {
   between = t.between;
   split = t.split;
   granted = t.granted;
-  stands = t.stands;
+  not_undone = t.not_undone;
   in_time = rw t.since in_time;
   matched = λ e. record { last = t.last; same = t.choice ∙ chosen e };
 }
@@ -164,7 +164,7 @@ after-controls (Contact k position) now s = refl
 after-controls Advance now s = refl
 
 -- no call changes the settings of the controls
-pub all-controls : (hs : List Happening) (s : State) → (after_all hs s).controls ≡ s.controls
+pub all-controls : (hs : List TimedCall) (s : State) → (state_after_calls hs s).controls ≡ s.controls
 all-controls [] s = refl
 all-controls (h ∷ hs) s =
     all-controls hs (outcome_of h.call h.now s).after ∙ after-controls h.call h.now s
@@ -232,14 +232,14 @@ none-backed controls past [] after now a k choice e sbo = absurd cc
 none-backed controls past (b ∷ before) after now a k choice e sbo = absurd cc
 
 -- from any past that the selection goes with
-run-backed : (hs : List Happening) (s : State) (controls : List SwitchControl) (is_open : ℕ → Bool)
+run-backed : (hs : List TimedCall) (s : State) (controls : List SwitchControl) (is_open : ℕ → Bool)
     (past : List Entry)
     → s.controls ≡ controls → Holds is_open past s.selection → AreOrderly is_open hs
-    → AreBackedAfter controls past (history hs s)
+    → AreBackedAfter controls past (entries_of_calls hs s)
 run-backed [] s controls is_open past same h o = none-backed controls past
 run-backed (d ∷ hs) s controls is_open past same h o =
     entries-backed controls past d.now (act_of d.call) (is_ok (outcome_of d.call d.now s).answer)
-    (history hs (outcome_of d.call d.now s).after)
+    (entries_of_calls hs (outcome_of d.call d.now s).after)
     (λ a k choice e ok sbo. subst (λ (cs : List SwitchControl). IsBacked cs a k choice d.now past)
     same
     (call-backed is_open past d.call d.now s h a k choice e ok
@@ -250,11 +250,11 @@ run-backed (d ∷ hs) s controls is_open past same h o =
 
 -- from controls with no selection
 pub all-backed : (entries : List Entry) (open_before open_after : ℕ → Bool) (before after : State)
-    → Leads entries open_before before open_after after → before.selection ≡ None
+    → LeadsControls entries open_before before open_after after → before.selection ≡ None
     → AreBacked before.controls entries
 all-backed entries open_before open_after before after leads none =
     let holds : Holds open_before [] before.selection =
     subst (λ (x : Option Selection). Holds open_before [] x) (sym none) tt in
-    let backed-of : AreBacked before.controls (history leads.happened before) =
-    run-backed leads.happened before before.controls open_before [] refl holds leads.orderly in
+    let backed-of : AreBacked before.controls (entries_of_calls leads.timed_calls before) =
+    run-backed leads.timed_calls before before.controls open_before [] refl holds leads.orderly in
     subst (λ (es : List Entry). AreBacked before.controls es) (sym leads.seen) backed-of

@@ -8,9 +8,9 @@ use Rattle.std.proofs.lemmas.List.Elements.{All-nil, All-push}
 use Rattle.std.proofs.Math.Bool.{and-false}
 use Rattle.bay_control.specs.Acts.{Act, Entry}
 use Rattle.bay_control.specs.Acts as act
-use Rattle.bay_control.specs.Backing.{choice_of, grants, selects, undoes, undoes_by}
-use Rattle.bay_control.specs.Happenings.{Call, Open, Close, Select, SelectWith, Operate, Cancel, Contact, Advance, act_of, entries_of, is_open_after, is_orderly_call, outcome_of}
-use Rattle.bay_control.specs.Decisions.{State, controls_at, answer_of, cancel_of, is_selected_by, rows_of_cancel, rows_of_operate, rows_of_select, rows_of_select_with, select_of, selection_at, selection_without}
+use Rattle.bay_control.specs.Backing.{choice_of, grants, selects, undoes, act_undoes}
+use Rattle.bay_control.specs.TimedCalls.{Call, Open, Close, Select, SelectWith, Operate, Cancel, Contact, Advance, act_of, entries_of, is_open_after, is_orderly_call, outcome_of}
+use Rattle.bay_control.specs.Decisions.{State, controls_at, answer_of, cancel_effect, is_selected_by, rows_of_cancel, rows_of_operate, rows_of_select, rows_of_select_with, select_effect, selection_at, selection_without}
 use Rattle.bay_control.specs.Requests.{requested_choice, control_of}
 use Rattle.bay_control.specs.declared.cause.AddCause.{AddCause}
 use Rattle.bay_control.specs.declared.control.SwitchControl.{SwitchControl}
@@ -26,7 +26,7 @@ pub record Stands (past : List Entry) (s : Selection) : Type 0 where
   pub granted : grants s.association s.switch select ≡ true
   pub since : select.now ≡ s.since
   pub choice : choice_of select.act ≡ s.choice
-  pub stands : All (λ (e : Entry). undoes s.association s.switch e ≡ false) between
+  pub not_undone : All (λ (e : Entry). undoes s.association s.switch e ≡ false) between
   pub last : All (λ (e : Entry). grants s.association s.switch e ≡ false) between
 
 -- the selection, if there is one, is that of an association that is open, and it stands
@@ -48,8 +48,8 @@ kept past s e undone granted t = record {
   granted = t.granted;
   since = t.since;
   choice = t.choice;
-  stands =
-      All-push (λ (x : Entry). undoes s.association s.switch x ≡ false) t.between e t.stands undone;
+  not_undone =
+      All-push (λ (x : Entry). undoes s.association s.switch x ≡ false) t.between e t.not_undone undone;
   last = All-push (λ (x : Entry). grants s.association s.switch x ≡ false) t.between e t.last
       granted;
 }
@@ -65,7 +65,7 @@ fresh past s e granted since choice = record {
   granted = granted;
   since = since;
   choice = choice;
-  stands = All-nil (λ (x : Entry). undoes s.association s.switch x ≡ false);
+  not_undone = All-nil (λ (x : Entry). undoes s.association s.switch x ≡ false);
   last = All-nil (λ (x : Entry). grants s.association s.switch x ≡ false);
 }
 
@@ -105,11 +105,11 @@ seen now what is_accepted = record { now = now; act = what; is_accepted = is_acc
 select-holds : (is_open : ℕ → Bool) (past : List Entry) (a k now : ℕ) (choice : Option Choice)
     (what : Act) (t : State)
     → is_open a ≡ true → selects a k what ≡ true → choice_of what ≡ choice
-    → ((b j : ℕ) → undoes_by b j false what ≡ false)
+    → ((b j : ℕ) → act_undoes b j false what ≡ false)
     → Holds is_open past t.selection
     → (answer : Result (Unit {0}) AddCause)
     → Holds is_open (past ++ seen now what (is_ok answer) ∷ [])
-    (select_of a k now choice answer t).after.selection
+    (select_effect a k now choice answer t).after.selection
 select-holds is_open past a k now choice what t o s c u h (Ok x) = (
   o,
   fresh past (record { switch = k; association = a; since = now; choice = choice })
@@ -130,7 +130,7 @@ cancel-holds : (is_open : ℕ → Bool) (past : List Entry) (a k now : ℕ) (t :
     → Holds is_open past t.selection
     → (answer : Result (Unit {0}) AddCause)
     → Holds is_open (past ++ seen now (act.Cancel a k) (is_ok answer) ∷ [])
-    (cancel_of answer t).after.selection
+    (cancel_effect answer t).after.selection
 cancel-holds is_open past a k now t h (Ok x) = tt
 cancel-holds is_open past a k now t h (Err cause) =
     left is_open is_open past (seen now (act.Cancel a k) false) t.selection

@@ -33,17 +33,17 @@ grants a k e = selects a k e.act && e.is_accepted
 -- the act undoes an earlier select of switch k by association a: a was opened or closed, a select
 -- of another switch or by another association was granted, an operate of k by a was attempted, or a
 -- cancel of k by a was accepted
-abbrev pub undoes_by : ℕ → ℕ → Bool → Act → Bool
-undoes_by a k is_accepted (Opened b) = a == b
-undoes_by a k is_accepted (Closed b) = a == b
-undoes_by a k is_accepted (Select b j) = is_accepted && not (a == b && k == j)
-undoes_by a k is_accepted (SelectWith b j choice) = is_accepted && not (a == b && k == j)
-undoes_by a k is_accepted (Operate b j choice) = a == b && k == j
-undoes_by a k is_accepted (Cancel b j) = is_accepted && (a == b && k == j)
+abbrev pub act_undoes : ℕ → ℕ → Bool → Act → Bool
+act_undoes a k is_accepted (Opened b) = a == b
+act_undoes a k is_accepted (Closed b) = a == b
+act_undoes a k is_accepted (Select b j) = is_accepted && not (a == b && k == j)
+act_undoes a k is_accepted (SelectWith b j choice) = is_accepted && not (a == b && k == j)
+act_undoes a k is_accepted (Operate b j choice) = a == b && k == j
+act_undoes a k is_accepted (Cancel b j) = is_accepted && (a == b && k == j)
 
 -- the entry undoes an earlier select of switch k by association a
 abbrev pub undoes : ℕ → ℕ → Entry → Bool
-undoes a k e = undoes_by a k e.is_accepted e.act
+undoes a k e = act_undoes a k e.is_accepted e.act
 
 -- With enhanced security the select is the last one that was granted to the association for the
 -- switch, and it requested the same operation and originator.
@@ -61,7 +61,7 @@ pub record IsBacked (controls : List SwitchControl) (a k : ℕ) (choice : Choice
   pub between : List Entry
   pub split : before ≡ earlier ++ select ∷ between
   pub granted : grants a k select ≡ true
-  pub stands : All (λ (e : Entry). undoes a k e ≡ false) between
+  pub not_undone : All (λ (e : Entry). undoes a k e ≡ false) between
   pub in_time : now < select.now + (control_of controls k).sbo_timeout_ms
   pub matched : is_enhanced (control_of controls k).model ≡ true
       → IsMatched a k choice select between

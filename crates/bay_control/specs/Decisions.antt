@@ -36,8 +36,8 @@ input_at inputs name =
     unwrap_or (position (λ input. same_name input name) inputs) (length inputs)
 
 -- the index of the input of a switch's key, if the switch has a key
-abbrev pub key_in : List (List ℕ) → Switch → Option ℕ
-key_in inputs switch = option_map (input_at inputs) switch.remote
+abbrev pub key_input : List (List ℕ) → Switch → Option ℕ
+key_input inputs switch = option_map (input_at inputs) switch.remote
 
 -- the settings of a switch's control, from the bay file, which has these inputs
 abbrev pub control_in : List (List ℕ) → Switch → SwitchControl
@@ -46,7 +46,7 @@ control_in inputs switch =
       model = switch.control;
       sbo_timeout_ms = switch.sbo_timeout_ms;
       travel_ms = switch.travel_ms;
-      key = key_in inputs switch;
+      key = key_input inputs switch;
       refuses_synchrocheck = switch.refuses_synchrocheck;
     }
 
@@ -67,18 +67,18 @@ selection_at now controls (Some s) =
     if nat_le (s.since + (control_of controls s.switch).sbo_timeout_ms) now then None else Some s
 
 -- the execution has expired
-abbrev pub is_over_at : ℕ → List SwitchControl → Execution → Bool
-is_over_at now controls e = nat_le (e.start + (control_of controls e.switch).travel_ms) now
+abbrev pub is_expired_at : ℕ → List SwitchControl → Execution → Bool
+is_expired_at now controls e = nat_le (e.start + (control_of controls e.switch).travel_ms) now
 
 -- the execution at a time: none if it has expired
 abbrev pub execution_at : ℕ → List SwitchControl → Option Execution → Option Execution
 execution_at now controls None = None
-execution_at now controls (Some e) = if is_over_at now controls e then None else Some e
+execution_at now controls (Some e) = if is_expired_at now controls e then None else Some e
 
 -- the switch whose execution has expired
-abbrev pub run_out : ℕ → List SwitchControl → Option Execution → Option ℕ
-run_out now controls None = None
-run_out now controls (Some e) = if is_over_at now controls e then Some e.switch else None
+abbrev pub expired_switch : ℕ → List SwitchControl → Option Execution → Option ℕ
+expired_switch now controls None = None
+expired_switch now controls (Some e) = if is_expired_at now controls e then Some e.switch else None
 
 -- the state without what has expired
 abbrev pub controls_at : ℕ → State → State
@@ -143,8 +143,8 @@ answer_of [] = Ok tt
 answer_of (r ∷ rows) = if r.refuses then Err r.cause else answer_of rows
 
 -- the rows that a select and a select with value have in common, then more
-abbrev pub select_rows : Bool → ℕ → ℕ → State → List Row → List Row
-select_rows is_supported a k s more =
+abbrev pub shared_select_rows : Bool → ℕ → ℕ → State → List Row → List Row
+shared_select_rows is_supported a k s more =
     row (not is_supported) NotSupported
     ∷ row (is_executing k s.execution) CommandAlreadyInExecution
     ∷ row (is_selected_by_other a k s.selection) SelectFailed
@@ -153,12 +153,12 @@ select_rows is_supported a k s more =
 
 -- the checks of a select, in their order
 abbrev pub rows_of_select : ℕ → ℕ → State → List Row
-rows_of_select a k s = select_rows (is_normal (control_of s.controls k).model) a k s []
+rows_of_select a k s = shared_select_rows (is_normal (control_of s.controls k).model) a k s []
 
 -- the checks of a select with value
 abbrev pub rows_of_select_with : ℕ → ℕ → Ask → State → List Row
 rows_of_select_with a k ask s =
-    select_rows (is_enhanced (control_of s.controls k).model) a k s
+    shared_select_rows (is_enhanced (control_of s.controls k).model) a k s
     (row ask.test BlockedByMode ∷ [])
 
 -- a client must select the switch first, and the association has not selected it, or has selected
@@ -201,8 +201,8 @@ pub record Outcome : Type 0 where
   pub after : State
 
 -- a select of either kind; if it is accepted, a selection begins
-abbrev pub select_of : ℕ → ℕ → ℕ → Option Choice → Result (Unit {0}) AddCause → State → Outcome
-select_of a k now choice answer s = record {
+abbrev pub select_effect : ℕ → ℕ → ℕ → Option Choice → Result (Unit {0}) AddCause → State → Outcome
+select_effect a k now choice answer s = record {
   answer = answer;
   after = record s {
     selection =
@@ -214,17 +214,17 @@ select_of a k now choice answer s = record {
 -- the decision on a select at a time
 abbrev pub select_outcome : ℕ → ℕ → ℕ → State → Outcome
 select_outcome a k now s = let t =
-    controls_at now s in select_of a k now None (answer_of (rows_of_select a k t)) t
+    controls_at now s in select_effect a k now None (answer_of (rows_of_select a k t)) t
 
 -- the decision on a select with value at a time
 abbrev pub select_with_outcome : ℕ → ℕ → Ask → ℕ → State → Outcome
 select_with_outcome a k ask now s = let t = controls_at now s in
-    select_of a k now (Some (requested_choice ask)) (answer_of (rows_of_select_with a k ask t)) t
+    select_effect a k now (Some (requested_choice ask)) (answer_of (rows_of_select_with a k ask t)) t
 
 -- an operate by the association that selected the switch ends the selection, accepted or not; an
 -- accepted one starts the execution
-abbrev pub operate_of : ℕ → ℕ → Operation → ℕ → Result (Unit {0}) AddCause → State → Outcome
-operate_of a k operation now answer s = record {
+abbrev pub operate_effect : ℕ → ℕ → Operation → ℕ → Result (Unit {0}) AddCause → State → Outcome
+operate_effect a k operation now answer s = record {
   answer = answer;
   after = record s {
     selection = if is_selected_by a k s.selection then None else s.selection;
@@ -237,11 +237,11 @@ operate_of a k operation now answer s = record {
 -- the decision on an operate at a time
 abbrev pub operate_outcome : ℕ → ℕ → Ask → View → ℕ → State → Outcome
 operate_outcome a k ask view now s = let t = controls_at now s in
-    operate_of a k ask.operation now (answer_of (rows_of_operate a k ask view t)) t
+    operate_effect a k ask.operation now (answer_of (rows_of_operate a k ask view t)) t
 
 -- a cancel; if it is accepted, it ends the selection
-abbrev pub cancel_of : Result (Unit {0}) AddCause → State → Outcome
-cancel_of answer s =
+abbrev pub cancel_effect : Result (Unit {0}) AddCause → State → Outcome
+cancel_effect answer s =
     record {
       answer = answer;
       after = record s { selection = if is_ok answer then None else s.selection };
@@ -250,7 +250,7 @@ cancel_of answer s =
 -- the decision on a cancel at a time
 abbrev pub cancel_outcome : ℕ → ℕ → ℕ → State → Outcome
 cancel_outcome a k now s = let t =
-    controls_at now s in cancel_of (answer_of (rows_of_cancel a k t)) t
+    controls_at now s in cancel_effect (answer_of (rows_of_cancel a k t)) t
 
 -- ---- IEC 61850-7-2 20: ends without a request
 

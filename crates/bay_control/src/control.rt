@@ -1,7 +1,7 @@
 // The settings of the switches' controls, from the bay file.
 ghost use Rattle.std.specs.Prelude.{◌≡◌, ◌≤◌, ◌+◌, length, nat_le, position};
 ghost use Rattle.bay_base.specs.Names.{same_name};
-ghost use Rattle.bay_control.specs.Decisions.{controls_of, key_in};
+ghost use Rattle.bay_control.specs.Decisions.{controls_of, key_input};
 ghost use Rattle.bay_control.specs.Decisions as spec_decisions;
 ghost use Rattle.bay_control.specs.Requests.{control_of, no_control};
 ghost use Rattle.bay_control.specs.Requests as spec;
@@ -55,7 +55,7 @@ impl Default for SwitchControl {
 }
 
 // Returns the index of the input with a name; `None` if there is none.
-fn place_named(inputs: &[Text], name: &str) -> Option<usize>
+fn find_input(inputs: &[Text], name: &str) -> Option<usize>
     ensures { result ≡ position (λ input. same_name input name.now) inputs.now }
 {
     inputs
@@ -67,15 +67,15 @@ fn place_named(inputs: &[Text], name: &str) -> Option<usize>
 fn input_at(inputs: &[Text], name: &str) -> usize
     ensures { result ≡ spec_decisions.input_at inputs.now name.now }
 {
-    match place_named(inputs, name) {
-        Some(place) => place,
+    match find_input(inputs, name) {
+        Some(index) => index,
         None => inputs.len(),
     }
 }
 
 // Returns the index of the input of a switch's key; `None` if the switch has no key.
-fn key_of(inputs: &[Text], switch: &Switch) -> Option<usize>
-    ensures { result ≡ key_in inputs.now switch.now }
+fn key_input(inputs: &[Text], switch: &Switch) -> Option<usize>
+    ensures { result ≡ key_input inputs.now switch.now }
 {
     match &switch.remote {
         Some(name) => Some(input_at(inputs, name.as_str())),
@@ -110,7 +110,7 @@ impl ControlTable {
                 model: switch.control,
                 sbo_timeout_ms: switch.sbo_timeout_ms,
                 travel_ms: switch.travel_ms,
-                key: key_of(bay.inputs.as_slice(), switch),
+                key: key_input(bay.inputs.as_slice(), switch),
                 refuses_synchrocheck: switch.refuses_synchrocheck,
             });
         }

@@ -1,6 +1,6 @@
 // The selection and the execution in one bay, and the decisions on requests.
 ghost use Rattle.std.specs.Prelude.{◌≡◌, [], if◌then◌else◌, None};
-ghost use Rattle.bay_control.specs.Decisions.{controls_at, answer_of, cancel_outcome, execution_at, operate_outcome, rows_of_operate, run_out, select_outcome, select_rows, select_with_outcome, selected_switch, selection_at, selection_without, state_of};
+ghost use Rattle.bay_control.specs.Decisions.{controls_at, answer_of, cancel_outcome, execution_at, operate_outcome, rows_of_operate, expired_switch, select_outcome, shared_select_rows, select_with_outcome, selected_switch, selection_at, selection_without, state_of};
 ghost use Rattle.bay_control.specs.Decisions as spec;
 ghost use Rattle.bay_control.specs.Requests.{requested_choice};
 
@@ -110,7 +110,7 @@ impl Controls {
     /// has. Returns at once in the usual case that there is no selection and no execution.
     #[inline(always)]
     pub fn advance(&mut self, table: &ControlTable, now: u64) -> Option<usize>
-        ensures run_out { result ≡ run_out now table.now self.old.execution }
+        ensures expired_switch { result ≡ expired_switch now table.now self.old.execution }
         ensures after { state_of table.now self.new
             ≡ controls_at now (state_of table.now self.old) }
     {
@@ -123,7 +123,7 @@ impl Controls {
     // Ends what has expired, and returns the switch whose execution has expired.
     #[inline(never)]
     fn end(&mut self, table: &ControlTable, now: u64) -> Option<usize>
-        ensures run_out { result ≡ run_out now table.now self.old.execution }
+        ensures expired_switch { result ≡ expired_switch now table.now self.old.execution }
         ensures after { state_of table.now self.new
             ≡ controls_at now (state_of table.now self.old) }
     {
@@ -147,7 +147,7 @@ impl Controls {
         switch: usize,
     ) -> Result<(), AddCause>
         ensures { result
-            ≡ answer_of (select_rows is_supported association switch (state_of [] self.now) []) }
+            ≡ answer_of (shared_select_rows is_supported association switch (state_of [] self.now) []) }
     {
         if !is_supported {
             return Err(AddCause::NotSupported);

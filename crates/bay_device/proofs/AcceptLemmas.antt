@@ -1,6 +1,6 @@
 -- What is accepted is right, and what is right is refused only where its image would be too long.
 use Rattle.std.proofs.Common.{◌≡◌, ◌≢◌, ℕ, Bool, true, false, cond, nat_le, List, Result, Ok, Err, IfOk, IfErr, ◌⊎◌, inl, inr, refl, ap, sym, ◌∙◌}
-use Rattle.bay_base.specs.Exact.{Gives}
+use Rattle.bay_base.specs.Exact.{ExactOr}
 use Rattle.bay_config.specs.Bay.{bay_of}
 use Rattle.bay_config.specs.declared.bay.Bay.{Bay}
 use Rattle.bay_config.specs.declared.fault.BayFault.{BayFault}
@@ -92,7 +92,7 @@ refused-by bay logic e (inl memory) other right = absurd (other memory)
 refused-by bay logic e (inr is) other right = refused bay logic e is right
 
 pub refused-err : (bay logic : List ℕ) (r : Result State LoadFault)
-    → Gives OutOfMemory (λ device. device) r (device_from (of_bay (bay_of bay) (program_of logic)))
+    → ExactOr OutOfMemory (λ device. device) r (device_from (of_bay (bay_of bay) (program_of logic)))
     → IfErr r (λ e. e ≢ OutOfMemory → IsRight bay logic → e ≡ Refused 85 0)
 refused-err bay logic (Ok device) gives = tt
 refused-err bay logic (Err e) gives = λ other right. refused-by bay logic e gives other right

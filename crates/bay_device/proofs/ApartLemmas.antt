@@ -2,7 +2,7 @@
 use Rattle.std.proofs.Common.{◌≡◌, ℕ, suc, ℤ, pos, ◌+ℤ◌, int_lt, ◌+◌, Bool, true, false, cond, nat_eq, List, [], ◌∷◌, ◌++◌, codes, slice_get, Option, Some, None, refl, ap, sym, subst, ◌∙◌, arith}
 use Rattle.std.specs.Str.{bytes_eq}
 use Rattle.std.proofs.lemmas.Slice.Eq.{bytes_eq-Decides}
-use Rattle.bay_tree.specs.Rows.{leaf_of, with_leaf_of}
+use Rattle.bay_tree.specs.Rows.{leaf_named, with_leaf_named}
 use Rattle.bay_tree.specs.declared.row.Row.{Row}
 use Rattle.bay_base.specs.declared.position.Dbpos.{Dbpos}
 use Rattle.bay_tree.specs.declared.leaf.Leaf.{Leaf}
@@ -10,19 +10,19 @@ use Rattle.bay_tree.specs.declared.leaf.Leaf.TheVariants as leaf
 use Rattle.bay_tree.specs.declared.leaf.Quality.{Quality}
 use Rattle.bay_tree.specs.declared.leaf.Quality.TheVariants.{Good}
 use Rattle.bay_nodes.specs.declared.switch.Switch.{Switch}
-use Rattle.bay_nodes.specs.Names.{StatusNames, control_names, control_of, interlocking_of, node_of, opening_of, position_names, operation_names, opening_names, closing_names, switch_names, meter_names, total_names, phase_names}
+use Rattle.bay_nodes.specs.Names.{StatusNames, control_names, cswi_name, cilo_name, switch_node, opening_names_at, position_names, operation_names, opening_names, closing_names, switch_names, meter_names, total_names, phase_names}
 use Rattle.bay_nodes.specs.Node.{node_name}
 use Rattle.bay_base.specs.declared.point.MeterField.{MeterField}
 use Rattle.bay_base.specs.declared.point.MeterField.TheVariants.{TotW, TotVAr, Hz, PhaseA, PhaseB, PhaseC}
 use Rattle.il_image.specs.declared.value.Value.{Value}
-use Rattle.bay_process.specs.Layout.{Layout, status_in, switch_in}
+use Rattle.bay_process.specs.Layout.{Layout, status_names_in, switch_names_in}
 use Rattle.bay_process.specs.Names.{field_names}
-use Rattle.bay_process.specs.Scans.{outputs_put}
+use Rattle.bay_process.specs.Scans.{rows_after_outputs}
 use Rattle.bay_process.specs.ReportedRows.{AreEnabling, AreInterlocked}
 use Rattle.bay_process.specs.declared.rows.SwitchRows.{SwitchRows}
 use Rattle.bay_process.specs.declared.switch.BoundSwitch.{BoundSwitch}
-use Rattle.bay_process.specs.Values.{with_count, is_operation, operation_counted, position_quality, rows_after_change, rows_after_contact, rows_after_doubt, rows_after_measure, has_position, has_invalid_measure, has_measure, with_enabled, with_output, with_status}
-use Rattle.bay_mms_services.specs.Bay.{ShowNone}
+use Rattle.bay_process.specs.Values.{with_count, is_operation, rows_after_operation, position_quality, rows_after_change, rows_after_contact, rows_after_bad_measure, rows_after_measure, has_position, has_invalid_measure, has_measure, with_enabled, with_output, with_status}
+use Rattle.bay_mms_services.specs.Bay.{ShowNoSelection}
 use Rattle.bay_mms_services.proofs.ShownLemmas.{shown-kept}
 
 -- ---- names: that of a selection ends with a `d`
@@ -38,7 +38,7 @@ ending-behind d [] x xs = refl
 ending-behind d (y ∷ node) x xs = ending-behind y node x xs
 
 selected-ends : (k : ℕ) → ending 0 ((control_names k).selected) ≡ 100
-selected-ends k = ending-behind 0 (control_of k) 36 _
+selected-ends k = ending-behind 0 (cswi_name k) 36 _
 
 -- a name that tells of no selection
 abbrev pub IsApart : List ℕ → Type 0
@@ -136,7 +136,7 @@ field-apart k PhaseC = phase-apart (meter_node k) (codes "MX$A$phsC")
 -- the rows go on showing no selection
 module _ (count : ℕ) where
   abbrev pub Shows : List Row → Type 0
-  Shows rows = ShowNone count rows
+  Shows rows = ShowNoSelection count rows
 
   shows-if : (b : Bool) (x y : List Row) → Shows x → Shows y → Shows (cond b x y)
   shows-if true x y p q = p
@@ -153,8 +153,8 @@ module _ (count : ℕ) where
       → AreApart names → Shows rows → Shows (with_count names o now rows)
   shows-counted names (Some (leaf.Int32 n)) now rows apart shows =
       shows-if (int_lt n (pos 2147483647))
-      (with_leaf_of names.time (leaf.Utc now)
-      (with_leaf_of names.value (leaf.Int32 (n +ℤ pos 1)) rows)) rows
+      (with_leaf_named names.time (leaf.Utc now)
+      (with_leaf_named names.value (leaf.Int32 (n +ℤ pos 1)) rows)) rows
       (shown-kept count _ names.time _ apart.time_apart
       (shown-kept count rows names.value _ apart.value_apart shows)) shows
   shows-counted names None now rows apart shows = shows
@@ -179,16 +179,16 @@ module _ (count : ℕ) where
       let after =
       with_status names.control (leaf.Dbpos position) (position_quality position) now told in
       let both : Shows after =
-      shows-status names.control _ _ now told (position-apart (control_of j))
-      (shows-status names.position _ _ now rows (position-apart (node_of switches j switch))
+      shows-status names.control _ _ now told (position-apart (cswi_name j))
+      (shows-status names.position _ _ now rows (position-apart (switch_node switches j switch))
       shows) in
-      let with_count = operation_counted names.operations now after in
+      let with_count = rows_after_operation names.operations now after in
       shows-if (has_position names.position position rows) rows
       (rows_after_change names position now rows)
       shows
-      (shows-if (is_operation position (leaf_of names.position.value rows)) with_count after
-      (shows-counted names.operations (leaf_of names.operations.value after) now after
-      (operation-apart (node_of switches j switch)) both) both)
+      (shows-if (is_operation position (leaf_named names.position.value rows)) with_count after
+      (shows-counted names.operations (leaf_named names.operations.value after) now after
+      (operation-apart (switch_node switches j switch)) both) both)
 
   pub shows-measure : (k : ℕ) (field : MeterField) (value : ℤ) (now : ℕ) (rows : List Row)
       → Shows rows → Shows (rows_after_measure (field_names field (meter_names k)) value now rows)
@@ -198,7 +198,7 @@ module _ (count : ℕ) where
       (field-apart k field) shows)
 
   pub shows-doubt : (k : ℕ) (field : MeterField) (now : ℕ) (rows : List Row) → Shows rows
-      → Shows (rows_after_doubt (field_names field (meter_names k)) now rows)
+      → Shows (rows_after_bad_measure (field_names field (meter_names k)) now rows)
   shows-doubt k field now rows shows =
       let names = field_names field (meter_names k) in
       let apart = field-apart k field in
@@ -215,23 +215,23 @@ module _ (count : ℕ) where
   -- both interlocking values of a switch, at handles that have its names
   shows-output : (layout : Layout) (k : ℕ) (own : SwitchRows) (opens closes : Bool) (now : ℕ)
       (rows : List Row) → AreEnabling layout k own → Shows rows
-      → Shows (with_output (switch_in layout own) opens closes now rows)
+      → Shows (with_output (switch_names_in layout own) opens closes now rows)
   shows-output layout k own opens closes now rows named shows =
       subst (λ (o : StatusNames). Shows
-      (with_enabled (status_in layout own.ena_cls) closes now (with_enabled o opens now rows)))
+      (with_enabled (status_names_in layout own.ena_cls) closes now (with_enabled o opens now rows)))
       (sym named.opening)
       (subst (λ (o : StatusNames). Shows
-      (with_enabled o closes now (with_enabled (opening_of k) opens now rows)))
+      (with_enabled o closes now (with_enabled (opening_names_at k) opens now rows)))
       (sym named.closing)
-      (shows-enabled (closing_names (interlocking_of k)) closes now _
-      (closing-apart (interlocking_of k))
-      (shows-enabled (opening_names (interlocking_of k)) opens now rows
-      (opening-apart (interlocking_of k)) shows)))
+      (shows-enabled (closing_names (cilo_name k)) closes now _
+      (closing-apart (cilo_name k))
+      (shows-enabled (opening_names (cilo_name k)) opens now rows
+      (opening-apart (cilo_name k)) shows)))
 
   shows-outputs : (layout : Layout) (outputs : List Value) (now k : ℕ) (bound : List BoundSwitch)
       (rows : List Row)
       → ((j : ℕ) (b : BoundSwitch) → slice_get bound j ≡ Some b → AreEnabling layout (k + j) b.rows)
-      → Shows rows → Shows (outputs_put layout bound outputs now rows)
+      → Shows rows → Shows (rows_after_outputs layout bound outputs now rows)
   shows-outputs layout outputs now k [] rows all shows = shows
   shows-outputs layout outputs now k (b ∷ bs) rows all shows =
       let none : k + 0 ≡ k = omega arith in
@@ -243,7 +243,7 @@ module _ (count : ℕ) where
 
   pub shows-scan : (layout : Layout) (outputs : List Value) (now : ℕ) (bound : List BoundSwitch)
       (rows : List Row) → AreInterlocked layout bound → Shows rows
-      → Shows (outputs_put layout bound outputs now rows)
+      → Shows (rows_after_outputs layout bound outputs now rows)
   shows-scan layout outputs now bound rows all shows =
       shows-outputs layout outputs now 0 bound rows
       (λ j b h. let none : j ≡ 0 + j = omega arith in

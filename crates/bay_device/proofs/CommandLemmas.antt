@@ -7,17 +7,17 @@ use Rattle.bay_base.specs.declared.point.MeterField.{MeterField}
 use Rattle.bay_control.specs.Decisions as control
 use Rattle.bay_control.specs.Requests.{control_of, is_local}
 use Rattle.bay_control.specs.declared.control.SwitchControl.{SwitchControl}
-use Rattle.bay_connection.specs.ConnectionStates.{Indication, answers, tells, releases, ends as ends-heard, fails, ConnectionState, Terms, indications, octets_to_send}
+use Rattle.bay_connection.specs.ConnectionStates.{Indication, answers, delivers, releases, ends as ends-heard, fails, ConnectionState, Terms, indications, octets_to_send}
 use Rattle.bay_mms_services.specs.Answers.{pdu_answer}
-use Rattle.bay_mms_services.specs.Released.{AreTimed, Leaves}
+use Rattle.bay_mms_services.specs.Released.{HaveTravelTime, ChangesNoValue}
 use Rattle.bay_mms_services.specs.Released as services
 use Rattle.bay_mms_services.specs.declared.answer.Command.{Command}
 use Rattle.bay_mms_services.proofs.ReleaseLemmas.{Sole, all-of, answer-sent, at-most-one, busy-still, commands-each, idle-now, leaves-then, leaves-with, request-leaves, sole-said}
 use Rattle.bay_mms_services.proofs.EntryLemmas.{inputs-stay, settings-stay}
 use Rattle.bay_device.specs.Commands.{AreCommanded, CommandsReleased, IsReleasedAt, IsSingle}
-use Rattle.bay_device.specs.Device.{State, device_at, bay_of, ended_at, is_recent}
-use Rattle.bay_device.specs.Receiving.{Done, ReceiveResult, client_at, after_indications, on_indication, after_pdu, sent_on, with_sent}
-use Rattle.bay_device.specs.Outcomes.{Outcome, close_outcome, connection_at, contact_outcome, doubt_outcome, event_outcome, input_outcome, last_moment, measure_outcome, nothing_done, octets_outcome, open_outcome, slot_of, quiet_step, recv_outcome}
+use Rattle.bay_device.specs.Device.{State, device_at, bay_of, expiry_report, is_recent}
+use Rattle.bay_device.specs.Receiving.{StepState, ReceiveResult, client_at, after_indications, on_indication, after_pdu, sent_on, with_sent}
+use Rattle.bay_device.specs.Outcomes.{Outcome, close_outcome, connection_at, contact_outcome, bad_measure_outcome, event_outcome, input_outcome, last_moment, measure_outcome, step_start, octets_outcome, open_outcome, slot_of, quiet_step, recv_outcome}
 use Rattle.bay_device.specs.Steps.{Steps}
 use Rattle.bay_device.specs.declared.event.Event.{Event}
 use Rattle.bay_device.specs.declared.event.Event.TheVariants.{Open, Recv, Close, Contact, Input, Measure, BadMeasure, Lost, Scan}
@@ -46,15 +46,15 @@ notes_of s = record {
 }
 
 -- what is made of octets: nothing is operated that was not released before them
-pub record Makes (now : ℕ) (s : State) (d : Done) : Type 0 where
-  pub leaves : Leaves now (bay_of s) (bay_of d.state)
+pub record Makes (now : ℕ) (s : State) (d : StepState) : Type 0 where
+  pub leaves : ChangesNoValue now (bay_of s) (bay_of d.state)
   pub notes : notes_of d.state ≡ notes_of s
   pub released : AllByRecursion (IsReleasedAt now s) d.commands
   pub replied : d.commands ≢ [] → d.sent ≢ []
-  pub sole : AreTimed s.controls.controls → Sole now d.commands d.state.controls
+  pub sole : HaveTravelTime s.controls.controls → Sole now d.commands d.state.controls
 
 -- with nothing done yet, nothing is made
-pub begins : (now : ℕ) (s : State) → Makes now s (nothing_done (device_at now s))
+pub begins : (now : ℕ) (s : State) → Makes now s (step_start (device_at now s))
 begins now s = record {
   leaves =
       leaves-with now (bay_of s) (control.controls_at now s.controls) (busy-still now s.controls);
@@ -64,7 +64,7 @@ begins now s = record {
   sole = λ timed. record { timed = timed; single = tt };
 }
 
-released-before : (now a : ℕ) (terms : Terms) (s : State) (d : Done) (command : Command)
+released-before : (now a : ℕ) (terms : Terms) (s : State) (d : StepState) (command : Command)
     → Makes now s d → services.IsReleased (client_at now a terms d.state) (bay_of d.state) command
     → IsReleasedAt now s command
 released-before now a terms s d command makes is = record {
@@ -79,7 +79,7 @@ released-before now a terms s d command makes is = record {
       makes.leaves.busy is.idle refl;
 }
 
-all-before : (now a : ℕ) (terms : Terms) (s : State) (d : Done) (commands : List Command)
+all-before : (now a : ℕ) (terms : Terms) (s : State) (d : StepState) (commands : List Command)
     → Makes now s d
     → AllByRecursion (services.IsReleased (client_at now a terms d.state) (bay_of d.state)) commands
     → AllByRecursion (IsReleasedAt now s) commands
@@ -100,7 +100,7 @@ not-empty f [] [] some = absurd (some refl)
 not-empty f [] (x ∷ xs) some = λ e. cc
 not-empty f (b ∷ before) xs some = λ e. cc
 
-makes-said : (now a : ℕ) (terms : Terms) (pdu : List ℕ) (s : State) (d : Done) → Makes now s d
+makes-said : (now a : ℕ) (terms : Terms) (pdu : List ℕ) (s : State) (d : StepState) → Makes now s d
     → Makes now s (after_pdu now a terms pdu d)
 makes-said now a terms pdu s d makes =
     let c = client_at now a terms d.state in
@@ -126,10 +126,10 @@ snoc-some : (xs : List Sent) (x : Sent) → xs ++ x ∷ [] ≢ []
 snoc-some [] x e = cc
 snoc-some (y ∷ xs) x e = cc
 
-sent-some : (a : ℕ) (octets : List ℕ) (d : Done) → (with_sent a octets d).sent ≢ []
+sent-some : (a : ℕ) (octets : List ℕ) (d : StepState) → (with_sent a octets d).sent ≢ []
 sent-some a octets d = snoc-some d.sent (sent_on a octets)
 
-makes-sent : (now a : ℕ) (octets : List ℕ) (s : State) (d : Done) → Makes now s d
+makes-sent : (now a : ℕ) (octets : List ℕ) (s : State) (d : StepState) → Makes now s d
     → Makes now s (with_sent a octets d)
 makes-sent now a octets s d makes =
     record {
@@ -140,17 +140,17 @@ makes-sent now a octets s d makes =
       sole = makes.sole;
     }
 
-makes-one : (now a : ℕ) (i : Indication) (s : State) (d : Done) (later : Done → ReceiveResult)
-    → Makes now s d → ((e : Done) → Makes now s e → Makes now s (later e).done)
+makes-one : (now a : ℕ) (i : Indication) (s : State) (d : StepState) (later : StepState → ReceiveResult)
+    → Makes now s d → ((e : StepState) → Makes now s e → Makes now s (later e).done)
     → Makes now s (on_indication now a i d later).done
 makes-one now a (answers octets) s d later makes rest = rest _ (makes-sent now a octets s d makes)
-makes-one now a (tells terms pdu) s d later makes rest =
+makes-one now a (delivers terms pdu) s d later makes rest =
     rest _ (makes-said now a terms pdu s d makes)
 makes-one now a (releases octets) s d later makes rest = makes-sent now a octets s d makes
 makes-one now a ends-heard s d later makes rest = makes
 makes-one now a (fails code) s d later makes rest = makes
 
-pub makes-heard : (choice : Option ℕ) (now a : ℕ) (is : List Indication) (s : State) (d : Done)
+pub makes-heard : (choice : Option ℕ) (now a : ℕ) (is : List Indication) (s : State) (d : StepState)
     → Makes now s d → Makes now s (after_indications choice now a is d).done
 makes-heard None now a [] s d makes = makes
 makes-heard None now a (i ∷ is) s d makes =
@@ -176,11 +176,11 @@ none-commanded now s ended scan =
 octets-commanded : (choice : Option ℕ) (now a : ℕ) (s : State) (talk : ConnectionState)
     (octets : List ℕ)
     → Commanded now s (octets_outcome choice now a s talk octets).answer
-octets-commanded choice now a s talk [] = none-commanded now s (ended_at now s) None
+octets-commanded choice now a s talk [] = none-commanded now s (expiry_report now s) None
 octets-commanded choice now a s talk (octet ∷ octets) =
     let makes =
     makes-heard choice now a (indications talk (octet ∷ octets)) s
-    (nothing_done (device_at now s)) (begins now s) in
+    (step_start (device_at now s)) (begins now s) in
     record { released = all-of (IsReleasedAt now s) _ makes.released; replied = makes.replied }
 
 recv-commanded : (choice : Option ℕ) (now a : ℕ) (octets : List ℕ) (s : State)
@@ -193,12 +193,12 @@ open-commanded : (now a : ℕ) (s : State) (o : Option ℕ) (talk : Option Conne
     → Commanded now s (open_outcome now a s o talk).answer
 open-commanded now a s None talk = tt
 open-commanded now a s (Some place) (Some talk) = tt
-open-commanded now a s (Some place) None = none-commanded now s (ended_at now s) None
+open-commanded now a s (Some place) None = none-commanded now s (expiry_report now s) None
 
 close-commanded : (now a : ℕ) (s : State) (talk : Option ConnectionState)
     → Commanded now s (close_outcome now a s talk).answer
 close-commanded now a s None = tt
-close-commanded now a s (Some talk) = none-commanded now s (ended_at now s) None
+close-commanded now a s (Some talk) = none-commanded now s (expiry_report now s) None
 
 contact-commanded : (now k : ℕ) (position : Dbpos) (s : State) (o : Option Switch)
     → Commanded now s (contact_outcome now k position s o).answer
@@ -208,17 +208,17 @@ contact-commanded now k position s (Some switch) = none-commanded now s _ None
 input-commanded : (now k : ℕ) (value : Bool) (s : State) (o : Option Bool)
     → Commanded now s (input_outcome now k value s o).answer
 input-commanded now k value s None = tt
-input-commanded now k value s (Some before) = none-commanded now s (ended_at now s) None
+input-commanded now k value s (Some before) = none-commanded now s (expiry_report now s) None
 
 measure-commanded : (now k : ℕ) (field : MeterField) (value : _) (s : State) (o : Option (List ℕ))
     → Commanded now s (measure_outcome now k field value s o).answer
 measure-commanded now k field value s None = tt
-measure-commanded now k field value s (Some id) = none-commanded now s (ended_at now s) None
+measure-commanded now k field value s (Some id) = none-commanded now s (expiry_report now s) None
 
 doubt-commanded : (now k : ℕ) (field : MeterField) (s : State) (o : Option (List ℕ))
-    → Commanded now s (doubt_outcome now k field s o).answer
+    → Commanded now s (bad_measure_outcome now k field s o).answer
 doubt-commanded now k field s None = tt
-doubt-commanded now k field s (Some id) = none-commanded now s (ended_at now s) None
+doubt-commanded now k field s (Some id) = none-commanded now s (expiry_report now s) None
 
 event-commanded : (choice : Option ℕ) (now : ℕ) (event : Event) (s : State)
     → Commanded now s (event_outcome choice now event s).answer
@@ -235,8 +235,8 @@ event-commanded choice now (Measure k field value) s =
     measure-commanded now k field value s (slice_get s.meters k)
 event-commanded choice now (BadMeasure k field) s =
     doubt-commanded now k field s (slice_get s.meters k)
-event-commanded choice now Lost s = none-commanded now s (ended_at now s) None
-event-commanded choice now Scan s = none-commanded now s (ended_at now s) _
+event-commanded choice now Lost s = none-commanded now s (expiry_report now s) None
+event-commanded choice now Scan s = none-commanded now s (expiry_report now s) _
 
 commanded-if : (b : Bool) (now : ℕ) (s : State) (x y : Outcome) → Commanded now s x.answer
     → Commanded now s y.answer → Commanded now s (cond b x y).answer
@@ -258,20 +258,20 @@ none-single = omega arith
 
 octets-single : (choice : Option ℕ) (now a : ℕ) (s : State) (talk : ConnectionState)
     (octets : List ℕ)
-    → AreTimed s.controls.controls → IsSingle (octets_outcome choice now a s talk octets).answer
+    → HaveTravelTime s.controls.controls → IsSingle (octets_outcome choice now a s talk octets).answer
 octets-single choice now a s talk [] timed = none-single
 octets-single choice now a s talk (octet ∷ octets) timed =
     let made =
     after_indications choice now a (indications talk (octet ∷ octets))
-    (nothing_done (device_at now s)) in
+    (step_start (device_at now s)) in
     let makes =
     makes-heard choice now a (indications talk (octet ∷ octets)) s
-    (nothing_done (device_at now s)) (begins now s) in
+    (step_start (device_at now s)) (begins now s) in
     at-most-one now made.done.commands made.done.state.controls (makes.sole timed).single
 
 recv-single : (choice : Option ℕ) (now a : ℕ) (octets : List ℕ) (s : State)
     (talk : Option ConnectionState)
-    → AreTimed s.controls.controls → IsSingle (recv_outcome choice now a octets s talk).answer
+    → HaveTravelTime s.controls.controls → IsSingle (recv_outcome choice now a octets s talk).answer
 recv-single choice now a octets s None timed = tt
 recv-single choice now a octets s (Some talk) timed = octets-single choice now a s talk octets timed
 
@@ -302,12 +302,12 @@ measure-single now k field value s None = tt
 measure-single now k field value s (Some id) = none-single
 
 doubt-single : (now k : ℕ) (field : MeterField) (s : State) (o : Option (List ℕ))
-    → IsSingle (doubt_outcome now k field s o).answer
+    → IsSingle (bad_measure_outcome now k field s o).answer
 doubt-single now k field s None = tt
 doubt-single now k field s (Some id) = none-single
 
 event-single : (choice : Option ℕ) (now : ℕ) (event : Event) (s : State)
-    → AreTimed s.controls.controls → IsSingle (event_outcome choice now event s).answer
+    → HaveTravelTime s.controls.controls → IsSingle (event_outcome choice now event s).answer
 event-single choice now (Open a) s timed =
     open-single now a s (slot_of a) (connection_at (slot_of a) s)
 event-single choice now (Recv a octets) s timed =
@@ -331,7 +331,7 @@ single-if false x y p q = q
 
 -- a step on a device whose switches take some time
 pub step-single : (now : ℕ) (event : Event) (old : State) (answer : Result Step StepFault)
-    (new : State) → AreTimed old.controls.controls → Steps now event old answer new
+    (new : State) → HaveTravelTime old.controls.controls → Steps now event old answer new
     → IsSingle answer
 step-single now event old answer new timed steps =
     subst IsSingle (sym steps.answered)

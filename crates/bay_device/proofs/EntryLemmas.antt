@@ -8,16 +8,16 @@ use Rattle.bay_nodes.specs.declared.switch.Switch.{Switch}
 use Rattle.bay_base.specs.declared.position.Dbpos.{Dbpos}
 use Rattle.bay_control.specs.Acts as act
 use Rattle.bay_control.specs.Acts.{Entry}
-use Rattle.bay_control.specs.Happenings as call
-use Rattle.bay_control.specs.Happenings.{Leads, act_of, entries_of, is_open_after, is_orderly_call, outcome_of}
+use Rattle.bay_control.specs.TimedCalls as call
+use Rattle.bay_control.specs.TimedCalls.{LeadsControls, act_of, entries_of, is_open_after, is_orderly_call, outcome_of}
 use Rattle.bay_control.proofs.LeadsLemmas.{none-leads, two-lead}
-use Rattle.bay_connection.specs.ConnectionStates.{Indication, ConnectionState, answers, tells, releases, ends as ends-heard, fails, indications, connection_after}
+use Rattle.bay_connection.specs.ConnectionStates.{Indication, ConnectionState, answers, delivers, releases, ends as ends-heard, fails, indications, connection_after}
 use Rattle.bay_mms_services.proofs.EntryLemmas.{request-leads}
-use Rattle.bay_mms_services.specs.Entries.{entries_in}
+use Rattle.bay_mms_services.specs.Entries.{entries_on_pdu}
 use Rattle.bay_device.specs.Device.{State, device_at, bay_of, device_after_contact}
-use Rattle.bay_device.specs.Entries.{Leading, entries_at, entries_close, entries_closed, entries_heard, entries_octets, entries_of_event, entries_on, entries_open, entries_recv, opens, entries_of_act}
-use Rattle.bay_device.specs.Receiving.{Done, ReceiveResult, client_at, after_indications, on_indication, after_pdu}
-use Rattle.bay_device.specs.Outcomes.{Outcome, close_outcome, without_connection, connection_at, contact_outcome, doubt_outcome, event_outcome, initial_connection, input_outcome, last_moment, lost_outcome, measure_outcome, nothing_done, octets_outcome, open_outcome, outcome, slot_of, refusal_of, recv_after, recv_outcome, with_connection, without_owner}
+use Rattle.bay_device.specs.Entries.{LeadsByChoice, entries_at, entries_on_close, entries_on_closing, entries_on_indications, entries_on_octets, entries_on_event, entries_on_indication, entries_on_open, entries_on_recv, opens, entries_of_act}
+use Rattle.bay_device.specs.Receiving.{StepState, ReceiveResult, client_at, after_indications, on_indication, after_pdu}
+use Rattle.bay_device.specs.Outcomes.{Outcome, close_outcome, without_connection, connection_at, contact_outcome, bad_measure_outcome, event_outcome, initial_connection, input_outcome, last_moment, lost_outcome, measure_outcome, step_start, octets_outcome, open_outcome, outcome, slot_of, refusal_outcome, recv_after, recv_outcome, with_connection, without_owner}
 use Rattle.bay_device.specs.Steps.{Steps}
 use Rattle.bay_device.specs.declared.event.Event.{Event}
 use Rattle.bay_device.specs.declared.event.Event.TheVariants.{Open, Recv, Close, Contact, Input, Measure, BadMeasure, Lost, Scan}
@@ -120,13 +120,13 @@ controls-with (Some place) x s = refl
 -- What is seen leads the controls and the open associations of a device to those of another, which
 -- has as many places for them.
 record Led (entries : List Entry) (s t : State) : Type 0 where
-  leads : Leads entries (opens s) s.controls (opens t) t.controls
+  leads : LeadsControls entries (opens s) s.controls (opens t) t.controls
   sized : length t.connections ≡ length s.connections
 
 quiet : (s t : State) → t.controls ≡ s.controls → ((a : ℕ) → opens t a ≡ opens s a)
     → length t.connections ≡ length s.connections → Led [] s t
 quiet s t controls still sized = record {
-  leads = record { happened = []; orderly = tt; seen = refl; ends = controls; opens = still };
+  leads = record { timed_calls = []; orderly = tt; seen = refl; ends = controls; opens = still };
   sized = sized;
 }
 
@@ -140,7 +140,7 @@ called : (asked : call.Call) (now : ℕ) (s t : State) → is_orderly_call (open
     → Led (entries_of now (act_of asked) (is_ok (outcome_of asked now s.controls).answer)) s t
 called asked now s t orderly controls still sized = record {
   leads = record {
-    happened = record { now = now; call = asked } ∷ [];
+    timed_calls = record { now = now; call = asked } ∷ [];
     orderly = (orderly, tt);
     seen = sym
         (append-nil (entries_of now (act_of asked)
@@ -218,7 +218,7 @@ led-kept a place x s sized here opened =
 
 led-after : (now a place : ℕ) (left : ConnectionState) (s : State) (why : Option Why)
     → length s.connections ≡ 8 → slot_of a ≡ Some place → opens s a ≡ true
-    → Led (entries_closed now a why) s (recv_after a left s why)
+    → Led (entries_on_closing now a why) s (recv_after a left s why)
 led-after now a place left s None sized here opened = led-kept a place left s sized here opened
 led-after now a place left s (Some why) sized here opened =
     led-closed now a place s sized here opened
@@ -226,16 +226,16 @@ led-after now a place left s (Some why) sized here opened =
 -- ---- what is heard
 
 module _ (now a : ℕ) (is_open : ℕ → Bool) (opened : is_open a ≡ true) where
-  on-heard-leads : (i : Indication) (d : Done) (entries : Done → List Entry)
-      (later : Done → ReceiveResult)
-      → ((e : Done) → Leads (entries e) is_open e.state.controls is_open
+  on-heard-leads : (i : Indication) (d : StepState) (entries : StepState → List Entry)
+      (later : StepState → ReceiveResult)
+      → ((e : StepState) → LeadsControls (entries e) is_open e.state.controls is_open
       (later e).done.state.controls)
-      → Leads (entries_on now a i d entries) is_open d.state.controls is_open
+      → LeadsControls (entries_on_indication now a i d entries) is_open d.state.controls is_open
       (on_indication now a i d later).done.state.controls
   on-heard-leads (answers octets) d entries later rest = rest _
-  on-heard-leads (tells terms pdu) d entries later rest =
-      let e : Done = after_pdu now a terms pdu d in
-      two-lead (entries_in (client_at now a terms d.state) pdu (bay_of d.state)) (entries e) is_open
+  on-heard-leads (delivers terms pdu) d entries later rest =
+      let e : StepState = after_pdu now a terms pdu d in
+      two-lead (entries_on_pdu (client_at now a terms d.state) pdu (bay_of d.state)) (entries e) is_open
       is_open is_open
       d.state.controls e.state.controls (later e).done.state.controls
       (request-leads (client_at now a terms d.state) pdu (bay_of d.state) is_open opened) (rest e)
@@ -243,30 +243,30 @@ module _ (now a : ℕ) (is_open : ℕ → Bool) (opened : is_open a ≡ true) wh
   on-heard-leads ends-heard d entries later rest = none-leads is_open d.state.controls
   on-heard-leads (fails code) d entries later rest = none-leads is_open d.state.controls
 
-  heard-leads : (choice : Option ℕ) (is : List Indication) (d : Done)
-      → Leads (entries_heard choice now a is d) is_open d.state.controls is_open
+  heard-leads : (choice : Option ℕ) (is : List Indication) (d : StepState)
+      → LeadsControls (entries_on_indications choice now a is d) is_open d.state.controls is_open
       (after_indications choice now a is d).done.state.controls
   heard-leads None [] d = none-leads is_open d.state.controls
   heard-leads None (i ∷ is) d =
-      on-heard-leads i d (entries_heard None now a is) (after_indications None now a is)
+      on-heard-leads i d (entries_on_indications None now a is) (after_indications None now a is)
       (λ e. heard-leads None is e)
   heard-leads (Some zero) [] d = none-leads is_open d.state.controls
   heard-leads (Some zero) (i ∷ is) d = none-leads is_open d.state.controls
   heard-leads (Some (suc n)) [] d = none-leads is_open d.state.controls
   heard-leads (Some (suc n)) (i ∷ is) d =
-      on-heard-leads i d (entries_heard (Some n) now a is) (after_indications (Some n) now a is)
+      on-heard-leads i d (entries_on_indications (Some n) now a is) (after_indications (Some n) now a is)
       (λ e. heard-leads (Some n) is e)
 
-on-heard-connected : (now a : ℕ) (i : Indication) (d : Done) (later : Done → ReceiveResult)
-    → ((e : Done) → (later e).done.state.connections ≡ e.state.connections)
+on-heard-connected : (now a : ℕ) (i : Indication) (d : StepState) (later : StepState → ReceiveResult)
+    → ((e : StepState) → (later e).done.state.connections ≡ e.state.connections)
     → (on_indication now a i d later).done.state.connections ≡ d.state.connections
 on-heard-connected now a (answers octets) d later rest = rest _
-on-heard-connected now a (tells terms pdu) d later rest = rest (after_pdu now a terms pdu d)
+on-heard-connected now a (delivers terms pdu) d later rest = rest (after_pdu now a terms pdu d)
 on-heard-connected now a (releases octets) d later rest = refl
 on-heard-connected now a ends-heard d later rest = refl
 on-heard-connected now a (fails code) d later rest = refl
 
-pub heard-connected : (choice : Option ℕ) (now a : ℕ) (is : List Indication) (d : Done)
+pub heard-connected : (choice : Option ℕ) (now a : ℕ) (is : List Indication) (d : StepState)
     → (after_indications choice now a is d).done.state.connections ≡ d.state.connections
 heard-connected None now a [] d = refl
 heard-connected None now a (i ∷ is) d =
@@ -279,18 +279,18 @@ heard-connected (Some (suc n)) now a (i ∷ is) d =
     on-heard-connected now a i d (after_indications (Some n) now a is)
     (λ e. heard-connected (Some n) now a is e)
 
-led-heard : (choice : Option ℕ) (now a : ℕ) (is : List Indication) (d : Done)
+led-heard : (choice : Option ℕ) (now a : ℕ) (is : List Indication) (d : StepState)
     → opens d.state a ≡ true
-    → Led (entries_heard choice now a is d) d.state (after_indications choice now a is d).done.state
+    → Led (entries_on_indications choice now a is d) d.state (after_indications choice now a is d).done.state
 led-heard choice now a is d opened =
     let h : ReceiveResult = after_indications choice now a is d in
     let same : h.done.state.connections ≡ d.state.connections = heard-connected choice now a is d in
-    let leads : Leads (entries_heard choice now a is d) (opens d.state) d.state.controls
+    let leads : LeadsControls (entries_on_indications choice now a is d) (opens d.state) d.state.controls
     (opens d.state) h.done.state.controls =
     heard-leads now a (opens d.state) opened choice is d in
     record {
       leads = record {
-        happened = leads.happened;
+        timed_calls = leads.timed_calls;
         orderly = leads.orderly;
         seen = leads.seen;
         ends = leads.ends;
@@ -308,7 +308,7 @@ place-at a (Some place) s talk here is = (place, here)
 
 led-octets : (choice : Option ℕ) (now a : ℕ) (s : State) (talk : ConnectionState) (octets : List ℕ)
     → length s.connections ≡ 8 → connection_at (slot_of a) s ≡ Some talk
-    → Led (entries_octets choice now a s talk octets) s
+    → Led (entries_on_octets choice now a s talk octets) s
     (octets_outcome choice now a s talk octets).after
 led-octets choice now a s talk [] sized is = led-advanced now s
 led-octets choice now a s talk (octet ∷ octets) sized is =
@@ -316,27 +316,27 @@ led-octets choice now a s talk (octet ∷ octets) sized is =
     let t : State = device_at now s in
     let left : ConnectionState = connection_after talk (octet ∷ octets) in
     let is-heard : List Indication = indications talk (octet ∷ octets) in
-    let h : ReceiveResult = after_indications choice now a is-heard (nothing_done t) in
+    let h : ReceiveResult = after_indications choice now a is-heard (step_start t) in
     let opened : opens t a ≡ true =
     opens-same s t a refl ∙ ap (λ (o : Option ConnectionState). is_some o) is in
     let first : Led [] s t = led-advanced now s in
-    let heard-so : Led (entries_heard choice now a is-heard (nothing_done t)) t h.done.state =
-    led-heard choice now a is-heard (nothing_done t) opened in
+    let heard-so : Led (entries_on_indications choice now a is-heard (step_start t)) t h.done.state =
+    led-heard choice now a is-heard (step_start t) opened in
     let connected : h.done.state.connections ≡ t.connections =
-    heard-connected choice now a is-heard (nothing_done t) in
-    let last : Led (entries_closed now a h.why) h.done.state
+    heard-connected choice now a is-heard (step_start t) in
+    let last : Led (entries_on_closing now a h.why) h.done.state
     (recv_after a left h.done.state h.why) =
     led-after now a place.0 left h.done.state h.why (heard-so.sized ∙ sized) place.1
     (opens-same t h.done.state a connected ∙ opened) in
-    behind [] (entries_heard choice now a is-heard (nothing_done t) ++ entries_closed now a h.why) s
+    behind [] (entries_on_indications choice now a is-heard (step_start t) ++ entries_on_closing now a h.why) s
     t (recv_after a left h.done.state h.why) first
-    (behind (entries_heard choice now a is-heard (nothing_done t)) (entries_closed now a h.why) t
+    (behind (entries_on_indications choice now a is-heard (step_start t)) (entries_on_closing now a h.why) t
     h.done.state (recv_after a left h.done.state h.why) heard-so last)
 
 led-recv : (choice : Option ℕ) (now a : ℕ) (octets : List ℕ) (s : State)
     (talk : Option ConnectionState)
     → length s.connections ≡ 8 → connection_at (slot_of a) s ≡ talk
-    → Led (entries_recv choice now a octets s talk) s
+    → Led (entries_on_recv choice now a octets s talk) s
     (recv_outcome choice now a octets s talk).after
 led-recv choice now a octets s None sized is = nothing s
 led-recv choice now a octets s (Some talk) sized is = led-octets choice now a s talk octets sized is
@@ -346,7 +346,7 @@ led-recv choice now a octets s (Some talk) sized is = led-octets choice now a s 
 module _ (now : ℕ) (s : State) (sized : length s.connections ≡ 8) where
   led-open : (a : ℕ) (o : Option ℕ) (talk : Option ConnectionState) → slot_of a ≡ o
       → connection_at o s ≡ talk
-      → Led (entries_open now a o talk) s (open_outcome now a s o talk).after
+      → Led (entries_on_open now a o talk) s (open_outcome now a s o talk).after
   led-open a None talk here is = nothing s
   led-open a (Some place) (Some talk) here is = nothing s
   led-open a (Some place) None here is =
@@ -357,7 +357,7 @@ module _ (now : ℕ) (s : State) (sized : length s.connections ≡ 8) where
       (connections-at (Some place) s (device_at now s) refl ∙ is))
 
   led-close : (a : ℕ) (talk : Option ConnectionState) → connection_at (slot_of a) s ≡ talk
-      → Led (entries_close now a talk) s (close_outcome now a s talk).after
+      → Led (entries_on_close now a talk) s (close_outcome now a s talk).after
   led-close a None is = nothing s
   led-close a (Some talk) is =
       let place = place-at a (slot_of a) s talk refl is in
@@ -394,7 +394,7 @@ module _ (now : ℕ) (s : State) (sized : length s.connections ≡ 8) where
   led-measure k field value (Some id) = led-beside _ refl refl
 
   led-doubt : (k : ℕ) (field : MeterField) (o : Option (List ℕ))
-      → Led [] s (doubt_outcome now k field s o).after
+      → Led [] s (bad_measure_outcome now k field s o).after
   led-doubt k field None = nothing s
   led-doubt k field (Some id) = led-beside _ refl refl
 
@@ -404,7 +404,7 @@ module _ (now : ℕ) (s : State) (sized : length s.connections ≡ 8) where
       (ap (λ (f : Fixed). f.connections) (lost-fixed now (device_at now s)))
 
   led-event : (choice : Option ℕ) (event : Event)
-      → Led (entries_of_event choice now event s) s (event_outcome choice now event s).after
+      → Led (entries_on_event choice now event s) s (event_outcome choice now event s).after
   led-event choice (Open a) = led-open a (slot_of a) (connection_at (slot_of a) s) refl refl
   led-event choice (Recv a octets) =
       led-recv choice now a octets.now s (connection_at (slot_of a) s) sized refl
@@ -425,13 +425,13 @@ module _ (now : ℕ) (s : State) (sized : length s.connections ≡ 8) where
       → Led (entries_at choice now event s) s (outcome choice now event s).after
   led-outcome choice event =
       led-if (nat_lt last_moment now) _ _ _ _ (nothing s)
-      (led-if (nat_lt now s.moment) [] (entries_of_event choice now event s)
-      (refusal_of TimeWentBack s) (event_outcome choice now event s) (nothing s)
+      (led-if (nat_lt now s.moment) [] (entries_on_event choice now event s)
+      (refusal_outcome TimeWentBack s) (event_outcome choice now event s) (nothing s)
       (led-event choice event))
 
 -- an event, from whatever was before
 pub leading : (now : ℕ) (event : Event) (old : State) (answer : Result Step StepFault) (new : State)
-    → length old.connections ≡ 8 → Steps now event old answer new → Leading now event old answer new
+    → length old.connections ≡ 8 → Steps now event old answer new → LeadsByChoice now event old answer new
 leading now event old answer new sized steps =
     let after : State = (outcome steps.choice now event old).after in
     let led : Led (entries_at steps.choice now event old) old after =
@@ -439,7 +439,7 @@ leading now event old answer new sized steps =
     record {
       steps = steps;
       leads = λ past open_before before so_far.
-          subst (λ (t : State). Leads (past ++ entries_at steps.choice now event old) open_before
+          subst (λ (t : State). LeadsControls (past ++ entries_at steps.choice now event old) open_before
           before (opens t) t.controls) (sym steps.left)
           (two-lead past (entries_at steps.choice now event old) open_before (opens old)
           (opens after) before old.controls after.controls so_far led.leads);

@@ -17,15 +17,15 @@ use Rattle.bay_process.specs.Names.{field_names}
 use Rattle.bay_process.specs.Values.{measure_leaf, number_of_leaf, position_leaf, position_value, rows_after_change, has_position, has_invalid_measure, has_measure, with_status}
 use Rattle.bay_mms_services.specs.declared.answer.Command.{Command}
 use Rattle.bay_mms_services.proofs.ReleaseLemmas.{all-of}
-use Rattle.bay_tree.specs.Rows.{leaf_of, with_leaf_of}
+use Rattle.bay_tree.specs.Rows.{leaf_named, with_leaf_named}
 use Rattle.bay_base.specs.declared.position.Dbpos.{Dbpos}
 use Rattle.bay_base.specs.declared.position.Dbpos.TheVariants.{Bad}
 use Rattle.bay_tree.specs.declared.leaf.Leaf.TheVariants as leaf
 use Rattle.bay_tree.specs.declared.leaf.Quality.TheVariants.{Good, Invalid}
 use Rattle.bay_device.specs.Commands.{AreCommanded, IsReleasedAt}
 use Rattle.bay_device.specs.Device.{State, device_after_contact, device_at, device_after_bad_measure, inputs_lost, inputs_of, device_after_loss, is_fresh, is_recent, point_value, after_scan}
-use Rattle.bay_device.specs.Fresh.{Came, FreshAt, HasScan, IsFresh, IsSameProcess, Past, is_heard_after, is_heard}
-use Rattle.bay_device.specs.Outcomes.{Outcome, contact_outcome, doubt_outcome, event_outcome, input_outcome, last_moment, measure_outcome, outcome, refusal_of}
+use Rattle.bay_device.specs.Fresh.{IsHistory, FreshAt, HasScan, IsFresh, IsSameProcess, PastEvent, is_heard_after, is_heard}
+use Rattle.bay_device.specs.Outcomes.{Outcome, contact_outcome, bad_measure_outcome, event_outcome, input_outcome, last_moment, measure_outcome, outcome, refusal_outcome}
 use Rattle.bay_device.specs.Steps.{OfAssociation, Steps}
 use Rattle.bay_device.specs.declared.event.Event.{Event}
 use Rattle.bay_device.specs.declared.event.Event.TheVariants.{Open, Recv, Close, Contact, Input, Measure, BadMeasure, Lost, Scan}
@@ -41,9 +41,9 @@ use Rattle.bay_device.proofs.SameLemmas.{Parts, Same, same-event}
 pub process-same : (s t : State) → t.rows ≡ s.rows → t.input_values ≡ s.input_values
     → IsSameProcess s t
 process-same s t rows inputs = record {
-  positions = λ kind n. record { value = ap (leaf_of _) rows; quality = ap (leaf_of _) rows };
+  positions = λ kind n. record { value = ap (leaf_named _) rows; quality = ap (leaf_named _) rows };
   inputs = inputs;
-  measures = λ k field. record { value = ap (leaf_of _) rows; quality = ap (leaf_of _) rows };
+  measures = λ k field. record { value = ap (leaf_named _) rows; quality = ap (leaf_named _) rows };
 }
 
 -- ---- what is no scan
@@ -121,7 +121,7 @@ module _ (now : ℕ) (s : State) where
       }
 
   still-doubt : (k : ℕ) (field : MeterField) (o : Option (List ℕ))
-      → Still s (doubt_outcome now k field s o).after
+      → Still s (bad_measure_outcome now k field s o).after
   still-doubt k field None = still-none
   still-doubt k field (Some id) =
       let names = field_names field (meter_names k) in
@@ -131,8 +131,8 @@ module _ (now : ℕ) (s : State) where
         stale = λ h. (or_parts s.is_stale (not told) h).0;
         rows = λ h.
             ap (λ (b : Bool). cond b s.rows
-            (with_leaf_of names.time (leaf.Utc now)
-            (with_leaf_of names.quality (leaf.Quality Invalid) s.rows)))
+            (with_leaf_named names.time (leaf.Utc now)
+            (with_leaf_named names.quality (leaf.Quality Invalid) s.rows)))
             (not-false told (or_parts s.is_stale (not told) h).1);
         inputs = λ h. refl;
       }
@@ -192,24 +192,24 @@ still-lost now s =
 
 -- A scan was done at a moment; after each event since, the process tells the same, and the device
 -- has the values that the scan left.
-pub record Since (m : ℕ) (past : List Past) (s : State) : Type 0 where
-  pub since : List Past
-  pub scan : Past
-  pub earlier : List Past
+pub record Since (m : ℕ) (past : List PastEvent) (s : State) : Type 0 where
+  pub since : List PastEvent
+  pub scan : PastEvent
+  pub earlier : List PastEvent
   pub split : past ≡ since ++ scan ∷ earlier
   pub scanned : scan.event ≡ Scan
   pub done : IsOk scan.answer
   pub at : scan.now ≡ m
-  pub unchanged : AllByRecursion (λ (p : Past). IsSameProcess scan.after p.after) since
+  pub unchanged : AllByRecursion (λ (p : PastEvent). IsSameProcess scan.after p.after) since
   pub rows : s.rows ≡ scan.after.rows
   pub inputs : s.input_values ≡ scan.after.input_values
 
 -- the last scan is so, where it is not stale, and the device notes whether the process is lost
-pub record Tracks (past : List Past) (s : State) : Type 0 where
+pub record Tracks (past : List PastEvent) (s : State) : Type 0 where
   pub since_scan : (m : ℕ) → s.last_scan ≡ Some m → s.is_stale ≡ false → Since m past s
   pub heard : is_heard past ≡ not s.is_lost
 
-pub tracks-first : (first : State) → Came [] first → Tracks [] first
+pub tracks-first : (first : State) → IsHistory [] first → Tracks [] first
 tracks-first first came = record {
   since_scan = λ m scans fresh.
       let none : first.last_scan ≡ None = ap (λ (t : State). t.last_scan) came.2 in
@@ -222,7 +222,7 @@ either : (b h x : Bool) → h ≡ x → cond b h h ≡ x
 either true h x is = is
 either false h x is = is
 
-module _ (past : List Past) (s : State) (tracks : Tracks past s) (now : ℕ) where
+module _ (past : List PastEvent) (s : State) (tracks : Tracks past s) (now : ℕ) where
   -- behind an event with this outcome
   abbrev Led : Event → Outcome → Type 0
   Led event o =
@@ -243,13 +243,13 @@ module _ (past : List Past) (s : State) (tracks : Tracks past s) (now : ℕ) whe
         let rows : o.after.rows ≡ w.scan.after.rows = still.rows fresh ∙ w.rows in
         let inputs : o.after.input_values ≡ w.scan.after.input_values =
         still.inputs fresh ∙ w.inputs in
-        let p : Past =
+        let p : PastEvent =
         record { now = now; event = event; answer = o.answer; after = o.after } in
         record {
           since = p ∷ w.since;
           scan = w.scan;
           earlier = w.earlier;
-          split = ap (λ (ps : List Past). p ∷ ps) w.split;
+          split = ap (λ (ps : List PastEvent). p ∷ ps) w.split;
           scanned = w.scanned;
           done = w.done;
           at = w.at;
@@ -313,7 +313,7 @@ module _ (past : List Past) (s : State) (tracks : Tracks past s) (now : ℕ) whe
   hears-measure k field value (Some id) = refl
 
   hears-doubt : (k : ℕ) (field : MeterField) (o : Option (List ℕ))
-      → Hears (BadMeasure k field) (doubt_outcome now k field s o)
+      → Hears (BadMeasure k field) (bad_measure_outcome now k field s o)
   hears-doubt k field None = tracks.heard
   hears-doubt k field (Some id) = refl
 
@@ -344,7 +344,7 @@ module _ (past : List Past) (s : State) (tracks : Tracks past s) (now : ℕ) whe
 
   led-if : (late early : Bool) (event : Event) (o : Outcome) → Led event o
       → Led event
-      (cond late (refusal_of MomentTooLarge s) (cond early (refusal_of TimeWentBack s) o))
+      (cond late (refusal_outcome MomentTooLarge s) (cond early (refusal_outcome TimeWentBack s) o))
   led-if true early event o led = led-still event _ (still-none now s) tracks.heard
   led-if false true event o led = led-still event _ (still-none now s) tracks.heard
   led-if false false event o led = led
@@ -388,7 +388,7 @@ fresh-at now s fresh =
       fresh = not-true s.is_stale parts.1;
     }
 
-abbrev pub has-since : (now age m : ℕ) (past : List Past) (s : State) → Since m past s
+abbrev pub has-since : (now age m : ℕ) (past : List PastEvent) (s : State) → Since m past s
     → now ≤ m + age → is_heard past ≡ true → HasScan now age past
 has-since now age m past s w near heard = record {
   since = w.since;
@@ -398,18 +398,18 @@ has-since now age m past s w near heard = record {
   scanned = w.scanned;
   done = w.done;
   recent = omega (arith, w.at, near);
-  unchanged = all-of (λ (p : Past). IsSameProcess w.scan.after p.after) w.since w.unchanged;
+  unchanged = all-of (λ (p : PastEvent). IsSameProcess w.scan.after p.after) w.since w.unchanged;
   heard = heard;
 }
 
-has-scan : (now : ℕ) (past : List Past) (s : State) → Tracks past s → is_fresh now s ≡ true
+has-scan : (now : ℕ) (past : List PastEvent) (s : State) → Tracks past s → is_fresh now s ≡ true
     → s.is_lost ≡ false → HasScan now s.scan_max_age_ms past
 has-scan now past s tracks fresh heard =
     let r = fresh-at now s fresh in
     has-since now s.scan_max_age_ms r.at past s (tracks.since_scan r.at r.is r.fresh) r.within
     (tracks.heard ∙ ap not heard)
 
-fresh-if : (now : ℕ) (past : List Past) (s : State) (answer : Result Step StepFault)
+fresh-if : (now : ℕ) (past : List PastEvent) (s : State) (answer : Result Step StepFault)
     → Tracks past s → IfOk answer (AreCommanded now s) → IsFresh now s.scan_max_age_ms past answer
 fresh-if now past s (Ok step) tracks commanded =
     λ some.
@@ -420,7 +420,7 @@ fresh-if now past s (Err fault) tracks commanded = tt
 -- ---- since load
 
 -- an event that was done so
-done-past : (p : Past) (past : List Past) (o : Outcome) → p.answer ≡ o.answer → p.after ≡ o.after
+done-past : (p : PastEvent) (past : List PastEvent) (o : Outcome) → p.answer ≡ o.answer → p.after ≡ o.after
     → Tracks (record { now = p.now; event = p.event; answer = o.answer; after = o.after } ∷ past)
     o.after
     → Tracks (p ∷ past) p.after
@@ -433,7 +433,7 @@ done-past p past o answered left all =
     subst (λ (u : State). Tracks (record
     { now = p.now; event = p.event; answer = p.answer; after = u } ∷ past) u) (sym left) so
 
-came-tracks : (past : List Past) (s : State) → Came past s → Tracks past s
+came-tracks : (past : List PastEvent) (s : State) → IsHistory past s → Tracks past s
 came-tracks [] s came = tracks-first s came
 came-tracks (p ∷ past) s came =
     let before : State = came.1.0 in

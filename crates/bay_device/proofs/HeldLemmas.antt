@@ -14,7 +14,7 @@ use Rattle.bay_nodes.specs.declared.switch.Switch.{Switch}
 use Rattle.bay_base.specs.declared.position.Dbpos.{Dbpos}
 use Rattle.bay_tree.specs.declared.row.Row.{Row}
 use Rattle.bay_process.specs.Layout.{layout_of, switches_of}
-use Rattle.bay_process.specs.Scans.{HasPoints, source_value, outputs_put}
+use Rattle.bay_process.specs.Scans.{HasPoints, source_value, rows_after_outputs}
 use Rattle.bay_process.specs.ReportedRows.{AreInterlocked}
 use Rattle.bay_process.specs.Values.{rows_after_contact}
 use Rattle.bay_process.specs.declared.switch.BoundSwitch.{BoundSwitch}
@@ -101,7 +101,7 @@ contact-held d tree switches k s position now spans with_own lt all is written l
 pub scan-held : (d : DeviceState) (tree : List Row) (switches : List BoundSwitch)
     (outputs : List Value) (now : ℕ) (span : Span) (held : List Value)
     → AreInterlocked (layout_of d.bay.tree) d.bay.switches
-    → tree ≡ outputs_put (layout_of d.bay.tree) d.bay.switches outputs now d.bay.tree
+    → tree ≡ rows_after_outputs (layout_of d.bay.tree) d.bay.switches outputs now d.bay.tree
     → layout_of tree ≡ layout_of d.bay.tree → switches ≡ d.bay.switches
     → held ≡ map (source_value d.bay.tree d.bay.switches d.input_values d.meters) d.reads
     → AreHeld span (map (source_value tree switches d.input_values d.meters) d.reads) held

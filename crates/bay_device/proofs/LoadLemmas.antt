@@ -2,9 +2,9 @@
 use Rattle.std.proofs.Common.{◌≡◌, ◌≢◌, ℕ, Bool, true, false, cond, nat_le, Result, Ok, Err, List, [], length, refl, subst, ap, sym, ◌∙◌}
 use Rattle.std.proofs.lemmas.List.{length-map}
 use Rattle.bay_process.specs.Layout.{AreBound, Layout, bound_from, switches_of}
-use Rattle.bay_process.specs.Nodes.{AreAllNodes}
+use Rattle.bay_process.specs.Nodes.{AreSwitchNodes}
 use Rattle.bay_process.specs.Parts.{AreBoundSwitches}
-use Rattle.bay_process.specs.declared.nodes.Nodes.{Nodes}
+use Rattle.bay_process.specs.declared.nodes.SwitchNodes.{SwitchNodes}
 use Rattle.bay_process.proofs.BoundLemmas.{are-bound, bound-switches}
 use Rattle.bay_process.specs.declared.switch.BoundSwitch.{BoundSwitch}
 use Rattle.bay_mms_services.specs.Bay as services
@@ -84,8 +84,8 @@ pub record IsBoundTo (bay : Bay) (layout : Layout) (writes : List Source)
   pub sized : length bound ≡ length bay.switches
   pub placed : AreBound layout writes bound
 
-pub bound-to : (bay : Bay) (nodes : List Nodes) (layout : Layout) (writes : List Source)
-    (taken : List Switch) (bound : List BoundSwitch) → AreAllNodes bay nodes
+pub bound-to : (bay : Bay) (nodes : List SwitchNodes) (layout : Layout) (writes : List Source)
+    (taken : List Switch) (bound : List BoundSwitch) → AreSwitchNodes bay nodes
     → length nodes ≡ length bay.switches → taken ≡ bay.switches
     → AreBoundSwitches layout writes taken nodes bound → IsBoundTo bay layout writes bound
 bound-to bay nodes layout writes taken bound named sized same did =

@@ -31,7 +31,7 @@ use Rattle.bay_load.proofs.Fits.{verified}
 use Rattle.bay_load.proofs.LoadLemmas.{load-made}
 use Rattle.bay_device.specs.Device.{State}
 use Rattle.bay_device.specs.Entries.{IsIdle}
-use Rattle.bay_device.specs.Load.{IsLoaded, LoadsAs, LoadsDevice, device_from, device_of, initial_device, refusal_of}
+use Rattle.bay_device.specs.Load.{IsLoaded, LoadsAs, LoadsDevice, device_from, device_of, initial_device, load_fault_of}
 use Rattle.bay_device.specs.Meaning.{Runs}
 use Rattle.bay_device.specs.declared.fault.LoadFault.{LoadFault}
 use Rattle.bay_device.specs.declared.fault.LoadFault.TheVariants.{OutOfMemory}
@@ -130,13 +130,13 @@ module _ (bay logic : List ℕ) (one : is_utf8 bay ≡ true) (two : is_utf8 logi
       ap device_from e ∙ ap (λ (d : State). let r : Result State LoadFault = Ok d in r) (sym is.2)
 
   pub text-refused : (e : LoadError) → MayLoadTo bay Logic logic (Err e)
-      → (refusal_of e ≡ OutOfMemory)
-      ⊎ (device_from (of_bay (bay_of bay) (program_of logic)) ≡ Err (refusal_of e))
+      → (load_fault_of e ≡ OutOfMemory)
+      ⊎ (device_from (of_bay (bay_of bay) (program_of logic)) ≡ Err (load_fault_of e))
   text-refused e (inl held) =
       let is : of_bay (bay_of bay) (program_of logic) ≡ Err e = rw (one, two) at held in
       inr (ap device_from is)
   text-refused e (inr memory) =
-      let is : e ≡ error.OutOfMemory = cc in inl (ap refusal_of is)
+      let is : e ≡ error.OutOfMemory = cc in inl (ap load_fault_of is)
 
 module _ (bay image : List ℕ) (one : is_utf8 bay ≡ true) where
   pub image-loaded : (s : State) → IsLoaded (file_of bay) (IsImageOf Image image) s
@@ -148,8 +148,8 @@ module _ (bay image : List ℕ) (one : is_utf8 bay ≡ true) where
   image-device s is = (is.0, rw one at is.1, is.2)
 
   pub image-refused : (e : LoadError) → MayLoadTo bay Image image (Err e)
-      → refusal_of e ≢ OutOfMemory
-      → LoadsAs (Loads (bay_of bay) (decoded_image image)) (Err (refusal_of e))
+      → load_fault_of e ≢ OutOfMemory
+      → LoadsAs (Loads (bay_of bay) (decoded_image image)) (Err (load_fault_of e))
   image-refused e (inl loads) other = (e, rw one at loads, refl)
   image-refused e (inr memory) other =
-      let is : e ≡ error.OutOfMemory = cc in absurd (other (ap refusal_of is))
+      let is : e ≡ error.OutOfMemory = cc in absurd (other (ap load_fault_of is))

@@ -121,10 +121,10 @@ never-done k (Some e) = not-reached (nat_eq e.switch k) e.operation
 -- the controls, and what is due of what operates
 pub record Operating : Type 0 where
   pub controls : control.State
-  pub due : Option PendingTermination
+  pub pending : Option PendingTermination
 
 abbrev pub operating_of : State → Operating
-operating_of s = record { controls = s.controls; due = s.due }
+operating_of s = record { controls = s.controls; pending = s.pending }
 
 still-operating : (now k : ℕ) (switch : Switch) (s : State)
     → operating_of (device_after_contact now k switch Bad s) ≡ operating_of s
@@ -133,7 +133,7 @@ still-operating now k switch s =
       controls = record s.controls {
         execution = cond b None s.controls.execution;
       };
-      due = cond b None s.due;
+      pending = cond b None s.pending;
     } in o) (never-done k s.controls.execution)
 
 pub lost-operating : (now : ℕ) (s : State) → operating_of (device_after_loss now s) ≡ operating_of s

@@ -31,8 +31,8 @@ use Rattle.bay_device.specs.Load.{initial_device}
 use Rattle.bay_process.proofs.SourceLemmas.{IsTyped, bay-typed, points-fit, reads-typed}
 use Rattle.il_compile.specs.Meaning.{Memory}
 use Rattle.il_scan.specs.Scans.{MachineData, first_input, first_slots, outputs_of, read_only, type_of_point, with_inputs}
-use Rattle.bay_device.specs.Device.{State, Ran, device_at, ending_at, inputs_of, point_value, ran_at, ran_of, after_scan}
-use Rattle.bay_device.specs.Outcomes.{Outcome, contact_outcome, doubt_outcome, event_outcome, input_outcome, last_moment, lost_outcome, measure_outcome, outcome, refusal_of}
+use Rattle.bay_device.specs.Device.{State, RunResult, device_at, ending_at, inputs_of, point_value, run_result_at, run_result_of, after_scan}
+use Rattle.bay_device.specs.Outcomes.{Outcome, contact_outcome, bad_measure_outcome, event_outcome, input_outcome, last_moment, lost_outcome, measure_outcome, outcome, refusal_outcome}
 use Rattle.bay_device.specs.Steps.{OfAssociation, Steps}
 use Rattle.bay_device.specs.declared.event.Step.{Step}
 use Rattle.bay_device.specs.declared.fault.StepFault.{StepFault}
@@ -180,9 +180,9 @@ module _ (c : Checked) (s : State) (r : Runs c s) (now : ℕ) where
       (sym (take-append-drop count (with_inputs points (inputs_of s) s.machine.slots)))
       ∙ follows.halts
 
-  ran : ran_at now s ≡ record
+  ran : run_result_at now s ≡ record
       { slots = after.externals ++ after.variables; timers = after.timers; steps = follows.steps }
-  ran = ap ran_of ends
+  ran = ap run_result_of ends
 
   sized : length after.externals ≡ count
   sized = sym (length-map after.externals type_of)
@@ -201,7 +201,7 @@ module _ (c : Checked) (s : State) (r : Runs c s) (now : ℕ) where
       record { externals = es; variables = vs; timers = after.timers } in m) externals variables
 
   keeps : memory_of c (after_scan now s).machine.slots (after_scan now s).machine.timers ≡ after
-  keeps = ap (λ (x : Ran). memory_of c x.slots x.timers) ran ∙ kept
+  keeps = ap (λ (x : RunResult). memory_of c x.slots x.timers) ran ∙ kept
 
   pub means-scan : Means c now s (after_scan now s)
   means-scan = record {
@@ -209,7 +209,7 @@ module _ (c : Checked) (s : State) (r : Runs c s) (now : ℕ) where
     is = follows.means.is;
     keeps = keeps;
     rows =
-        ap (λ (x : Ran). with_outputs s.switches s.writes (outputs_of points x.slots) now 0
+        ap (λ (x : RunResult). with_outputs s.switches s.writes (outputs_of points x.slots) now 0
         s.switches s.rows) ran
         ∙ ap (λ os. with_outputs s.switches s.writes os now 0 s.switches s.rows)
         (outputs-front points after.externals after.variables (sized ∙ sym many)
@@ -219,8 +219,8 @@ module _ (c : Checked) (s : State) (r : Runs c s) (now : ℕ) where
   -- the scan halts, and the device keeps what that leaves
   pub scan-halts : ending_at now s
       ≡ Halted (after_scan now s).machine.slots (after_scan now s).machine.timers
-      (ran_at now s).steps
-  scan-halts = ends ∙ sym (ap (λ (x : Ran). Halted x.slots x.timers x.steps) ran)
+      (run_result_at now s).steps
+  scan-halts = ends ∙ sym (ap (λ (x : RunResult). Halted x.slots x.timers x.steps) ran)
 
   pub runs-on : Runs c (after_scan now s)
   runs-on = record {
@@ -272,7 +272,7 @@ module _ (c : Checked) (s : State) (r : Runs c s) (now : ℕ) where
   runs-measure k field value (Some id) = runs-as c s _ r refl refl
 
   runs-doubt : (k : ℕ) (field : MeterField) (o : Option (List ℕ))
-      → Runs c (doubt_outcome now k field s o).after
+      → Runs c (bad_measure_outcome now k field s o).after
   runs-doubt k field None = r
   runs-doubt k field (Some id) = runs-as c s _ r refl refl
 
@@ -312,8 +312,8 @@ module _ (c : Checked) (s : State) (r : Runs c s) (now : ℕ) where
   left-scan : (choice : Option ℕ) → Left (outcome choice now Scan s)
   left-scan choice =
       let m = means-scan c (device_at now s) runs-advanced now in
-      left-if (nat_lt last_moment now) (refusal_of MomentTooLarge s) _ tt
-      (left-if (nat_lt now s.moment) (refusal_of TimeWentBack s) (event_outcome choice now Scan s)
+      left-if (nat_lt last_moment now) (refusal_outcome MomentTooLarge s) _ tt
+      (left-if (nat_lt now s.moment) (refusal_outcome TimeWentBack s) (event_outcome choice now Scan s)
       tt
       (record { after = m.after; is = m.is; keeps = m.keeps; rows = m.rows }))
 

@@ -3,12 +3,12 @@ use Rattle.std.proofs.Common.{◌≡◌, ℕ, List, [], ◌∷◌, ◌++◌, len
 use Rattle.std.specs.Result.{IfOk, OnOk}
 use Rattle.bay_assoc.specs.declared.receive.AssociationTerms.{AssociationTerms}
 use Rattle.bay_connection.specs.ConnectionStates.{Terms, octets_to_send}
-use Rattle.bay_mms_services.specs.Answers.{Answered}
+use Rattle.bay_mms_services.specs.Answers.{AnswerData}
 use Rattle.bay_mms_services.specs.Bay.{Bay}
 use Rattle.bay_mms_services.specs.declared.answer.Command.{Command}
 use Rattle.bay_mms_services.specs.declared.answer.ControlDecision.{ControlDecision}
 use Rattle.bay_device.specs.Device.{State, with_bay}
-use Rattle.bay_device.specs.Receiving.{Done, answered_with, due_if, later_due, sent_on, size_of}
+use Rattle.bay_device.specs.Receiving.{StepState, answered_with, pending_if, later_pending, sent_on, size_of}
 use Rattle.bay_device.specs.declared.termination.PendingTermination.{PendingTermination}
 use Rattle.bay_device.specs.declared.event.Sent.{Sent}
 
@@ -31,29 +31,29 @@ pub front-of : {A : Type 0} (xs ys : List A) → take (length xs) (xs ++ ys) ≡
 front-of xs ys = front-kept xs xs ys (front-whole xs)
 
 -- a device, and what is made of it
-abbrev done : State → List Sent → List Command → List ControlDecision → Done
+abbrev done : State → List Sent → List Command → List ControlDecision → StepState
 done s sent commands decisions =
     record { state = s; sent = sent; commands = commands; decisions = decisions }
 
 -- what an answer comes to
-pub answered-done : (a : ℕ) (terms : Terms) (x : Answered) (s : State) (sent made : List Sent)
+pub answered-done : (a : ℕ) (terms : Terms) (x : AnswerData) (s : State) (sent made : List Sent)
     (commands obeyed : List Command) (before decisions : List ControlDecision) (b : Bay)
-    (due : Option PendingTermination) → b ≡ x.after
-    → due ≡ later_due s.due (due_if a terms x.ending)
+    (pending : Option PendingTermination) → b ≡ x.after
+    → pending ≡ later_pending s.pending (pending_if a terms x.termination)
     → made ≡ sent ++ map (λ pdu. sent_on a (octets_to_send terms pdu)) x.sent
     → obeyed ≡ commands ++ x.commands → decisions ≡ before ++ x.decisions
-    → done (record (with_bay b s) { due = due }) made obeyed decisions
+    → done (record (with_bay b s) { pending = pending }) made obeyed decisions
     ≡ answered_with a terms x (done s sent commands before)
-answered-done a terms x s sent made commands obeyed before decisions b due after is sends does
+answered-done a terms x s sent made commands obeyed before decisions b pending after is sends does
     decides =
-    ap (λ (y : Bay). done (record (with_bay y s) { due = due }) made obeyed decisions) after
-    ∙ ap (λ (y : Option PendingTermination). done (record (with_bay x.after s) { due = y }) made
+    ap (λ (y : Bay). done (record (with_bay y s) { pending = pending }) made obeyed decisions) after
+    ∙ ap (λ (y : Option PendingTermination). done (record (with_bay x.after s) { pending = y }) made
     obeyed decisions)
     is
     ∙ ap (λ (y : List Sent). done
-    (record (with_bay x.after s) { due = later_due s.due (due_if a terms x.ending) }) y obeyed
+    (record (with_bay x.after s) { pending = later_pending s.pending (pending_if a terms x.termination) }) y obeyed
     decisions) sends
-    ∙ ap₂ (done (record (with_bay x.after s) { due = later_due s.due (due_if a terms x.ending) })
+    ∙ ap₂ (done (record (with_bay x.after s) { pending = later_pending s.pending (pending_if a terms x.termination) })
     (sent ++ map (λ pdu. sent_on a (octets_to_send terms pdu)) x.sent)) does decides
 
 pub all-ok : {T E : Type 0} (r : Result T E) (P R : T → Type 0) (S U V : Type 0) → IfOk r P

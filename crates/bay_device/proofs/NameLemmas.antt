@@ -7,7 +7,7 @@ use Rattle.bay_nodes.specs.declared.switch.Switch.{Switch}
 use Rattle.bay_base.specs.declared.point.Source.{Source}
 use Rattle.bay_base.specs.declared.point.SwitchPoint.TheVariants.{EnableOpen, EnableClose}
 use Rattle.il_image.specs.declared.value.Value.{Value}
-use Rattle.bay_tree.specs.Rows.{leaf_of, names_of, with_leaf_of}
+use Rattle.bay_tree.specs.Rows.{leaf_named, names_of, with_leaf_named}
 use Rattle.bay_base.specs.declared.position.Dbpos.{Dbpos}
 use Rattle.bay_base.specs.declared.position.Dbpos.TheVariants.{Bad}
 use Rattle.bay_tree.specs.declared.leaf.Leaf.{Leaf}
@@ -16,8 +16,8 @@ use Rattle.bay_tree.specs.declared.leaf.Quality.{Quality}
 use Rattle.bay_tree.specs.declared.leaf.Quality.TheVariants.{Good, Invalid}
 use Rattle.bay_tree.specs.declared.row.Row.{Row}
 use Rattle.bay_process.specs.Names.{field_names}
-use Rattle.bay_process.specs.Values.{with_count, is_operation, operation_counted, output_of, position_quality, rows_after_change, rows_after_contact, rows_after_doubt, rows_after_measure, has_position, has_invalid_measure, has_measure, with_enabled, with_output, with_outputs, with_status}
-use Rattle.bay_mms_services.specs.Accepted.{AreNamedAlike}
+use Rattle.bay_process.specs.Values.{with_count, is_operation, rows_after_operation, output_of, position_quality, rows_after_change, rows_after_contact, rows_after_bad_measure, rows_after_measure, has_position, has_invalid_measure, has_measure, with_enabled, with_output, with_outputs, with_status}
+use Rattle.bay_mms_services.specs.ObservedEntries.{AreNamedAlike}
 use Rattle.bay_mms_services.specs.Bay.{Bay}
 use Rattle.bay_device.specs.Device.{State, bay_of, device_after_loss}
 use Rattle.bay_device.proofs.LostLemmas.{loss-passes}
@@ -28,7 +28,7 @@ leaf-if true r v = refl
 leaf-if false r v = refl
 
 leaf-names : (name : List ℕ) (v : Leaf) (rows : List Row)
-    → names_of (with_leaf_of name v rows) ≡ names_of rows
+    → names_of (with_leaf_named name v rows) ≡ names_of rows
 leaf-names name v [] = refl
 leaf-names name v (r ∷ rows) =
     ap₂ (λ (n : List ℕ) (ns : List (List ℕ)). n ∷ ns) (leaf-if (bytes_eq r.name name) r v)
@@ -38,8 +38,8 @@ status-names : (names : StatusNames) (v : Leaf) (quality : Quality) (now : ℕ) 
     → names_of (with_status names v quality now rows) ≡ names_of rows
 status-names names v quality now rows =
     leaf-names names.time (leaf.Utc now)
-    (with_leaf_of names.quality (leaf.Quality quality) (with_leaf_of names.value v rows))
-    ∙ leaf-names names.quality (leaf.Quality quality) (with_leaf_of names.value v rows)
+    (with_leaf_named names.quality (leaf.Quality quality) (with_leaf_named names.value v rows))
+    ∙ leaf-names names.quality (leaf.Quality quality) (with_leaf_named names.value v rows)
     ∙ leaf-names names.value v rows
 
 names-if : (b : Bool) (old : List (List ℕ)) (xs ys : List Row) → names_of xs ≡ old
@@ -56,9 +56,9 @@ counted-names names (Some (leaf.Quality v)) now rows = refl
 counted-names names (Some (leaf.Int8 v)) now rows = refl
 counted-names names (Some (leaf.Int32 n)) now rows =
     names-if (int_lt n (pos 2147483647)) (names_of rows)
-    (with_leaf_of names.time (leaf.Utc now)
-    (with_leaf_of names.value (leaf.Int32 (n +ℤ pos 1)) rows)) rows
-    (leaf-names names.time (leaf.Utc now) (with_leaf_of names.value (leaf.Int32 (n +ℤ pos 1)) rows)
+    (with_leaf_named names.time (leaf.Utc now)
+    (with_leaf_named names.value (leaf.Int32 (n +ℤ pos 1)) rows)) rows
+    (leaf-names names.time (leaf.Utc now) (with_leaf_named names.value (leaf.Int32 (n +ℤ pos 1)) rows)
     ∙ leaf-names names.value (leaf.Int32 (n +ℤ pos 1)) rows) refl
 counted-names names (Some (leaf.Unsigned8 v)) now rows = refl
 counted-names names (Some (leaf.Unsigned32 v)) now rows = refl
@@ -77,9 +77,9 @@ change-names names position now rows =
     let same : names_of after ≡ names_of rows =
     status-names names.control (leaf.Dbpos position) (position_quality position) now told
     ∙ status-names names.position (leaf.Dbpos position) (position_quality position) now rows in
-    names-if (is_operation position (leaf_of names.position.value rows)) (names_of rows)
-    (operation_counted names.operations now after) after
-    (counted-names names.operations (leaf_of names.operations.value after) now after ∙ same) same
+    names-if (is_operation position (leaf_named names.position.value rows)) (names_of rows)
+    (rows_after_operation names.operations now after) after
+    (counted-names names.operations (leaf_named names.operations.value after) now after ∙ same) same
 
 pub contact-names : (names : SwitchNames) (position : Dbpos) (now : ℕ) (rows : List Row)
     → names_of (rows_after_contact names position now rows) ≡ names_of rows
@@ -95,11 +95,11 @@ measure-names names value now rows =
     (status-names names (leaf.Int32 value) Good now rows)
 
 pub doubt-names : (names : StatusNames) (now : ℕ) (rows : List Row)
-    → names_of (rows_after_doubt names now rows) ≡ names_of rows
+    → names_of (rows_after_bad_measure names now rows) ≡ names_of rows
 doubt-names names now rows =
     names-if (has_invalid_measure names rows) (names_of rows) rows _ refl
     (leaf-names names.time (leaf.Utc now)
-    (with_leaf_of names.quality (leaf.Quality Invalid) rows)
+    (with_leaf_named names.quality (leaf.Quality Invalid) rows)
     ∙ leaf-names names.quality (leaf.Quality Invalid) rows)
 
 -- nor does the loss of the process

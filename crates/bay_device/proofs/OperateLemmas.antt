@@ -3,24 +3,24 @@ use Rattle.std.proofs.Common.{◌≡◌, ℕ, ℤ, zero, suc, Bool, true, false,
 use Rattle.std.specs.List.{Contains}
 use Rattle.std.proofs.lemmas.List.Elements.{Contains-append_cases, Contains-append_left, Contains-append_right}
 use Rattle.bay_base.specs.declared.point.MeterField.{MeterField}
-use Rattle.bay_connection.specs.ConnectionStates.{Indication, ConnectionState, Terms, answers, tells, releases, ends as ends-heard, fails, indications}
+use Rattle.bay_connection.specs.ConnectionStates.{Indication, ConnectionState, Terms, answers, delivers, releases, ends as ends-heard, fails, indications}
 use Rattle.bay_control.specs.Acts.{Entry}
-use Rattle.bay_mms.specs.Grammar.{answer_to}
+use Rattle.bay_mms.specs.Grammar.{request_in}
 use Rattle.bay_nodes.specs.declared.switch.Switch.{Switch}
-use Rattle.bay_mms_services.specs.Accepted.{AreNamedAlike, accepted_in, first_response, is_report, may_be_reported}
+use Rattle.bay_mms_services.specs.ObservedEntries.{AreNamedAlike, observed_in_pdu, first_response, is_report, request_may_report}
 use Rattle.bay_mms_services.specs.Bay.{Bay}
-use Rattle.bay_mms_services.specs.Entries.{entries_in, operates_in}
+use Rattle.bay_mms_services.specs.Entries.{entries_on_pdu, operates_in}
 use Rattle.bay_mms_services.specs.declared.answer.Command.{Command}
 use Rattle.bay_mms_services.specs.declared.client.ClientContext.{ClientContext}
 use Rattle.bay_mms_services.proofs.OperateLemmas.{answer-operates, operates-append}
 use Rattle.bay_base.specs.declared.position.Dbpos.{Dbpos}
 use Rattle.bay_device.specs.Device.{State, device_at, bay_of}
-use Rattle.bay_device.specs.Entries.{entries_at, entries_close, entries_closed, entries_heard, entries_octets, entries_of_event, entries_on, entries_open, entries_recv}
-use Rattle.bay_device.specs.Receiving.{Done, ReceiveResult, client_at, after_indications, on_indication, after_pdu, with_sent}
+use Rattle.bay_device.specs.Entries.{entries_at, entries_on_close, entries_on_closing, entries_on_indications, entries_on_octets, entries_on_event, entries_on_indication, entries_on_open, entries_on_recv}
+use Rattle.bay_device.specs.Receiving.{StepState, ReceiveResult, client_at, after_indications, on_indication, after_pdu, with_sent}
 use Rattle.bay_device.specs.Operates.{AreOperates, AreReplied, AreRepliedForEvent, IsReplied}
-use Rattle.bay_device.specs.Outcomes.{Outcome, close_outcome, connection_at, contact_outcome, doubt_outcome, event_outcome, input_outcome, last_moment, measure_outcome, nothing_done, octets_outcome, open_outcome, outcome, slot_of, recv_outcome, refusal_of}
+use Rattle.bay_device.specs.Outcomes.{Outcome, close_outcome, connection_at, contact_outcome, bad_measure_outcome, event_outcome, input_outcome, last_moment, measure_outcome, step_start, octets_outcome, open_outcome, outcome, slot_of, recv_outcome, refusal_outcome}
 use Rattle.bay_device.specs.Steps.{Steps}
-use Rattle.bay_device.specs.EntriesTold.{AreAgreed, pdus_after_first, of_answer, pdus_in, connection_state_at, entries_of_close, entries_of_pdus, entries_of_recv, entries_of_step}
+use Rattle.bay_device.specs.ObservedRuns.{HaveAgreedSize, pdus_after_first, of_answer, pdus_in, connection_state_at, observed_in_close, observed_in_pdus, observed_in_recv, observed_in_step}
 use Rattle.bay_device.specs.declared.event.Event.{Event}
 use Rattle.bay_device.specs.declared.event.Event.TheVariants.{Open, Recv, Close, Contact, Input, Measure, BadMeasure, Lost, Scan}
 use Rattle.bay_device.specs.declared.event.Step.{Step}
@@ -40,18 +40,18 @@ only x = (0, omega arith, refl)
 -- ---- what was heard
 
 -- the commands then are those before, and those of these entries
-abbrev Adds : Done → List Entry → ReceiveResult → Type 0
+abbrev Adds : StepState → List Entry → ReceiveResult → Type 0
 Adds d entries h = h.done.commands ≡ d.commands ++ operates_in entries
 
-on-adds : (now a : ℕ) (i : Indication) (d : Done) (later : Done → ReceiveResult)
-    (entries : Done → List Entry) → ((e : Done) → Adds e (entries e) (later e))
-    → Adds d (entries_on now a i d entries) (on_indication now a i d later)
+on-adds : (now a : ℕ) (i : Indication) (d : StepState) (later : StepState → ReceiveResult)
+    (entries : StepState → List Entry) → ((e : StepState) → Adds e (entries e) (later e))
+    → Adds d (entries_on_indication now a i d entries) (on_indication now a i d later)
 on-adds now a (answers octets) d later entries rest = rest (with_sent a octets d)
-on-adds now a (tells terms pdu) d later entries rest =
+on-adds now a (delivers terms pdu) d later entries rest =
     let c : ClientContext = client_at now a terms d.state in
     let b : Bay = bay_of d.state in
-    let e : Done = after_pdu now a terms pdu d in
-    let own : List Entry = entries_in c pdu b in
+    let e : StepState = after_pdu now a terms pdu d in
+    let own : List Entry = entries_on_pdu c pdu b in
     rest e
     ∙ ap (λ cs. (d.commands ++ cs) ++ operates_in (entries e)) (answer-operates c pdu b)
     ∙ append_assoc d.commands (operates_in own) (operates_in (entries e))
@@ -60,17 +60,17 @@ on-adds now a (releases octets) d later entries rest = sym (append-nil d.command
 on-adds now a ends-heard d later entries rest = sym (append-nil d.commands)
 on-adds now a (fails code) d later entries rest = sym (append-nil d.commands)
 
-heard-adds : (choice : Option ℕ) (now a : ℕ) (is : List Indication) (d : Done)
-    → Adds d (entries_heard choice now a is d) (after_indications choice now a is d)
+heard-adds : (choice : Option ℕ) (now a : ℕ) (is : List Indication) (d : StepState)
+    → Adds d (entries_on_indications choice now a is d) (after_indications choice now a is d)
 heard-adds None now a [] d = sym (append-nil d.commands)
 heard-adds None now a (i ∷ is) d =
-    on-adds now a i d (after_indications None now a is) (entries_heard None now a is)
+    on-adds now a i d (after_indications None now a is) (entries_on_indications None now a is)
     (heard-adds None now a is)
 heard-adds (Some zero) now a [] d = sym (append-nil d.commands)
 heard-adds (Some zero) now a (i ∷ is) d = sym (append-nil d.commands)
 heard-adds (Some (suc n)) now a [] d = sym (append-nil d.commands)
 heard-adds (Some (suc n)) now a (i ∷ is) d =
-    on-adds now a i d (after_indications (Some n) now a is) (entries_heard (Some n) now a is)
+    on-adds now a i d (after_indications (Some n) now a is) (entries_on_indications (Some n) now a is)
     (heard-adds (Some n) now a is)
 
 -- ---- an event
@@ -79,39 +79,39 @@ heard-adds (Some (suc n)) now a (i ∷ is) d =
 abbrev Gives : List Entry → Result Step StepFault → Type 0
 Gives entries answer = IfOk answer (λ step. step.commands ≡ operates_in entries)
 
-closed-none : (now a : ℕ) (why : Option Why) → operates_in (entries_closed now a why) ≡ []
+closed-none : (now a : ℕ) (why : Option Why) → operates_in (entries_on_closing now a why) ≡ []
 closed-none now a None = refl
 closed-none now a (Some why) = refl
 
 octets-gives : (choice : Option ℕ) (now a : ℕ) (s : State) (talk : ConnectionState)
     (octets : List ℕ)
-    → Gives (entries_octets choice now a s talk octets)
+    → Gives (entries_on_octets choice now a s talk octets)
     (octets_outcome choice now a s talk octets).answer
 octets-gives choice now a s talk [] = refl
 octets-gives choice now a s talk (octet ∷ octets) =
     let is : List Indication = indications talk (octet ∷ octets) in
-    let d : Done = nothing_done (device_at now s) in
-    let own : List Entry = entries_heard choice now a is d in
+    let d : StepState = step_start (device_at now s) in
+    let own : List Entry = entries_on_indications choice now a is d in
     let why : Option Why = (after_indications choice now a is d).why in
     heard-adds choice now a is d ∙ sym (append-nil (operates_in own))
     ∙ ap (λ cs. operates_in own ++ cs) (sym (closed-none now a why))
-    ∙ sym (operates-append own (entries_closed now a why))
+    ∙ sym (operates-append own (entries_on_closing now a why))
 
 recv-gives : (choice : Option ℕ) (now a : ℕ) (octets : List ℕ) (s : State)
     (talk : Option ConnectionState)
-    → Gives (entries_recv choice now a octets s talk)
+    → Gives (entries_on_recv choice now a octets s talk)
     (recv_outcome choice now a octets s talk).answer
 recv-gives choice now a octets s None = tt
 recv-gives choice now a octets s (Some talk) = octets-gives choice now a s talk octets
 
 open-gives : (now a : ℕ) (s : State) (o : Option ℕ) (talk : Option ConnectionState)
-    → Gives (entries_open now a o talk) (open_outcome now a s o talk).answer
+    → Gives (entries_on_open now a o talk) (open_outcome now a s o talk).answer
 open-gives now a s None talk = tt
 open-gives now a s (Some place) (Some talk) = tt
 open-gives now a s (Some place) None = refl
 
 close-gives : (now a : ℕ) (s : State) (talk : Option ConnectionState)
-    → Gives (entries_close now a talk) (close_outcome now a s talk).answer
+    → Gives (entries_on_close now a talk) (close_outcome now a s talk).answer
 close-gives now a s None = tt
 close-gives now a s (Some talk) = refl
 
@@ -131,12 +131,12 @@ measure-gives now k field value s None = tt
 measure-gives now k field value s (Some id) = refl
 
 doubt-gives : (now k : ℕ) (field : MeterField) (s : State) (o : Option (List ℕ))
-    → Gives [] (doubt_outcome now k field s o).answer
+    → Gives [] (bad_measure_outcome now k field s o).answer
 doubt-gives now k field s None = tt
 doubt-gives now k field s (Some id) = refl
 
 event-gives : (choice : Option ℕ) (now : ℕ) (event : Event) (s : State)
-    → Gives (entries_of_event choice now event s) (event_outcome choice now event s).answer
+    → Gives (entries_on_event choice now event s) (event_outcome choice now event s).answer
 event-gives choice now (Open a) s =
     open-gives now a s (slot_of a) (connection_at (slot_of a) s)
 event-gives choice now (Recv a octets) s =
@@ -161,8 +161,8 @@ gives-if false xs ys x y p q = q
 outcome-gives : (choice : Option ℕ) (now : ℕ) (event : Event) (s : State)
     → Gives (entries_at choice now event s) (outcome choice now event s).answer
 outcome-gives choice now event s =
-    gives-if (nat_lt last_moment now) [] _ (refusal_of MomentTooLarge s) _ tt
-    (gives-if (nat_lt now s.moment) [] _ (refusal_of TimeWentBack s) _ tt
+    gives-if (nat_lt last_moment now) [] _ (refusal_outcome MomentTooLarge s) _ tt
+    (gives-if (nat_lt now s.moment) [] _ (refusal_outcome TimeWentBack s) _ tt
     (event-gives choice now event s))
 
 -- ---- responses
@@ -217,36 +217,36 @@ replied-later now a n i is rest pdus x wider r = record {
 replied-own : (now a : ℕ) (n : Bay) (terms : Terms) (pdu : List ℕ) (is : List Indication)
     (response : List ℕ) (pdus : List (List ℕ)) (x : Command)
     → (response ≡ []) ⊎ Contains pdus response
-    → Contains (operates_in (accepted_in now a pdu n response)) x
-    → IsReplied now a n (tells terms pdu ∷ is) pdus x
+    → Contains (operates_in (observed_in_pdu now a pdu n response)) x
+    → IsReplied now a n (delivers terms pdu ∷ is) pdus x
 replied-own now a n terms pdu is response pdus x (inl none) own =
     absurd (none-in x (subst (λ (cs : List Command). Contains cs x)
-    (ap (λ r. operates_in (accepted_in now a pdu n r)) none
-    ∙ ap operates_in (none-accepted now a n (answer_to pdu))) own))
+    (ap (λ r. operates_in (observed_in_pdu now a pdu n r)) none
+    ∙ ap operates_in (none-accepted now a n (request_in pdu))) own))
 replied-own now a n terms pdu is response pdus x (inr found) own = record {
   terms = terms;
   pdu = pdu;
-  asked = Contains-append_left (tells terms pdu ∷ []) is _ (only (tells terms pdu));
+  asked = Contains-append_left (delivers terms pdu ∷ []) is _ (only (delivers terms pdu));
   response = response;
   replied = found;
   accepts = own;
 }
 
 replied-heard : (now a : ℕ) (n : Bay) (is : List Indication) (pdus : List (List ℕ)) (x : Command)
-    → Contains (operates_in (entries_of_pdus now a n is pdus)) x → IsReplied now a n is pdus x
+    → Contains (operates_in (observed_in_pdus now a n is pdus)) x → IsReplied now a n is pdus x
 replied-heard now a n [] pdus x found = absurd (none-in x found)
 replied-heard now a n (answers octets ∷ is) pdus x found =
     replied-later now a n (answers octets) is (pdus_after_first pdus) pdus x (behind-one-in pdus)
     (replied-heard now a n is (pdus_after_first pdus) x found)
-replied-heard now a n (tells terms pdu ∷ is) pdus x found =
-    let may : Bool = may_be_reported (answer_to pdu) in
+replied-heard now a n (delivers terms pdu ∷ is) pdus x found =
+    let may : Bool = request_may_report (request_in pdu) in
     let response = first_response may pdus in
-    let own : List Entry = accepted_in now a pdu n response.0 in
-    let rest : List Entry = entries_of_pdus now a n is response.1 in
+    let own : List Entry = observed_in_pdu now a pdu n response.0 in
+    let rest : List Entry = observed_in_pdus now a n is response.1 in
     elim (Contains-append_cases (operates_in own) (operates_in rest) x
     (subst (λ (cs : List Command). Contains cs x) (operates-append own rest) found)) [
       | inl here ↦ replied-own now a n terms pdu is response.0 pdus x (first-in may pdus) here
-      | inr later ↦ replied-later now a n (tells terms pdu) is response.1 pdus x
+      | inr later ↦ replied-later now a n (delivers terms pdu) is response.1 pdus x
           (behind-in may pdus)
           (replied-heard now a n is response.1 x later)
     ]
@@ -255,26 +255,26 @@ replied-heard now a n (ends-heard ∷ is) pdus x found = absurd (none-in x found
 replied-heard now a n (fails code ∷ is) pdus x found = absurd (none-in x found)
 
 told-closed-none : (now : ℕ) (entries : List Entry) (closed : Option (ℕ × Why))
-    → operates_in (entries ++ entries_of_close now closed) ≡ operates_in entries
+    → operates_in (entries ++ observed_in_close now closed) ≡ operates_in entries
 told-closed-none now entries None = ap operates_in (append-nil entries)
 told-closed-none now entries (Some closed) =
-    operates-append entries (entries_of_close now (Some closed)) ∙ append-nil (operates_in entries)
+    operates-append entries (observed_in_close now (Some closed)) ∙ append-nil (operates_in entries)
 
 replied-recv : (now a : ℕ) (n : Bay) (octets : List ℕ) (talk : Option ConnectionState) (step : Step)
     → step.commands
-    ≡ operates_in (entries_of_recv now a n octets talk step.sent
-    ++ entries_of_close now step.closed)
+    ≡ operates_in (observed_in_recv now a n octets talk step.sent
+    ++ observed_in_close now step.closed)
     → AreReplied now a n octets talk step
 replied-recv now a n octets None step is = is ∙ told-closed-none now [] step.closed
 replied-recv now a n octets (Some talk) step is = λ x found.
-    let told : List Entry = entries_of_pdus now a n (indications talk octets) (pdus_in step.sent) in
+    let told : List Entry = observed_in_pdus now a n (indications talk octets) (pdus_in step.sent) in
     replied-heard now a n (indications talk octets) (pdus_in step.sent) x
     (subst (λ (cs : List Command). Contains cs x)
     (is ∙ told-closed-none now told step.closed) found)
 
 replied-step : (now : ℕ) (event : Event) (n : Bay) (talks : List (Option ConnectionState))
     (step : Step)
-    → step.commands ≡ operates_in (entries_of_step now event n talks step)
+    → step.commands ≡ operates_in (observed_in_step now event n talks step)
     → AreRepliedForEvent now event n talks step
 replied-step now (Open a) n talks step is = is
 replied-step now (Recv a octets) n talks step is =
@@ -291,17 +291,17 @@ replied-step now Scan n talks step is = is
 
 told-gives : (answer : Result Step StepFault) (entries : List Entry) (now : ℕ) (event : Event)
     (n : Bay) (talks : List (Option ConnectionState)) → Gives entries answer
-    → of_answer [] (entries_of_step now event n talks) answer ≡ entries
+    → of_answer [] (observed_in_step now event n talks) answer ≡ entries
     → IfOk answer (AreOperates now event n talks)
 told-gives (Ok step) entries now event n talks gives told =
-    let is : step.commands ≡ operates_in (entries_of_step now event n talks step) =
+    let is : step.commands ≡ operates_in (observed_in_step now event n talks step) =
     gives ∙ ap operates_in (sym told) in
     record { operated = is; replied = replied-step now event n talks step is }
 told-gives (Err fault) entries now event n talks gives told = tt
 
 pub step-operates : (n : Bay) (now : ℕ) (event : Event) (old : State)
     (answer : Result Step StepFault)
-    (new : State) → AreNamedAlike n (bay_of old) → AreAgreed old.connections
+    (new : State) → AreNamedAlike n (bay_of old) → HaveAgreedSize old.connections
     → Steps now event old answer new → IfOk answer (AreOperates now event n old.connections)
 step-operates n now event old answer new alike sized steps =
     subst (λ (r : Result Step StepFault). IfOk r (AreOperates now event n old.connections))

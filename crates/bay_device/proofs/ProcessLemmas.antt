@@ -4,15 +4,15 @@ use Rattle.std.proofs.lemmas.List.{length-map}
 use Rattle.std.proofs.lemmas.Option.{slice_get-map, same_Some}
 use Rattle.bay_nodes.specs.declared.switch.Switch.{Switch}
 use Rattle.bay_nodes.specs.Names.{switch_names}
-use Rattle.bay_process.specs.Layout.{Layout, switch_in, switches_of}
+use Rattle.bay_process.specs.Layout.{Layout, switch_names_in, switches_of}
 use Rattle.bay_process.specs.declared.switch.BoundSwitch.{BoundSwitch}
-use Rattle.bay_mms_services.specs.Places.{ArePlaced}
+use Rattle.bay_mms_services.specs.RowParts.{AreBoundByName}
 
 -- the rows of the switch at a place have its names
 pub named-there : (layout : Layout) (switches : List BoundSwitch) (k : ℕ) (bound : BoundSwitch)
-    (s : Switch) → ArePlaced layout switches → slice_get switches k ≡ Some bound
+    (s : Switch) → AreBoundByName layout switches → slice_get switches k ≡ Some bound
     → slice_get (switches_of switches) k ≡ Some s
-    → switch_in layout bound.rows ≡ switch_names (switches_of switches) k s
+    → switch_names_in layout bound.rows ≡ switch_names (switches_of switches) k s
 named-there layout switches k bound s placed here is =
     let own : slice_get (switches_of switches) k ≡ Some bound.switch =
     slice_get-map (λ (b : BoundSwitch). b.switch) switches k

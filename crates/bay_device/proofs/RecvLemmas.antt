@@ -3,10 +3,10 @@ use Rattle.std.proofs.Common.{◌≡◌, ◌<◌, ℕ, List, [], ◌∷◌, leng
 use Rattle.std.proofs.lemmas.List.{set-set}
 use Rattle.std.specs.Result.{OnOk, IfErr, result_err}
 use Rattle.bay_connection.specs.ConnectionStates.{ConnectionState, connection_after}
-use Rattle.bay_device.specs.Device.{State, device_at, ended_at}
-use Rattle.bay_device.specs.Receiving.{Done}
-use Rattle.bay_device.specs.ReceivingViews.{ComesTo}
-use Rattle.bay_device.specs.Outcomes.{Outcome, closed_by, connection_at, event_outcome, last_moment, nothing_done, outcome, slot_of, quiet_step, refusal_of, recv_after, recv_done, recv_outcome, with_connection, without_owner}
+use Rattle.bay_device.specs.Device.{State, device_at, expiry_report}
+use Rattle.bay_device.specs.Receiving.{StepState}
+use Rattle.bay_device.specs.ReceivingViews.{ResultsIn}
+use Rattle.bay_device.specs.Outcomes.{Outcome, closed_by, connection_at, event_outcome, last_moment, step_start, outcome, slot_of, quiet_step, refusal_outcome, recv_after, recv_done, recv_outcome, with_connection, without_owner}
 use Rattle.bay_device.specs.Steps.{IsOutcome, HandlesOctetsFrom, IsWithoutOctets, Receives, Steps}
 use Rattle.bay_device.specs.declared.event.Event.{Event}
 use Rattle.bay_device.specs.declared.event.Event.TheVariants.{Open, Recv, Close, Contact, Input, Measure, BadMeasure, Lost, Scan}
@@ -54,7 +54,7 @@ after-taken a place s left (Some why) here = placed a place None (without_owner 
 -- the device and its answer, from what the octets come to
 pub heard-from : (now a : ℕ) (octets : List ℕ) (told : Option Sent) (s new : State)
     (talk : ConnectionState)
-    (why : Option Why) (e : Done) → ComesTo now a talk octets (nothing_done s) why e
+    (why : Option Why) (e : StepState) → ResultsIn now a talk octets (step_start s) why e
     → new ≡ recv_after a (connection_after talk octets) e.state why
     → HandlesOctetsFrom now a octets told s talk
     (record {
@@ -79,7 +79,7 @@ heard-from now a octets told s new talk why e comes is =
 pub received : (now a : ℕ) (octets : List ℕ) (old new : State) (talk : ConnectionState)
     (step : Step)
     → connection_at (slot_of a) old ≡ Some talk → 0 < length octets
-    → HandlesOctetsFrom now a octets (ended_at now old) (device_at now old) talk step new
+    → HandlesOctetsFrom now a octets (expiry_report now old) (device_at now old) talk step new
     → Receives now a octets old (Ok step) new
 received now a [] old new talk step here some hears = absurd (omega arith)
 received now a (octet ∷ octets) old new talk step here some hears =
@@ -93,7 +93,7 @@ received now a (octet ∷ octets) old new talk step here some hears =
 -- without octets, which need no choice
 pub received-none : (now a : ℕ) (old : State) (talk : ConnectionState)
     → connection_at (slot_of a) old ≡ Some talk
-    → Receives now a [] old (Ok (quiet_step (ended_at now old))) (device_at now old)
+    → Receives now a [] old (Ok (quiet_step (expiry_report now old))) (device_at now old)
 received-none now a old talk here =
     let whole = ap (recv_outcome None now a [] old) here in
     record {
@@ -153,8 +153,8 @@ pub one-outcome : (now : ℕ) (event : Event) (s : State) (answer : Result Step 
     → IsOutcome (outcome None now event s) answer new
 one-outcome now event s answer new steps h =
     let same : outcome steps.choice now event s ≡ outcome None now event s =
-    ap (λ (x : Outcome). cond (nat_lt last_moment now) (refusal_of MomentTooLarge s)
-    (cond (nat_lt now s.moment) (refusal_of TimeWentBack s) x))
+    ap (λ (x : Outcome). cond (nat_lt last_moment now) (refusal_outcome MomentTooLarge s)
+    (cond (nat_lt now s.moment) (refusal_outcome TimeWentBack s) x))
     (one-event steps.choice now event s h) in
     record {
       answered = steps.answered ∙ ap (λ (o : Outcome). o.answer) same;

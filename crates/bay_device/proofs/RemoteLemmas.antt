@@ -7,15 +7,15 @@ use Rattle.std.proofs.lemmas.Option.{slice_get-map, slice_get_within, unwrap_or-
 use Rattle.bay_base.specs.declared.point.MeterField.{MeterField}
 use Rattle.bay_base.specs.declared.position.Dbpos.{Dbpos}
 use Rattle.bay_nodes.specs.declared.switch.Switch.{Switch}
-use Rattle.bay_control.specs.Decisions.{control_in, controls_of, key_in}
+use Rattle.bay_control.specs.Decisions.{control_in, controls_of, key_input}
 use Rattle.bay_control.specs.Requests.{control_of, control_or_none, is_local}
 use Rattle.bay_control.specs.declared.control.SwitchControl.{SwitchControl}
 use Rattle.bay_mms_services.specs.declared.answer.Command.{Command}
 use Rattle.bay_device.specs.Commands.{AreCommanded, IsReleasedAt}
 use Rattle.bay_device.specs.Device.{State, device_after_loss, device_at, inputs_lost, positions_lost}
-use Rattle.bay_device.specs.Fresh.{Came, Past}
-use Rattle.bay_device.specs.Outcomes.{Outcome, contact_outcome, doubt_outcome, event_outcome, input_outcome, last_moment, measure_outcome, outcome, refusal_of}
-use Rattle.bay_device.specs.Remote.{AreAtRemote, IsAtRemote, RemoteAt, is_on, is_on_after, key_of}
+use Rattle.bay_device.specs.Fresh.{IsHistory, PastEvent}
+use Rattle.bay_device.specs.Outcomes.{Outcome, contact_outcome, bad_measure_outcome, event_outcome, input_outcome, last_moment, measure_outcome, outcome, refusal_outcome}
+use Rattle.bay_device.specs.Remote.{AreAtRemote, IsAtRemote, RemoteAt, is_on, is_on_after, key_input_at}
 use Rattle.bay_device.specs.Steps.{OfAssociation, Steps}
 use Rattle.bay_device.specs.declared.event.Event.{Event}
 use Rattle.bay_device.specs.declared.event.Event.TheVariants.{Open, Recv, Close, Contact, Input, Measure, BadMeasure, Lost, Scan}
@@ -108,7 +108,7 @@ module _ (now : ℕ) (s : State) where
   fixed-measure k field value (Some id) = refl
 
   fixed-doubt : (k : ℕ) (field : MeterField) (o : Option (List ℕ))
-      → Fixed (doubt_outcome now k field s o)
+      → Fixed (bad_measure_outcome now k field s o)
   fixed-doubt k field None = refl
   fixed-doubt k field (Some id) = refl
 
@@ -127,7 +127,7 @@ module _ (now : ℕ) (s : State) where
   fixed-event choice Scan = refl
 
   fixed-if : (late early : Bool) (o : Outcome) → Fixed o
-      → Fixed (cond late (refusal_of MomentTooLarge s) (cond early (refusal_of TimeWentBack s) o))
+      → Fixed (cond late (refusal_outcome MomentTooLarge s) (cond early (refusal_outcome TimeWentBack s) o))
   fixed-if true early o is = refl
   fixed-if false true o is = refl
   fixed-if false false o is = is
@@ -139,7 +139,7 @@ module _ (now : ℕ) (s : State) where
 
   -- ---- what the process reports of an input
 
-  module _ (past : List Past) (input : ℕ)
+  module _ (past : List PastEvent) (input : ℕ)
       (tracks : value_at s.input_values input ≡ is_on input past) where
     abbrev Told : Event → Outcome → Type 0
     Told event o =
@@ -173,7 +173,7 @@ module _ (now : ℕ) (s : State) where
     told-measure k field value (Some id) = tracks
 
     told-doubt : (k : ℕ) (field : MeterField) (o : Option (List ℕ))
-        → Told (BadMeasure k field) (doubt_outcome now k field s o)
+        → Told (BadMeasure k field) (bad_measure_outcome now k field s o)
     told-doubt k field None = tracks
     told-doubt k field (Some id) = tracks
 
@@ -199,7 +199,7 @@ module _ (now : ℕ) (s : State) where
 
     told-if : (late early : Bool) (event : Event) (o : Outcome) → Told event o
         → Told event
-        (cond late (refusal_of MomentTooLarge s) (cond early (refusal_of TimeWentBack s) o))
+        (cond late (refusal_outcome MomentTooLarge s) (cond early (refusal_outcome TimeWentBack s) o))
     told-if true early event o told = tracks
     told-if false true event o told = tracks
     told-if false false event o told = told
@@ -214,11 +214,11 @@ module _ (now : ℕ) (s : State) where
 
 -- after these events the inputs have the values that the process reported, and the settings of the
 -- controls are those of the bay file
-pub record Follows (past : List Past) (s : State) : Type 0 where
+pub record Follows (past : List PastEvent) (s : State) : Type 0 where
   pub values : (input : ℕ) → value_at s.input_values input ≡ is_on input past
   pub settings : s.controls.controls ≡ controls_of s.inputs s.switches
 
-pub follows-first : (s : State) → Came [] s → Follows [] s
+pub follows-first : (s : State) → IsHistory [] s → Follows [] s
 follows-first s came = record {
   values = λ input. ap (λ (t : State). value_at t.input_values input) came.2
       ∙ cleared came.0.inputs input;
@@ -240,7 +240,7 @@ fixed-step now event old answer new steps =
     ap settings_of steps.left ∙ fixed-outcome now old steps.choice event
 
 -- a step more
-pub follows-step : (p : Past) (past : List Past) (before : State) → Follows past before
+pub follows-step : (p : PastEvent) (past : List PastEvent) (before : State) → Follows past before
     → Steps p.now p.event before p.answer p.after → Follows (p ∷ past) p.after
 follows-step p past before follows steps = record {
   values = λ input.
@@ -254,7 +254,7 @@ follows-step p past before follows steps = record {
       (fixed-step p.now p.event before p.answer p.after steps) follows.settings;
 }
 
-came-follows : (past : List Past) (s : State) → Came past s → Follows past s
+came-follows : (past : List PastEvent) (s : State) → IsHistory past s → Follows past s
 came-follows [] s came = follows-first s came
 came-follows (p ∷ past) s came =
     subst (Follows (p ∷ past)) (sym came.0)
@@ -264,12 +264,12 @@ came-follows (p ∷ past) s came =
 
 key-in : (names : List (List ℕ)) (o : Option Switch)
     → (control_or_none (option_map (control_in names) o)).key
-    ≡ option_and_then (key_in names) o
+    ≡ option_and_then (key_input names) o
 key-in names None = refl
 key-in names (Some switch) = refl
 
 key-at : (s : State) (k : ℕ) → s.controls.controls ≡ controls_of s.inputs s.switches
-    → (control_of s.controls.controls k).key ≡ key_of s k
+    → (control_of s.controls.controls k).key ≡ key_input_at s k
 key-at s k is =
     ap (λ (cs : List SwitchControl). (control_of cs k).key) is
     ∙ ap (λ (o : Option SwitchControl). (control_or_none o).key)
@@ -277,7 +277,7 @@ key-at s k is =
     ∙ key-in s.inputs (slice_get s.switches k)
 
 -- what may be operated on a device has its key at remote
-remote-by : (s : State) (past : List Past) → Follows past s → (command : Command)
+remote-by : (s : State) (past : List PastEvent) → Follows past s → (command : Command)
     → is_local (control_of s.controls.controls command.switch).key s.input_values ≡ false
     → IsAtRemote s past command
 remote-by s past follows command local input is =
@@ -288,7 +288,7 @@ remote-by s past follows command local input is =
     sym (follows.values input) ∙ not-false (value_at s.input_values input) off
 
 -- also on a device that has changed only for its clients since
-pub remote-since : (old s : State) (past : List Past) (now : ℕ) (command : Command) → Same old s
+pub remote-since : (old s : State) (past : List PastEvent) (now : ℕ) (command : Command) → Same old s
     → Follows past old → IsReleasedAt now s command → IsAtRemote old past command
 remote-since old s past now command same follows released =
     remote-by old past follows command
@@ -296,21 +296,21 @@ remote-since old s past now command same follows released =
     ∙ released.remote)
 
 -- the settings of a device say which keys there are
-pub same-keys : (s t : State) → settings_of s ≡ settings_of t → (past : List Past)
+pub same-keys : (s t : State) → settings_of s ≡ settings_of t → (past : List PastEvent)
     (answer : Result Step StepFault) → AreAtRemote s past answer → AreAtRemote t past answer
 same-keys s t same past answer all =
     subst (λ (x : Settings). IfOk answer (λ step. All (λ (command : Command). (input : ℕ)
-    → option_and_then (key_in x.names) (slice_get x.switches command.switch) ≡ Some input
+    → option_and_then (key_input x.names) (slice_get x.switches command.switch) ≡ Some input
     → is_on input past ≡ true) step.commands)) same all
 
-pub same-key : (s t : State) → settings_of s ≡ settings_of t → (past : List Past)
+pub same-key : (s t : State) → settings_of s ≡ settings_of t → (past : List PastEvent)
     (command : Command) → IsAtRemote s past command → IsAtRemote t past command
 same-key s t same past command all =
     subst (λ (x : Settings). (input : ℕ)
-    → option_and_then (key_in x.names) (slice_get x.switches command.switch) ≡ Some input
+    → option_and_then (key_input x.names) (slice_get x.switches command.switch) ≡ Some input
     → is_on input past ≡ true) same all
 
-remote-if : (now : ℕ) (past : List Past) (s : State) (answer : Result Step StepFault)
+remote-if : (now : ℕ) (past : List PastEvent) (s : State) (answer : Result Step StepFault)
     → Follows past s → IfOk answer (AreCommanded now s) → AreAtRemote s past answer
 remote-if now past s (Ok step) follows commanded =
     λ k d within.

@@ -2,16 +2,16 @@
 use Rattle.std.proofs.Common.{◌≡◌, ℕ, List, [], ◌∷◌, ◌++◌, length, None, Option, Result, refl, subst, sym, append_assoc, append-nil}
 use Rattle.bay_connection.specs.ConnectionStates.{ConnectionState}
 use Rattle.bay_control.specs.Backing.{AreBacked}
-use Rattle.bay_control.specs.Happenings.{Leads}
+use Rattle.bay_control.specs.TimedCalls.{LeadsControls}
 use Rattle.bay_control.proofs.BackingLemmas.{all-backed}
 use Rattle.bay_control.proofs.LeadsLemmas.{none-leads, two-lead}
-use Rattle.bay_mms_services.specs.Accepted.{AreNamedAlike}
+use Rattle.bay_mms_services.specs.ObservedEntries.{AreNamedAlike}
 use Rattle.bay_mms_services.specs.Bay.{Bay}
 use Rattle.bay_device.specs.Device.{State, bay_of}
 use Rattle.bay_device.specs.Entries.{opens}
 use Rattle.bay_device.specs.Operates.{AllOperate}
 use Rattle.bay_device.specs.Steps.{EachStep, Steps}
-use Rattle.bay_device.specs.EntriesTold.{AreAgreed, states_after_answer, entries_of_run, entries_of_answer}
+use Rattle.bay_device.specs.ObservedRuns.{HaveAgreedSize, states_after_answer, observed_in_run, observed_in_answer}
 use Rattle.bay_device.specs.declared.event.Event.{Event}
 use Rattle.bay_device.specs.declared.event.Step.{Step}
 use Rattle.bay_device.specs.declared.fault.StepFault.{StepFault}
@@ -86,7 +86,7 @@ each-so Did law es old answers new each =
 -- It leads the controls on, and its accepted operates are the commands.
 pub record Tells (n : Bay) (es : List (ℕ × Event)) (old : State)
     (answers : List (Result Step StepFault)) (new : State) : Type 0 where
-  pub leads : Leads (entries_of_run n old.connections es answers) (opens old) old.controls
+  pub leads : LeadsControls (observed_in_run n old.connections es answers) (opens old) old.controls
       (opens new)
       new.controls
   pub operates : AllOperate n old.connections es answers
@@ -94,10 +94,10 @@ pub record Tells (n : Bay) (es : List (ℕ × Event)) (old : State)
 -- a run tells what its events tell, one after the other
 pub tells : (Did : ℕ → Event → State → Result Step StepFault → State → Type 0) (n : Bay)
     (es : List (ℕ × Event)) (old : State) (answers : List (Result Step StepFault)) (new : State)
-    → length old.connections ≡ 8 → AreNamedAlike n (bay_of old) → AreAgreed old.connections
+    → length old.connections ≡ 8 → AreNamedAlike n (bay_of old) → HaveAgreedSize old.connections
     → EachStep Did es old answers new → Tells n es old answers new
 tells Did n [] old [] new eight alike sized each = record {
-  leads = subst (λ (s : State). Leads [] (opens old) old.controls (opens s) s.controls) (sym each)
+  leads = subst (λ (s : State). LeadsControls [] (opens old) old.controls (opens s) s.controls) (sym each)
       (none-leads (opens old) old.controls);
   operates = tt;
 }
@@ -110,12 +110,12 @@ tells Did n (e ∷ es) old (answer ∷ answers) new eight alike sized each =
     let rest = tells Did n es next answers new
     (eight-places e.0 e.1 old answer next eight each.1) t.alike t.sized each.3 in
     record {
-      leads = two-lead (entries_of_answer e.0 e.1 n old.connections answer)
-          (entries_of_run n (states_after_answer e.1 old.connections answer) es answers) (opens old)
+      leads = two-lead (observed_in_answer e.0 e.1 n old.connections answer)
+          (observed_in_run n (states_after_answer e.1 old.connections answer) es answers) (opens old)
           (opens next) (opens new) old.controls next.controls new.controls
           (t.leads [] (opens old) old.controls (none-leads (opens old) old.controls))
-          (subst (λ (talks : List (Option ConnectionState)). Leads
-          (entries_of_run n talks es answers) (opens next)
+          (subst (λ (talks : List (Option ConnectionState)). LeadsControls
+          (observed_in_run n talks es answers) (opens next)
           next.controls (opens new) new.controls) t.left rest.leads);
       operates = (
         step-operates n e.0 e.1 old answer next alike sized each.1,
@@ -128,7 +128,7 @@ tells Did n (e ∷ es) old (answer ∷ answers) new eight alike sized each =
 pub tells-backed : (n : Bay) (es : List (ℕ × Event)) (old : State)
     (answers : List (Result Step StepFault)) (new : State) → old.controls.selection ≡ None
     → Tells n es old answers new
-    → AreBacked old.controls.controls (entries_of_run n old.connections es answers)
+    → AreBacked old.controls.controls (observed_in_run n old.connections es answers)
 tells-backed n es old answers new none t =
-    all-backed (entries_of_run n old.connections es answers) (opens old) (opens new) old.controls
+    all-backed (observed_in_run n old.connections es answers) (opens old) (opens new) old.controls
     new.controls t.leads none

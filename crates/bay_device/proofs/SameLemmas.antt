@@ -2,7 +2,7 @@
 -- device notes of its scans.
 use Rattle.std.proofs.Common.{◌≡◌, ℕ, zero, suc, Bool, true, false, cond, nat_lt, List, [], ◌∷◌, Option, Some, None, refl, ap₂, ◌∙◌}
 use Rattle.bay_base.specs.declared.point.Source.{Source}
-use Rattle.bay_connection.specs.ConnectionStates.{Indication, ConnectionState, Terms, answers, tells, releases, ends, fails, indications, connection_after}
+use Rattle.bay_connection.specs.ConnectionStates.{Indication, ConnectionState, Terms, answers, delivers, releases, ends, fails, indications, connection_after}
 use Rattle.bay_nodes.specs.declared.switch.Switch.{Switch}
 use Rattle.bay_control.specs.declared.control.SwitchControl.{SwitchControl}
 use Rattle.bay_mms_services.specs.Answers.{pdu_answer}
@@ -12,8 +12,8 @@ use Rattle.bay_mms_services.proofs.ReleaseLemmas.{request-leaves}
 use Rattle.bay_tree.specs.declared.row.Row.{Row}
 use Rattle.il_scan.specs.Scans.{MachineData}
 use Rattle.bay_device.specs.Device.{State, bay_of, device_at}
-use Rattle.bay_device.specs.Receiving.{ReceiveResult, Done, after_indications, after_pdu, client_at, on_indication, with_sent}
-use Rattle.bay_device.specs.Outcomes.{Outcome, close_outcome, connection_at, event_outcome, initial_connection, last_moment, nothing_done, octets_outcome, open_outcome, outcome, slot_of, recv_after, recv_outcome, refusal_of, with_connection, without_owner}
+use Rattle.bay_device.specs.Receiving.{ReceiveResult, StepState, after_indications, after_pdu, client_at, on_indication, with_sent}
+use Rattle.bay_device.specs.Outcomes.{Outcome, close_outcome, connection_at, event_outcome, initial_connection, last_moment, step_start, octets_outcome, open_outcome, outcome, slot_of, recv_after, recv_outcome, refusal_outcome, with_connection, without_owner}
 use Rattle.bay_device.specs.Steps.{OfAssociation}
 use Rattle.bay_device.specs.declared.event.Event.{Event}
 use Rattle.bay_device.specs.declared.event.Event.TheVariants.{Open, Recv, Close, Contact, Input, Measure, BadMeasure, Lost, Scan}
@@ -63,7 +63,7 @@ same-with s (Some place) x t same = same
 
 -- ---- octets
 
-same-said : (now a : ℕ) (terms : Terms) (pdu : List ℕ) (d : Done)
+same-said : (now a : ℕ) (terms : Terms) (pdu : List ℕ) (d : StepState)
     → Same d.state (after_pdu now a terms pdu d).state
 same-said now a terms pdu d =
     let c = client_at now a terms d.state in
@@ -81,17 +81,17 @@ same-said now a terms pdu d =
     record (parts_of d.state) { inputs = inputs; settings = settings }) (inputs-stay c pdu b)
     (settings-stay c pdu b)
 
-same-one : (now a : ℕ) (i : Indication) (s : State) (d : Done) (later : Done → ReceiveResult)
-    → Same s d.state → ((e : Done) → Same s e.state → Same s (later e).done.state)
+same-one : (now a : ℕ) (i : Indication) (s : State) (d : StepState) (later : StepState → ReceiveResult)
+    → Same s d.state → ((e : StepState) → Same s e.state → Same s (later e).done.state)
     → Same s (on_indication now a i d later).done.state
 same-one now a (answers octets) s d later same rest = rest (with_sent a octets d) same
-same-one now a (tells terms pdu) s d later same rest =
+same-one now a (delivers terms pdu) s d later same rest =
     rest (after_pdu now a terms pdu d) (same-said now a terms pdu d ∙ same)
 same-one now a (releases octets) s d later same rest = same
 same-one now a ends s d later same rest = same
 same-one now a (fails code) s d later same rest = same
 
-same-indications : (choice : Option ℕ) (now a : ℕ) (is : List Indication) (s : State) (d : Done)
+same-indications : (choice : Option ℕ) (now a : ℕ) (is : List Indication) (s : State) (d : StepState)
     → Same s d.state → Same s (after_indications choice now a is d).done.state
 same-indications None now a [] s d same = same
 same-indications None now a (i ∷ is) s d same =
@@ -129,9 +129,9 @@ module _ (now : ℕ) (s : State) where
   same-octets choice a talk [] = refl
   same-octets choice a talk (octet ∷ octets) =
       let is : List Indication = indications talk (octet ∷ octets) in
-      let h : ReceiveResult = after_indications choice now a is (nothing_done (device_at now s)) in
+      let h : ReceiveResult = after_indications choice now a is (step_start (device_at now s)) in
       same-left a (connection_after talk (octet ∷ octets)) s h.done.state h.why
-      (same-indications choice now a is s (nothing_done (device_at now s)) refl)
+      (same-indications choice now a is s (step_start (device_at now s)) refl)
 
   same-heard : (choice : Option ℕ) (a : ℕ) (octets : List ℕ) (talk : Option ConnectionState)
       → Same s (recv_outcome choice now a octets s talk).after
@@ -153,7 +153,7 @@ module _ (now : ℕ) (s : State) where
 
   -- where a moment may refuse the event
   if-refused : (P : State → Type 0) (late early : Bool) (o : Outcome) → P s → P o.after
-      → P (cond late (refusal_of MomentTooLarge s) (cond early (refusal_of TimeWentBack s) o)).after
+      → P (cond late (refusal_outcome MomentTooLarge s) (cond early (refusal_outcome TimeWentBack s) o)).after
   if-refused P true early o here there = here
   if-refused P false true o here there = here
   if-refused P false false o here there = there

@@ -2,7 +2,7 @@
 use Rattle.std.proofs.Common.{◌≡◌, ℕ, suc, ◌+◌, false, List, [], ◌∷◌, length, map, get_or, slice_get, Option, Some, None, option_map, refl, ap, sym, ◌∙◌, subst, arith}
 use Rattle.std.proofs.lemmas.Option.{slice_get-map, slice_get-get_or}
 use Rattle.bay_tree.specs.declared.row.Row.{Row}
-use Rattle.bay_tree.specs.Rows.{leaf_of}
+use Rattle.bay_tree.specs.Rows.{leaf_named}
 use Rattle.bay_base.specs.declared.point.MeterField.{MeterField}
 use Rattle.bay_base.specs.declared.point.Source.{Source}
 use Rattle.bay_base.specs.declared.point.Source.TheVariants as source
@@ -14,13 +14,13 @@ use Rattle.il_image.specs.declared.value.Value.TheVariants.{Long}
 use Rattle.il_scan.specs.OutputValues.{is_true}
 use Rattle.il_scan.specs.Scans.{MachineData, Scans, outputs_of, scan_start}
 use Rattle.bay_connection.specs.ConnectionStates.{ConnectionState}
-use Rattle.bay_device.specs.Device.{State, Ran, after_run, ending_at, inputs_of, point_value, ran_at, ran_of, after_scan}
+use Rattle.bay_device.specs.Device.{State, RunResult, after_run, ending_at, inputs_of, point_value, run_result_at, run_result_of, after_scan}
 use Rattle.bay_process.specs.Values.{measure_leaf, number_of_leaf, output_at, position_leaf, position_value, with_output, with_outputs}
 use Rattle.bay_process.specs.Layout.{Layout, layout_of, switches_of, IsBound, AreBound, AreLeafTyped, AreMetersBound, AreMetersLeafTyped}
 use Rattle.bay_device.specs.Meaning.{Halts}
 use Rattle.bay_nodes.specs.Names.{StatusNames, SwitchNames, switch_names}
 use Rattle.bay_process.specs.Names.{field_names}
-use Rattle.bay_process.specs.Scans.{source_value, meter_value, outputs_put, switch_value}
+use Rattle.bay_process.specs.Scans.{source_value, meter_value, rows_after_outputs, switch_value}
 use Rattle.bay_device.specs.StateView.{state_view}
 use Rattle.bay_process.specs.ReportedRows.{AreInterlocked}
 use Rattle.bay_process.specs.declared.meter.BoundMeter.{BoundMeter}
@@ -62,7 +62,7 @@ module _ (connections : List (Option ConnectionState)) (d : DeviceState) where
       (option_map (λ (b : BoundSwitch). b.switch) b))
   switch-named k point None here = refl
   switch-named k point (Some b) here =
-      ap (λ (n : SwitchNames). position_value point (leaf_of n.position.value d.bay.tree))
+      ap (λ (n : SwitchNames). position_value point (leaf_named n.position.value d.bay.tree))
       (d.bound k b here).named
 
   meter-named : (k : ℕ) (field : MeterField) (m : Option BoundMeter) → slice_get d.meters k ≡ m
@@ -71,7 +71,7 @@ module _ (connections : List (Option ConnectionState)) (d : DeviceState) where
       (measure_leaf d.bay.tree k field (option_map (λ (m : BoundMeter). m.id) m)))
   meter-named k field None here = refl
   meter-named k field (Some m) here =
-      ap (λ (n : StatusNames). Long (number_of_leaf (leaf_of n.value d.bay.tree)))
+      ap (λ (n : StatusNames). Long (number_of_leaf (leaf_named n.value d.bay.tree)))
       (field-named (layout_of d.bay.tree) m.rows field
       ∙ ap (field_names field) (d.metered k m here).named)
 
@@ -109,16 +109,16 @@ module _ (layout : Layout) (switches : List Switch) (writes : List Source) (outp
   outputs-named : (k : ℕ) (bound : List BoundSwitch) (rows : List Row)
       → ((j : ℕ) (b : BoundSwitch) → slice_get bound j ≡ Some b
       → IsBound layout writes switches (k + j) b)
-      → outputs_put layout bound outputs now rows
+      → rows_after_outputs layout bound outputs now rows
       ≡ with_outputs switches writes outputs now k (switches_of bound) rows
   outputs-named k [] rows all = refl
   outputs-named k (b ∷ bs) rows all =
       let here : IsBound layout writes switches k b = let none : k + 0 ≡ k =
       omega arith in subst (λ m. IsBound layout writes switches m b) none (all 0 b refl) in
-      ap (λ n. outputs_put layout bs outputs now
+      ap (λ n. rows_after_outputs layout bs outputs now
       (with_output n (is_true (output_at b.outputs.ena_opn outputs))
       (is_true (output_at b.outputs.ena_cls outputs)) now rows)) here.named
-      ∙ ap (λ o. outputs_put layout bs outputs now
+      ∙ ap (λ o. rows_after_outputs layout bs outputs now
       (with_output (switch_names switches k b.switch) (is_true (output_at o.ena_opn outputs))
       (is_true (output_at o.ena_cls outputs)) now rows)) here.outputs
       ∙ outputs-named (k + 1) bs _
@@ -145,9 +145,9 @@ module _ (connections : List (Option ConnectionState)) (d : DeviceState) (now : 
       (sym read)
       ∙ did.halts (length d.machine.image.code) did.few
 
-  pub ran : ran_at now (state_view connections d)
+  pub ran : run_result_at now (state_view connections d)
       ≡ record { slots = new.slots; timers = new.timers; steps = steps }
-  ran = ap ran_of ended
+  ran = ap run_result_of ended
 
   pub halted : (after : State) → after.machine ≡ new
       → Halts now (state_view connections d) steps after
@@ -157,7 +157,7 @@ module _ (connections : List (Option ConnectionState)) (d : DeviceState) (now : 
   }
 
   pub scan-done : (rows : List Row)
-      → rows ≡ outputs_put (layout_of d.bay.tree) d.bay.switches outputs now d.bay.tree
+      → rows ≡ rows_after_outputs (layout_of d.bay.tree) d.bay.switches outputs now d.bay.tree
       → record (state_view connections d)
       { machine = new; rows = rows; last_scan = Some now; is_stale = false }
       ≡ after_scan now (state_view connections d)
@@ -185,4 +185,4 @@ module _ (connections : List (Option ConnectionState)) (d : DeviceState) (now : 
         is_stale = false;
       })
       (held-as d.machine new did.image)
-      ∙ ap (λ (r : Ran). after_run now r s) (sym ran)
+      ∙ ap (λ (r : RunResult). after_run now r s) (sym ran)

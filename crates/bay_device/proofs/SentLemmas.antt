@@ -10,7 +10,7 @@ use Rattle.bay_ber.proofs.SizeLemmas.{length-element, length-integer_octets}
 use Rattle.bay_ber.proofs.WriteLemmas.{element-spells}
 use Rattle.bay_ber.specs.Tags.{constructed, int_tag, sequence}
 use Rattle.bay_transport.specs.Doings.{Run}
-use Rattle.bay_transport.specs.Wrap.{full_before, tpdus_of}
+use Rattle.bay_transport.specs.Wrap.{full_tpdus, tpdus_of}
 use Rattle.bay_transport.proofs.WrapLemmas.{run-data_frames}
 use Rattle.bay_assoc.specs.Receives.{association_terms}
 use Rattle.bay_assoc.specs.Session.{Spdu, spdu, spdu_in, transfer}
@@ -19,8 +19,8 @@ use Rattle.bay_assoc.specs.Texts.{transfer_text, user_text}
 use Rattle.bay_assoc.specs.declared.receive.Phase.{Phase}
 use Rattle.bay_assoc.specs.declared.receive.Phase.TheVariants.{Idle, Open, Over, Failed}
 use Rattle.bay_connection.specs.ConnectionStates.{Terms, octets_to_send, octets_to_send_in}
-use Rattle.bay_mms_services.specs.Accepted.{part_after_id}
-use Rattle.bay_device.specs.EntriesTold.{only_tsdu, pdu_in, tsdu_in, user_data, value_of}
+use Rattle.bay_mms_services.specs.ObservedEntries.{part_after_id}
+use Rattle.bay_device.specs.ObservedRuns.{only_tsdu, pdu_in, tsdu_in, user_data, value_of}
 use Rattle.bay_device.proofs.TalkLemmas.{IsOpen}
 
 -- the TSDU in data TPDUs of any size
@@ -28,7 +28,7 @@ tsdu-read : (size : ℕ) (tsdu : List ℕ) → length tsdu ≤ 70000
     → tsdu_in (tpdus_of size tsdu) ≡ Some tsdu
 tsdu-read size tsdu few =
     ap (λ (r : Run). only_tsdu r.doings)
-    (run-data_frames 0 0 (size - 3) (full_before (size - 3) tsdu) [] tsdu few)
+    (run-data_frames 0 0 (size - 3) (full_tpdus (size - 3) tsdu) [] tsdu few)
 
 spdu-read : (user : List ℕ) → spdu_in (transfer_text user) ≡ Some (transfer user)
 unfolding spdu

@@ -3,7 +3,7 @@
 use Rattle.std.proofs.Common.{◌≡◌, ◌≤◌, ℕ, ℤ, pos, negsuc, Bool, true, false, cond, nat_lt, min, List, [], ◌∷◌, Option, Some, None, Result, Ok, Err, IsSome, refl, arith}
 use Rattle.bay_base.specs.Options.{◌>>=◌}
 use Rattle.bay_mms_initiate.specs.declared.initiate.Proposal.{Proposal}
-use Rattle.bay_mms_initiate.specs.declared.initiate.Agreed.{Agreed}
+use Rattle.bay_mms_initiate.specs.declared.initiate.AgreedLimits.{AgreedLimits}
 use Rattle.bay_mms_initiate.specs.Initiate.{initiate_in}
 use Rattle.bay_base.specs.Results.{◌>>=◌ as ◌>>◌}
 use Rattle.bay_transport.specs.Doings.{Doing, Answers, Delivers, Ends, Fails, Stream, doings, after}
@@ -11,19 +11,19 @@ use Rattle.bay_transport.specs.Feeding.{size_agreed}
 use Rattle.bay_transport.proofs.SizeLemmas.{AreSized, doings-sized}
 use Rattle.bay_assoc.specs.declared.fault.AssocFault.{AssocFault}
 use Rattle.bay_assoc.specs.declared.fault.AssocFault.TheVariants as fault
-use Rattle.bay_assoc.specs.declared.receive.Accepted.{Accepted}
+use Rattle.bay_assoc.specs.declared.receive.ContextIds.{ContextIds}
 use Rattle.bay_assoc.specs.declared.receive.AssociationTerms.{AssociationTerms}
 use Rattle.bay_assoc.specs.declared.receive.Phase.{Phase}
 use Rattle.bay_assoc.specs.declared.receive.Phase.TheVariants as phases
 use Rattle.bay_assoc.specs.declared.presentation.Context.{Context}
 use Rattle.bay_ber.specs.Judged.{or_fault}
 use Rattle.bay_assoc.specs.Acse.{associate, release}
-use Rattle.bay_assoc.specs.Receiving.{TsduMeaning, answer, mms, released, aborted, accepted_of, acse_value, agreed_of, agreement, connection_request, release_request, idle_meaning, open_meaning, verdict, tsdu_meaning, mms_value, data_transfer}
-use Rattle.bay_assoc.specs.Presentation.{Carried, user_data, request}
+use Rattle.bay_assoc.specs.TsduMeanings.{TsduMeaning, answer, mms, released, aborted, accepted_ids, acse_value, agreed_limits, agreement, connection_request, release_request, idle_meaning, open_meaning, verdict, tsdu_meaning, mms_value, data_transfer}
+use Rattle.bay_assoc.specs.Presentation.{ValueInContext, user_data, request}
 use Rattle.bay_assoc.specs.Session.{Spdu, connect, accept, finish, disconnect, abort, transfer, spdu_in}
 use Rattle.bay_mms_initiate.specs.Sizes.{IsPduSize, agreed_size}
 use Rattle.bay_assoc.specs.Sized.{IsSized}
-use Rattle.bay_connection.specs.ConnectionStates.{Indication, ConnectionState, ConnectionStep, answers, tells, releases, ends, fails, connection_step, indications, connection_after, step_on_tsdu, step_on_tsdu_result, after_doings}
+use Rattle.bay_connection.specs.ConnectionStates.{Indication, ConnectionState, ConnectionStep, answers, delivers, releases, ends, fails, connection_step, indications, connection_after, step_on_tsdu, step_on_tsdu_result, after_doings}
 
 -- ---- what is heard leaves a size of PDUs
 
@@ -56,28 +56,28 @@ size-is None = record { least = omega arith; most = omega arith }
 size-is (Some (pos n)) = size-if (nat_lt n 256) n refl
 size-is (Some (negsuc n)) = tt
 
-agreed-by : (size : Option ℕ) (f : ℕ → Agreed) → ((n : ℕ) → (f n).size ≡ n) → SomeIs IsPduSize size
-    → OkIs (λ (x : Agreed). IsPduSize x.size)
+agreed-by : (size : Option ℕ) (f : ℕ → AgreedLimits) → ((n : ℕ) → (f n).size ≡ n) → SomeIs IsPduSize size
+    → OkIs (λ (x : AgreedLimits). IsPduSize x.size)
     (or_fault fault.PduSizeTooSmall (size >>= λ n. Some (f n)))
 agreed-by (Some n) f same is = record { least = rw (same n) is.least; most = rw (same n) is.most }
 agreed-by None f same is = tt
 
 agreed-sized : (p : Proposal)
-    → OkIs (λ (x : Agreed). IsPduSize x.size) (or_fault fault.PduSizeTooSmall (agreed_of p))
+    → OkIs (λ (x : AgreedLimits). IsPduSize x.size) (or_fault fault.PduSizeTooSmall (agreed_limits p))
 agreed-sized p = agreed-by (agreed_size p.size) _ (λ n. refl) (size-is p.size)
 
-agreement-sized : (contexts : List Context) (user : Carried)
-    → OkIs (λ (x : Accepted × Agreed). IsPduSize x.1.size) (agreement contexts user).answers
+agreement-sized : (contexts : List Context) (user : ValueInContext)
+    → OkIs (λ (x : ContextIds × AgreedLimits). IsPduSize x.1.size) (agreement contexts user).answers
 unfolding agreement
 agreement-sized contexts user =
-    let P : Accepted × Agreed → Type 0 = λ x. IsPduSize x.1.size in
-    bound P (or_fault fault.NoContext (accepted_of contexts)) _ (λ a.
+    let P : ContextIds × AgreedLimits → Type 0 = λ x. IsPduSize x.1.size in
+    bound P (or_fault fault.NoContext (accepted_ids contexts)) _ (λ a.
     bound P (acse_value a user) _ (λ value.
     bound P (or_fault fault.BadAcse (associate.reads value)) _ (λ information.
     bound P (mms_value a information) _ (λ pdu.
     bound P (or_fault fault.BadAcse (initiate_in pdu)) _ (λ proposal.
-    bound-by (λ (x : Agreed). IsPduSize x.size) P
-    (or_fault fault.PduSizeTooSmall (agreed_of proposal)) _ (agreed-sized proposal)
+    bound-by (λ (x : AgreedLimits). IsPduSize x.size) P
+    (or_fault fault.PduSizeTooSmall (agreed_limits proposal)) _ (agreed-sized proposal)
     (λ size_agreed is. is))))))
 
 -- an association that is open, with a size of PDUs
@@ -100,7 +100,7 @@ connected-sized : (user : List ℕ) → OkIs IsHeard (connection_request user).a
 unfolding connection_request
 connected-sized user =
     bound IsHeard (or_fault fault.BadPresentation (request.reads user)) _ (λ r.
-    bound-by (λ (x : Accepted × Agreed). IsPduSize x.1.size) IsHeard
+    bound-by (λ (x : ContextIds × AgreedLimits). IsPduSize x.1.size) IsHeard
     (agreement r.contexts r.user).answers _ (agreement-sized r.contexts r.user)
     (λ x is. (is, tt)))
 
@@ -154,7 +154,7 @@ hearing-sized phases.Failed tsdu is = tt
 -- the association that an indication leaves can send
 abbrev pub CanAnswer : Indication → Type 0
 CanAnswer (answers octets) = Unit {0}
-CanAnswer (tells terms pdu) = IsSome terms.size × IsOpen terms.phase
+CanAnswer (delivers terms pdu) = IsSome terms.size × IsOpen terms.phase
 CanAnswer (releases octets) = Unit {0}
 CanAnswer ends = Unit {0}
 CanAnswer (fails code) = Unit {0}

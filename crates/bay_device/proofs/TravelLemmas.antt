@@ -6,7 +6,7 @@ use Rattle.bay_base.specs.declared.switch.Control.{Control}
 use Rattle.bay_base.specs.declared.switch.Control.TheVariants.{Status, Direct, Sbo, SboEnhanced}
 use Rattle.bay_nodes.specs.declared.switch.Switch.{Switch}
 use Rattle.bay_config.specs.Bay.{bay_of}
-use Rattle.bay_config.specs.Key.{Key, entry_refusal, first_of, held_refusal, is_within, key_refusal, natural, number, number_in, passes, unknown_refusal}
+use Rattle.bay_config.specs.Key.{Key, entry_refusal, first_fault, value_refusal, is_within, key_refusal, natural, number, number_in, passes, unknown_refusal}
 use Rattle.bay_config.specs.Laws.{IsBay}
 use Rattle.bay_config.specs.Switch.{control_key, control_of, id_key, kind_key, kind_of, optional_keys, sbo_timeout_key, switch_in, switch_keys, time_keys, travel_key}
 use Rattle.bay_config.specs.declared.bay.Bay.{Bay}
@@ -15,7 +15,7 @@ use Rattle.bay_config.proofs.PassedLemmas.{accepted-is, none-behind, none-first,
 use Rattle.bay_config.proofs.SwitchLemmas.{first-keys}
 use Rattle.bay_control.specs.Decisions.{controls_of}
 use Rattle.bay_control.specs.Requests.{is_controlled}
-use Rattle.bay_mms_services.specs.Released.{AreTimed}
+use Rattle.bay_mms_services.specs.Released.{HaveTravelTime}
 use Rattle.bay_device.specs.BoundBay.{IsTimedBay}
 
 -- ---- a key
@@ -27,7 +27,7 @@ within-travel (Some (pos n)) passed =
     leb-true 1 n (and_parts (nat_le 1 n) (nat_le n 600000) passed).0
 within-travel (Some (negsuc n)) passed = absurd cc
 
-held-travel : (d : Option Data) → held_refusal (number 1 600000) d ≡ None
+held-travel : (d : Option Data) → value_refusal (number 1 600000) d ≡ None
     → 1 ≤ unwrap_or (option_map natural (option_and_then as_integer d)) 0
 held-travel None none = absurd cc
 held-travel (Some d) none =
@@ -36,7 +36,7 @@ held-travel (Some d) none =
 -- ---- a table
 
 behind-timeout : (t : Members)
-    → first_of (map (key_refusal t) (sbo_timeout_key ∷ travel_key ∷ [])) ≡ None
+    → first_fault (map (key_refusal t) (sbo_timeout_key ∷ travel_key ∷ [])) ≡ None
     → 1 ≤ number_in t (codes "travel_ms")
 behind-timeout t none =
     let rest = none-first (key_refusal t sbo_timeout_key) (key_refusal t travel_key ∷ []) none in
@@ -44,7 +44,7 @@ behind-timeout t none =
     (none-first (key_refusal t travel_key) [] rest.1).0
 
 by-control : (t : Members) (c : Option Control)
-    → first_of (map (key_refusal t) (time_keys c)) ≡ None
+    → first_fault (map (key_refusal t) (time_keys c)) ≡ None
     → is_controlled (unwrap_or c Status) ≡ true → 1 ≤ number_in t (codes "travel_ms")
 by-control t None none controlled = absurd cc
 by-control t (Some Status) none controlled = absurd cc
@@ -68,11 +68,11 @@ table-travels t none controlled =
 
 one-travels : (inputs : List (List ℕ)) (t : Members) (ss : List Switch)
     → entry_refusal (switch_keys t) t ≡ None
-    → AreTimed (controls_of inputs ss) → AreTimed (controls_of inputs (switch_in t ∷ ss))
+    → HaveTravelTime (controls_of inputs ss) → HaveTravelTime (controls_of inputs (switch_in t ∷ ss))
 one-travels inputs t ss none rest zero controlled = table-travels t none controlled
 one-travels inputs t ss none rest (suc k) controlled = rest k controlled
 
-none-travels : (inputs : List (List ℕ)) → AreTimed (controls_of inputs [])
+none-travels : (inputs : List (List ℕ)) → HaveTravelTime (controls_of inputs [])
 none-travels inputs zero controlled = absurd cc
 none-travels inputs (suc k) controlled = absurd cc
 
@@ -82,6 +82,6 @@ timed-bay text bay is read =
     record {
       sound = is;
       timed =
-          switches-pass (λ ss. AreTimed (controls_of bay.inputs ss)) (none-travels bay.inputs)
+          switches-pass (λ ss. HaveTravelTime (controls_of bay.inputs ss)) (none-travels bay.inputs)
           (one-travels bay.inputs) text bay read;
     }

@@ -5,14 +5,14 @@ use Rattle.std.proofs.lemmas.Grind.{common_steps}
 use Rattle.std.proofs.lemmas.List.{append_cancel_left}
 use Rattle.std.proofs.Math.Seq.{take-length}
 use Rattle.bay_transport.specs.Doings.{StreamState, Going, Over, Broken}
-use Rattle.bay_transport.specs.Feeding.{IsGoing}
-use Rattle.bay_connection.specs.ConnectionStates.{ConnectionState, Indication, answers, tells, releases, ends, fails, indications, connection_after}
+use Rattle.bay_transport.specs.Feeding.{AcceptsOctets}
+use Rattle.bay_connection.specs.ConnectionStates.{ConnectionState, Indication, answers, delivers, releases, ends, fails, indications, connection_after}
 use Rattle.bay_connection.specs.Feeding.{Completes, Feeds, FeedsFrom, IsContinued}
 use Rattle.bay_connection.proofs.CuttingLemmas.{indications-append, left_by-append}
 use Rattle.bay_connection.proofs.FeedingLemmas.{feeding-indications}
 use Rattle.bay_connection.proofs.GoingLemmas.{heard-going, nothing-going}
-use Rattle.bay_device.specs.Receiving.{Done, ReceiveResult, after_indications, on_indication}
-use Rattle.bay_device.specs.ReceivingViews.{ComesTo, IsContinuedIf, Moves, on_heard_if}
+use Rattle.bay_device.specs.Receiving.{StepState, ReceiveResult, after_indications, on_indication}
+use Rattle.bay_device.specs.ReceivingViews.{ResultsIn, IsContinuedIf, AdvancesTo, on_indication_if}
 use Rattle.bay_device.specs.declared.event.Why.{Why}
 use Rattle.bay_device.specs.declared.event.Why.TheVariants.{Ended, Fault, Memory}
 
@@ -21,14 +21,14 @@ next : Option ℕ → Option ℕ
 next None = None
 next (Some n) = Some (suc n)
 
-heard-next : (later : Option ℕ) (now a : ℕ) (i : Indication) (is : List Indication) (d : Done)
+heard-next : (later : Option ℕ) (now a : ℕ) (i : Indication) (is : List Indication) (d : StepState)
     → after_indications (next later) now a (i ∷ is) d
     ≡ on_indication now a i d (after_indications later now a is)
 unfolding next
 heard-next None now a i is d = refl
 heard-next (Some n) now a i is d = refl
 
-refused-here : (now a : ℕ) (is : List Indication) (d : Done)
+refused-here : (now a : ℕ) (is : List Indication) (d : StepState)
     → after_indications (Some 0) now a is d ≡ record { done = d; why = Some Memory }
 refused-here now a [] d = refl
 refused-here now a (i ∷ is) d = refl
@@ -36,13 +36,13 @@ refused-here now a (i ∷ is) d = refl
 -- ---- what was fed
 
 fed-some : (left : StreamState) (t : ConnectionState) (piece : List ℕ) (used : ℕ) (i : Indication)
-    → IsGoing left
+    → AcceptsOctets left
     → FeedsFrom left t piece used (Some i) → Completes t piece used i
 fed-some (Going connection rest) t piece used i going fed = fed
 fed-some Over t piece used i going fed = absurd going
 fed-some Broken t piece used i going fed = absurd going
 
-fed-none : (left : StreamState) (t : ConnectionState) (piece : List ℕ) (used : ℕ) → IsGoing left
+fed-none : (left : StreamState) (t : ConnectionState) (piece : List ℕ) (used : ℕ) → AcceptsOctets left
     → FeedsFrom left t piece used None → (used ≡ length piece) × (indications t piece ≡ [])
 fed-none (Going connection rest) t piece used going fed = fed
 fed-none Over t piece used going fed = absurd going
@@ -51,7 +51,7 @@ fed-none Broken t piece used going fed = absurd going
 comes-some : (t : ConnectionState) (piece : List ℕ) (used : ℕ) (i : Indication) → IsContinued i
     → Completes t piece used i → (0 < used) × (indications t (take used piece) ≡ i ∷ [])
 comes-some t piece used (answers octets) goes comes = (comes.moves, comes.does)
-comes-some t piece used (tells terms pdu) goes comes = (comes.moves, comes.does)
+comes-some t piece used (delivers terms pdu) goes comes = (comes.moves, comes.does)
 comes-some t piece used (releases octets) goes comes = absurd goes
 comes-some t piece used ends goes comes = absurd goes
 comes-some t piece used (fails code) goes comes = absurd goes
@@ -69,7 +69,7 @@ left-quiet t octets =
 -- ---- turns
 
 module _ (now a : ℕ) (old : ConnectionState) (rest : List ℕ) (used : ℕ) (new : ConnectionState)
-    (going : IsGoing old.stream.left) (left : new ≡ connection_after old (take used rest)) where
+    (going : AcceptsOctets old.stream.left) (left : new ≡ connection_after old (take used rest)) where
   pub used-some : (i : Option Indication) → 0 < length rest → Feeds old rest used i
       → IsContinuedIf i → 0 < used
   used-some None some fed goes = let all =
@@ -78,7 +78,7 @@ module _ (now a : ℕ) (old : ConnectionState) (rest : List ℕ) (used : ℕ) (n
       (comes-some old rest used i goes (fed-some old.stream.left old rest used i going fed)).0
 
   pub goes-on : (i : Option Indication) → Feeds old rest used i → IsContinuedIf i
-      → IsGoing new.stream.left
+      → AcceptsOctets new.stream.left
   goes-on None fed goes =
       let all = fed-none old.stream.left old rest used going fed in
       let whole : take used rest ≡ rest = ap (λ n. take n rest) all.0 ∙ take-length rest in
@@ -89,9 +89,9 @@ module _ (now a : ℕ) (old : ConnectionState) (rest : List ℕ) (used : ℕ) (n
       in
       rw left (heard-going old (take used rest) i does goes)
 
-  pub moves-heard : (i : Option Indication) (d e : Done) → Feeds old rest used i
-      → ((later : Done → ReceiveResult) → on_heard_if now a i d later ≡ later e)
-      → Moves now a old rest d new (drop used rest) e
+  pub moves-heard : (i : Option Indication) (d e : StepState) → Feeds old rest used i
+      → ((later : StepState → ReceiveResult) → on_indication_if now a i d later ≡ later e)
+      → AdvancesTo now a old rest d new (drop used rest) e
   moves-heard None d e fed done =
       let all = fed-none old.stream.left old rest used going fed in
       let whole : take used rest ≡ rest = ap (λ n. take n rest) all.0 ∙ take-length rest in
@@ -120,10 +120,10 @@ module _ (now a : ℕ) (old : ConnectionState) (rest : List ℕ) (used : ℕ) (n
       }
 
   -- the association is closed by what was heard, which is not want of memory
-  pub stops-heard : (i : Option Indication) (d e : Done) (why : Why) → Feeds old rest used i
-      → ((later : Done → ReceiveResult)
-      → on_heard_if now a i d later ≡ record { done = e; why = Some why })
-      → ComesTo now a old rest d (Some why) e
+  pub stops-heard : (i : Option Indication) (d e : StepState) (why : Why) → Feeds old rest used i
+      → ((later : StepState → ReceiveResult)
+      → on_indication_if now a i d later ≡ record { done = e; why = Some why })
+      → ResultsIn now a old rest d (Some why) e
   stops-heard None d e why fed done =
       let no : record { done = d; why = None }
       ≡ (let h : ReceiveResult = record { done = e; why = Some why } in h) =
@@ -141,33 +141,33 @@ module _ (now a : ℕ) (old : ConnectionState) (rest : List ℕ) (used : ℕ) (n
             ∙ done (after_indications None now a (indications new (drop used rest)));
       }
 
-pub stops-memory : (now a : ℕ) (old : ConnectionState) (octets : List ℕ) (d e : Done) → e ≡ d
-    → ComesTo now a old octets d (Some Memory) e
+pub stops-memory : (now a : ℕ) (old : ConnectionState) (octets : List ℕ) (d e : StepState) → e ≡ d
+    → ResultsIn now a old octets d (Some Memory) e
 stops-memory now a old octets d e is = record {
   choice = Some 0;
   is = refused-here now a (indications old octets) d
-      ∙ ap (λ (x : Done). record { done = x; why = Some Memory }) (sym is);
+      ∙ ap (λ (x : StepState). record { done = x; why = Some Memory }) (sym is);
 }
 
 -- why it is closed is want of memory, or something else
-pub stops-by : (now a : ℕ) (old : ConnectionState) (octets : List ℕ) (d e : Done) (why : Why)
-    → (why ≡ Memory → e ≡ d) → (why ≢ Memory → ComesTo now a old octets d (Some why) e)
-    → ComesTo now a old octets d (Some why) e
+pub stops-by : (now a : ℕ) (old : ConnectionState) (octets : List ℕ) (d e : StepState) (why : Why)
+    → (why ≡ Memory → e ≡ d) → (why ≢ Memory → ResultsIn now a old octets d (Some why) e)
+    → ResultsIn now a old octets d (Some why) e
 stops-by now a old octets d e Memory same stops = stops-memory now a old octets d e (same refl)
 stops-by now a old octets d e Ended same stops = stops (λ is. cc)
 stops-by now a old octets d e (Fault code) same stops = stops (λ is. cc)
 
 -- ---- all turns
 
-pub moves-none : (now a : ℕ) (old : ConnectionState) (octets : List ℕ) (d : Done)
-    → Moves now a old octets d old octets d
+pub moves-none : (now a : ℕ) (old : ConnectionState) (octets : List ℕ) (d : StepState)
+    → AdvancesTo now a old octets d old octets d
 moves-none now a old octets d = record { goes = λ later. (later, refl) }
 
-pub moves-on : (now a : ℕ) (old : ConnectionState) (octets : List ℕ) (d : Done)
+pub moves-on : (now a : ℕ) (old : ConnectionState) (octets : List ℕ) (d : StepState)
     (mid : ConnectionState) (middle : List ℕ)
-    (v : Done) (new : ConnectionState) (rest : List ℕ) (e : Done)
-    → Moves now a old octets d mid middle v → Moves now a mid middle v new rest e
-    → Moves now a old octets d new rest e
+    (v : StepState) (new : ConnectionState) (rest : List ℕ) (e : StepState)
+    → AdvancesTo now a old octets d mid middle v → AdvancesTo now a mid middle v new rest e
+    → AdvancesTo now a old octets d new rest e
 moves-on now a old octets d mid middle v new rest e first second = record {
   goes = λ later.
       let s = second.goes later in
@@ -175,19 +175,19 @@ moves-on now a old octets d mid middle v new rest e first second = record {
       (f.0, f.1 ∙ s.1);
 }
 
-pub stops-then : (now a : ℕ) (old : ConnectionState) (octets : List ℕ) (d : Done)
+pub stops-then : (now a : ℕ) (old : ConnectionState) (octets : List ℕ) (d : StepState)
     (mid : ConnectionState)
-    (middle : List ℕ) (v : Done) (why : Why) (e : Done)
-    → Moves now a old octets d mid middle v → ComesTo now a mid middle v (Some why) e
-    → ComesTo now a old octets d (Some why) e
+    (middle : List ℕ) (v : StepState) (why : Why) (e : StepState)
+    → AdvancesTo now a old octets d mid middle v → ResultsIn now a mid middle v (Some why) e
+    → ResultsIn now a old octets d (Some why) e
 stops-then now a old octets d mid middle v why e first stops =
     let f = first.goes stops.choice in
     record { choice = f.0; is = f.1 ∙ stops.is }
 
-pub ends-all : (now a : ℕ) (old : ConnectionState) (octets : List ℕ) (d : Done)
-    (new : ConnectionState) (e : Done)
-    → new ≡ connection_after old octets → Moves now a old octets d new [] e
-    → ComesTo now a old octets d None e
+pub ends-all : (now a : ℕ) (old : ConnectionState) (octets : List ℕ) (d : StepState)
+    (new : ConnectionState) (e : StepState)
+    → new ≡ connection_after old octets → AdvancesTo now a old octets d new [] e
+    → ResultsIn now a old octets d None e
 ends-all now a old octets d new e left moves =
     let m = moves.goes None in
     let quiet : indications new [] ≡ [] = rw left (left-quiet old octets) in

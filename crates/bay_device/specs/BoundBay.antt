@@ -7,14 +7,14 @@ use Rattle.bay_control.specs.Decisions.{controls_of, initial}
 use Rattle.bay_process.specs.Layout.{AreBound, AreMetersBound, layout_of, meters_of, switches_of}
 use Rattle.bay_process.specs.ReportedRows.{AreStored}
 use Rattle.bay_mms_services.specs.Bay.{rows_with_selection}
-use Rattle.bay_mms_services.specs.Released.{AreTimed}
+use Rattle.bay_mms_services.specs.Released.{HaveTravelTime}
 use Rattle.bay_mms_services.specs.Views.{bay_view}
 use Rattle.bay_device.specs.declared.initial.BoundBay.{BoundBay}
 
 -- A file describes the bay, and the travel time of each controlled switch is at least 1 ms.
 pub record IsTimedBay (bay : Bay) : Type 0 where
   pub sound : IsBay bay
-  pub timed : AreTimed (controls_of bay.inputs bay.switches)
+  pub timed : HaveTravelTime (controls_of bay.inputs bay.switches)
 
 -- The bay is bound, without a selection: clients see the contents of the file, its switches and
 -- meters have the rows with their names, and the text of the releases has the values of its rows.

@@ -18,9 +18,9 @@ use Rattle.il_image.specs.declared.value.Value.{Value}
 use Rattle.il_image.specs.declared.value.Value.TheVariants.{Truth, Long}
 use Rattle.il_scan.specs.Scans.{MachineData, outputs_of, scan_start}
 use Rattle.bay_process.specs.Names.{field_names}
-use Rattle.bay_process.specs.Values.{measure_leaf, number_of_leaf, position_leaf, position_value, rows_after_contact, rows_after_doubt, rows_after_measure, has_position, has_invalid_measure, has_measure, with_outputs}
+use Rattle.bay_process.specs.Values.{measure_leaf, number_of_leaf, position_leaf, position_value, rows_after_contact, rows_after_bad_measure, rows_after_measure, has_position, has_invalid_measure, has_measure, with_outputs}
 use Rattle.bay_control.specs.Decisions as control
-use Rattle.bay_control.specs.Decisions.{after_contact, is_done, run_out}
+use Rattle.bay_control.specs.Decisions.{after_contact, is_done, expired_switch}
 use Rattle.bay_connection.specs.ConnectionStates.{ConnectionState}
 use Rattle.bay_mms_services.specs.Bay.{Bay}
 use Rattle.bay_device.specs.declared.termination.PendingTermination.{PendingTermination}
@@ -53,7 +53,7 @@ pub record State : Type 0 where
   pub is_stale : Bool
   pub is_lost : Bool
   pub controls : control.State
-  pub due : Option PendingTermination
+  pub pending : Option PendingTermination
   pub connections : List (Option ConnectionState)
 
 -- the bay as clients see it and control it
@@ -101,26 +101,26 @@ sent_to a (Some octets) = Some (record { association = a; octets = octets })
 -- the report that a switch reached the requested position
 abbrev pub reached_report : Option PendingTermination → Option Sent
 reached_report None = None
-reached_report (Some due) = sent_to due.association due.positive
+reached_report (Some pending) = sent_to pending.association pending.positive
 
 -- the report that a switch did not reach the requested position in time
 abbrev pub missed_report : Option PendingTermination → Option Sent
 missed_report None = None
-missed_report (Some due) = sent_to due.association due.negative
+missed_report (Some pending) = sent_to pending.association pending.negative
 
 -- the switch whose execution has expired at a time
-abbrev pub over_at : ℕ → State → Option ℕ
-over_at now s = run_out now s.controls.controls s.controls.execution
+abbrev pub expired_at : ℕ → State → Option ℕ
+expired_at now s = expired_switch now s.controls.controls s.controls.execution
 
 -- the pending reports, unless an execution has expired
-abbrev pub due_unless : Option ℕ → Option PendingTermination → Option PendingTermination
-due_unless None due = due
-due_unless (Some switch) due = None
+abbrev pub pending_unless : Option ℕ → Option PendingTermination → Option PendingTermination
+pending_unless None pending = pending
+pending_unless (Some switch) pending = None
 
 -- the report that a switch did not reach the position in time, if its execution has expired
-abbrev pub missed_if : Option ℕ → Option PendingTermination → Option Sent
-missed_if None due = None
-missed_if (Some switch) due = missed_report due
+abbrev pub missed_report_if : Option ℕ → Option PendingTermination → Option Sent
+missed_report_if None pending = None
+missed_report_if (Some switch) pending = missed_report pending
 
 -- the device at a time, after the end of a selection and an execution that have expired
 abbrev pub device_at : ℕ → State → State
@@ -128,12 +128,12 @@ device_at now s =
     record s {
       controls = control.controls_at now s.controls;
       moment = now;
-      due = due_unless (over_at now s) s.due;
+      pending = pending_unless (expired_at now s) s.pending;
     }
 
 -- the report that the end of an expired execution sends
-abbrev pub ended_at : ℕ → State → Option Sent
-ended_at now s = missed_if (over_at now s) s.due
+abbrev pub expiry_report : ℕ → State → Option Sent
+expiry_report now s = missed_report_if (expired_at now s) s.pending
 
 -- ---- positions, inputs and measured values: one that changes a value or a quality makes the last
 -- scan stale, and after each of them the process is not lost
@@ -147,13 +147,13 @@ device_after_contact now k switch position s =
       is_stale = s.is_stale || not (has_position names.position position s.rows);
       is_lost = false;
       controls = after_contact k position s.controls;
-      due = if is_done k position s.controls.execution then None else s.due;
+      pending = if is_done k position s.controls.execution then None else s.pending;
     }
 
 -- the report that a switch reached the requested position with this reported position
-abbrev pub reached_at : ℕ → Dbpos → State → Option Sent
-reached_at k position s =
-    if is_done k position s.controls.execution then reached_report s.due else None
+abbrev pub reached_report_at : ℕ → Dbpos → State → Option Sent
+reached_report_at k position s =
+    if is_done k position s.controls.execution then reached_report s.pending else None
 
 -- the device after a reported value of an input; if it is another value, the last scan is stale
 abbrev pub device_after_input : ℕ → Bool → Bool → State → State
@@ -179,7 +179,7 @@ abbrev pub device_after_bad_measure : ℕ → ℕ → MeterField → State → S
 device_after_bad_measure now k field s =
     let names = field_names field (meter_names k) in
     record s {
-      rows = rows_after_doubt names now s.rows;
+      rows = rows_after_bad_measure names now s.rows;
       is_stale = s.is_stale || not (has_invalid_measure names s.rows);
       is_lost = false;
     }
@@ -234,16 +234,16 @@ abbrev pub inputs_of : State → List Value
 inputs_of s = map (point_value s) s.reads
 
 -- the slots and timers after a run of the program, and its number of steps
-pub record Ran : Type 0 where
+pub record RunResult : Type 0 where
   pub slots : List Value
   pub timers : List TimerState
   pub steps : ℕ
 
 -- the result of a run that halts; runs of verified code always halt
-abbrev pub ran_of : Ending → Ran
-ran_of (Halted slots timers steps) = record { slots = slots; timers = timers; steps = steps }
-ran_of (Trapped trap) = record { slots = []; timers = []; steps = 0 }
-ran_of Unfinished = record { slots = []; timers = []; steps = 0 }
+abbrev pub run_result_of : Ending → RunResult
+run_result_of (Halted slots timers steps) = record { slots = slots; timers = timers; steps = steps }
+run_result_of (Trapped trap) = record { slots = []; timers = []; steps = 0 }
+run_result_of Unfinished = record { slots = []; timers = []; steps = 0 }
 
 -- the run of the machine at a time, from the current values of the read-only points
 abbrev pub ending_at : ℕ → State → Ending
@@ -252,11 +252,11 @@ ending_at now s =
     (scan_start s.machine (inputs_of s)) 0
 
 -- the result of one run of the program on the current values
-abbrev pub ran_at : ℕ → State → Ran
-ran_at now s = ran_of (ending_at now s)
+abbrev pub run_result_at : ℕ → State → RunResult
+run_result_at now s = run_result_of (ending_at now s)
 
 -- the device after a run, with its interlocking values in the tree
-abbrev pub after_run : ℕ → Ran → State → State
+abbrev pub after_run : ℕ → RunResult → State → State
 after_run now ran s = record s {
   machine = record s.machine { slots = ran.slots; timers = ran.timers };
   rows = with_outputs s.switches s.writes (outputs_of s.machine.image.points ran.slots) now 0
@@ -268,4 +268,4 @@ after_run now ran s = record s {
 -- the device after a scan: the program has read its points and run once, and its outputs are the
 -- interlocking values
 abbrev pub after_scan : ℕ → State → State
-after_scan now s = after_run now (ran_at now s) s
+after_scan now s = after_run now (run_result_at now s) s

@@ -8,7 +8,7 @@ use Rattle.bay_nodes.specs.Names.{StatusNames, meter_names, position_names}
 use Rattle.bay_nodes.specs.Node.{class_of, node_name}
 use Rattle.bay_base.specs.declared.switch.SwitchKind.{SwitchKind}
 use Rattle.bay_process.specs.Names.{field_names}
-use Rattle.bay_tree.specs.Rows.{leaf_of}
+use Rattle.bay_tree.specs.Rows.{leaf_named}
 use Rattle.bay_tree.specs.declared.row.Row.{Row}
 use Rattle.il_image.specs.Images.{Image}
 use Rattle.bay_device.specs.Device.{State}
@@ -23,8 +23,8 @@ use Rattle.bay_device.specs.declared.fault.StepFault.{StepFault}
 
 -- The value and its quality are the same before and after.
 pub record IsSameStatus (names : StatusNames) (before after : List Row) : Type 0 where
-  pub value : leaf_of names.value after ≡ leaf_of names.value before
-  pub quality : leaf_of names.quality after ≡ leaf_of names.quality before
+  pub value : leaf_named names.value after ≡ leaf_named names.value before
+  pub quality : leaf_named names.quality after ≡ leaf_named names.quality before
 
 -- The values of the process are the same before and after: for each node XCBR and XSWI the position
 -- with its quality, each input, and for each meter each field with its quality.
@@ -38,17 +38,17 @@ pub record IsSameProcess (before after : State) : Type 0 where
 -- ---- past events
 
 -- an event at a time, its answer, and the device after it
-pub record Past : Type 0 where
+pub record PastEvent : Type 0 where
   pub now : ℕ
   pub event : Event
   pub answer : Result Step StepFault
   pub after : State
 
 -- The events since load that led to a device, for some bay and image; the last event comes first.
-abbrev pub Came : List Past → State → Type 0
-Came [] s = (bay : Bay) × (image : Image) × (s ≡ initial_device bay image)
-Came (p ∷ past) s = (s ≡ p.after)
-    × ((before : State) × Came past before × Steps p.now p.event before p.answer p.after)
+abbrev pub IsHistory : List PastEvent → State → Type 0
+IsHistory [] s = (bay : Bay) × (image : Image) × (s ≡ initial_device bay image)
+IsHistory (p ∷ past) s = (s ≡ p.after)
+    × ((before : State) × IsHistory past before × Steps p.now p.event before p.answer p.after)
 
 -- ---- the loss of the process
 
@@ -68,7 +68,7 @@ is_heard_after Scan before = before
 -- The process is heard after these events, the last of which comes first: since its last loss, if
 -- there was one, it reported a position, an input, or a measured value or its invalidity, and the
 -- report was accepted.
-abbrev pub is_heard : List Past → Bool
+abbrev pub is_heard : List PastEvent → Bool
 is_heard [] = true
 is_heard (p ∷ past) =
     if is_ok p.answer then is_heard_after p.event (is_heard past) else is_heard past
@@ -78,23 +78,23 @@ is_heard (p ∷ past) =
 -- Among these events is an accepted scan, at most `age` milliseconds before a time; after each
 -- event since, the process has the values that it had after the scan; and after all of them the
 -- process is heard.
-pub record HasScan (now age : ℕ) (past : List Past) : Type 0 where
-  pub since : List Past
-  pub scan : Past
-  pub earlier : List Past
+pub record HasScan (now age : ℕ) (past : List PastEvent) : Type 0 where
+  pub since : List PastEvent
+  pub scan : PastEvent
+  pub earlier : List PastEvent
   pub split : past ≡ since ++ scan ∷ earlier
   pub scanned : scan.event ≡ Scan
   pub done : IsOk scan.answer
   pub recent : now ≤ scan.now + age
-  pub unchanged : All (λ (p : Past). IsSameProcess scan.after p.after) since
+  pub unchanged : All (λ (p : PastEvent). IsSameProcess scan.after p.after) since
   pub heard : is_heard past ≡ true
 
 -- A step at a time has a command only if there is such a scan.
-abbrev pub IsFresh : ℕ → ℕ → List Past → Result Step StepFault → Type 0
+abbrev pub IsFresh : ℕ → ℕ → List PastEvent → Result Step StepFault → Type 0
 IsFresh now age past answer = IfOk answer (λ step. step.commands ≢ [] → HasScan now age past)
 
 -- The answer of an event has a command only after such a scan, whatever events since load led to
 -- the device before it.
 abbrev pub FreshAt : ℕ → Event → State → Result Step StepFault → State → Type 0
 FreshAt now event old answer new =
-    (past : List Past) → Came past old → IsFresh now old.scan_max_age_ms past answer
+    (past : List PastEvent) → IsHistory past old → IsFresh now old.scan_max_age_ms past answer

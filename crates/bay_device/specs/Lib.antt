@@ -23,7 +23,7 @@
 -- since which no value of the process has changed, and the process is not lost. `Remote`: if the
 -- switch has a key, the process has reported that it is at remote, and since then not that it is at
 -- local, nor was the process lost since. `Entries`: the requests on controls and which of them were
--- accepted, with the state of the device; `EntriesTold`: the same by events and answers alone,
+-- accepted, with the state of the device; `ObservedRuns`: the same by events and answers alone,
 -- through the layers of transport, session and presentation. These are the entries that `Backing`
 -- of bay_control is about. `LookUps`, `Table`: the indices of names. `Code` numbers the faults.
 -- `StateView`, `Connections` and `ReceivingViews` map the code's fields to the definitions.
@@ -57,4 +57,4 @@ pub mod Remote
 pub mod StateView
 pub mod Steps
 pub mod Table
-pub mod EntriesTold
+pub mod ObservedRuns

@@ -38,7 +38,7 @@ initial_device bay image = record {
   is_stale = false;
   is_lost = false;
   controls = initial (controls_of bay.inputs bay.switches);
-  due = None;
+  pending = None;
   connections = replicate associations None;
 }
 
@@ -52,19 +52,19 @@ fault_of (Some code) line = Refused code line
 fault_of None line = OutOfMemory
 
 -- the number and the line of a load's error
-abbrev pub refusal_of : LoadError → LoadFault
-refusal_of error = fault_of (code_of error) (line_of error)
+abbrev pub load_fault_of : LoadError → LoadFault
+load_fault_of error = fault_of (code_of error) (line_of error)
 
 -- the device of a load, or the refusal
 abbrev pub device_from : Result LoadData LoadError → Result State LoadFault
 device_from (Ok loaded) = Ok (device_of loaded)
-device_from (Err error) = Err (refusal_of error)
+device_from (Err error) = Err (load_fault_of error)
 
 -- The device is that of a possible result of the load, or the fault is the refusal of one.
 abbrev pub LoadsAs : (Result LoadData LoadError → Type 0) → Result State LoadFault → Type 0
 LoadsAs IsResult (Ok s) = (loaded : LoadData) × IsResult (Ok loaded) × (s ≡ device_of loaded)
 LoadsAs IsResult (Err fault) =
-    (error : LoadError) × IsResult (Err error) × (fault ≡ refusal_of error)
+    (error : LoadError) × IsResult (Err error) × (fault ≡ load_fault_of error)
 
 -- the device of the octets of a bay file and of a program or an image
 abbrev pub LoadsDevice : List ℕ → Form → List ℕ → State → Type 0

@@ -1,6 +1,6 @@
 -- The results of a device's look-ups.
 use Rattle.std.specs.Prelude.{ℕ, ◌+◌, Bool, true, nat_lt, List, [], ◌∷◌, ◌++◌, length, position, Option, None, Some, option_map, if◌then◌else◌}
-use Rattle.bay_tree.specs.Rows.{leaf_of}
+use Rattle.bay_tree.specs.Rows.{leaf_named}
 use Rattle.bay_tree.specs.declared.leaf.Leaf.{Leaf}
 use Rattle.bay_base.specs.Names.{same_name}
 use Rattle.bay_control.specs.declared.selection.Execution.{Execution}
@@ -8,7 +8,7 @@ use Rattle.bay_device.specs.Device.{State}
 use Rattle.bay_nodes.specs.declared.switch.Switch.{Switch}
 use Rattle.bay_process.specs.Releases.{switch_text}
 use Rattle.bay_process.specs.Values.{is_truth}
-use Rattle.bay_nodes.specs.Names.{StatusNames, control_of, opening_of, closing_of, position_names}
+use Rattle.bay_nodes.specs.Names.{StatusNames, cswi_name, opening_names_at, closing_names_at, position_names}
 
 -- the index of the switch with an id, whatever the case of its letters
 abbrev pub switch_index : State → List ℕ → Option ℕ
@@ -24,15 +24,15 @@ meter_index s id = position (λ m. same_name m id) s.meters
 
 -- an interlocking value, by its names
 abbrev pub is_enabled : State → StatusNames → Bool
-is_enabled s names = is_truth true (leaf_of names.value s.rows)
+is_enabled s names = is_truth true (leaf_named names.value s.rows)
 
 -- the switch at index k may be opened
 abbrev pub may_open : State → ℕ → Bool
-may_open s k = is_enabled s (opening_of k)
+may_open s k = is_enabled s (opening_names_at k)
 
 -- the switch at index k may be closed
 abbrev pub may_close : State → ℕ → Bool
-may_close s k = is_enabled s (closing_of k)
+may_close s k = is_enabled s (closing_names_at k)
 
 -- both releases of the switch at an index, if there is one
 abbrev pub enabled_of : State → ℕ → Option (Bool × Bool)
@@ -53,7 +53,7 @@ switches_text s k (switch ∷ switches) =
 -- is such a switch
 abbrev pub position_of : State → ℕ → Option Leaf
 position_of s k =
-    if nat_lt k (length s.switches) then leaf_of (position_names (control_of k)).value s.rows
+    if nat_lt k (length s.switches) then leaf_named (position_names (cswi_name k)).value s.rows
     else None
 
 -- the switch that is operating

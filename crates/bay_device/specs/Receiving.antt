@@ -2,8 +2,8 @@
 use Rattle.std.specs.Prelude.{ℕ, zero, suc, List, [], ◌∷◌, ◌++◌, map, Option, None, Some}
 use Rattle.bay_assoc.specs.Receives.{association_terms}
 use Rattle.bay_assoc.specs.declared.receive.AssociationTerms.{AssociationTerms}
-use Rattle.bay_connection.specs.ConnectionStates.{Indication, answers, tells, releases, ends, fails, Terms, octets_to_send}
-use Rattle.bay_mms_services.specs.Answers.{Answered, pdu_answer}
+use Rattle.bay_connection.specs.ConnectionStates.{Indication, answers, delivers, releases, ends, fails, Terms, octets_to_send}
+use Rattle.bay_mms_services.specs.Answers.{AnswerData, pdu_answer}
 use Rattle.bay_mms_services.specs.declared.answer.Command.{Command}
 use Rattle.bay_mms_services.specs.declared.answer.ControlDecision.{ControlDecision}
 use Rattle.bay_mms_services.specs.declared.answer.TerminationReports.{TerminationReports}
@@ -16,7 +16,7 @@ use Rattle.bay_device.specs.declared.event.Why.TheVariants.{Ended, Fault, Memory
 
 -- the device, and the effects of an event so far: the octets to send, the commands to issue, and
 -- the decisions on controls
-pub record Done : Type 0 where
+pub record StepState : Type 0 where
   pub state : State
   pub sent : List Sent
   pub commands : List Command
@@ -27,7 +27,7 @@ abbrev pub sent_on : ℕ → List ℕ → Sent
 sent_on a octets = record { association = a; octets = octets }
 
 -- the result so far, with octets to send on an association added
-abbrev pub with_sent : ℕ → List ℕ → Done → Done
+abbrev pub with_sent : ℕ → List ℕ → StepState → StepState
 with_sent a octets d = record d { sent = d.sent ++ sent_on a octets ∷ [] }
 
 -- the agreed size of a PDU; 0 if the association is not open
@@ -52,8 +52,8 @@ sending_if terms None = None
 sending_if terms (Some pdu) = Some (octets_to_send terms pdu)
 
 -- the pending reports for the end of an operate
-abbrev pub due_of : ℕ → Terms → TerminationReports → PendingTermination
-due_of a terms e =
+abbrev pub pending_of : ℕ → Terms → TerminationReports → PendingTermination
+pending_of a terms e =
     record {
       association = a;
       positive = sending_if terms e.positive;
@@ -61,41 +61,41 @@ due_of a terms e =
     }
 
 -- the pending reports for the end of an operate, if there are reports
-abbrev pub due_if : ℕ → Terms → Option TerminationReports → Option PendingTermination
-due_if a terms None = None
-due_if a terms (Some e) = Some (due_of a terms e)
+abbrev pub pending_if : ℕ → Terms → Option TerminationReports → Option PendingTermination
+pending_if a terms None = None
+pending_if a terms (Some e) = Some (pending_of a terms e)
 
 -- the pending reports of a new execution replace the previous ones
-abbrev pub later_due : Option PendingTermination → Option PendingTermination
+abbrev pub later_pending : Option PendingTermination → Option PendingTermination
     → Option PendingTermination
-later_due due None = due
-later_due due (Some new) = Some new
+later_pending pending None = pending
+later_pending pending (Some new) = Some new
 
 -- the result of an answered PDU: each PDU of its answer is sent
-abbrev pub answered_with : ℕ → Terms → Answered → Done → Done
+abbrev pub answered_with : ℕ → Terms → AnswerData → StepState → StepState
 answered_with a terms x d = record {
   state = record (with_bay x.after d.state)
-      { due = later_due d.state.due (due_if a terms x.ending) };
+      { pending = later_pending d.state.pending (pending_if a terms x.termination) };
   sent = d.sent ++ map (λ pdu. sent_on a (octets_to_send terms pdu)) x.sent;
   commands = d.commands ++ x.commands;
   decisions = d.decisions ++ x.decisions;
 }
 
 -- the result after a PDU of a client is answered and carried out
-abbrev pub after_pdu : ℕ → ℕ → Terms → List ℕ → Done → Done
+abbrev pub after_pdu : ℕ → ℕ → Terms → List ℕ → StepState → StepState
 after_pdu now a terms pdu d =
     answered_with a terms (pdu_answer (client_at now a terms d.state) pdu (bay_of d.state)) d
 
 -- the result of octets, and why the association is closed, if it is
 pub record ReceiveResult : Type 0 where
-  pub done : Done
+  pub done : StepState
   pub why : Option Why
 
 -- the result of one indication and then of the later ones; none follow a release, an end and a
 -- fault
-abbrev pub on_indication : ℕ → ℕ → Indication → Done → (Done → ReceiveResult) → ReceiveResult
+abbrev pub on_indication : ℕ → ℕ → Indication → StepState → (StepState → ReceiveResult) → ReceiveResult
 on_indication now a (answers octets) d later = later (with_sent a octets d)
-on_indication now a (tells terms pdu) d later = later (after_pdu now a terms pdu d)
+on_indication now a (delivers terms pdu) d later = later (after_pdu now a terms pdu d)
 on_indication now a (releases octets) d later =
     record { done = with_sent a octets d; why = Some Ended }
 on_indication now a ends d later = record { done = d; why = Some Ended }
@@ -103,7 +103,7 @@ on_indication now a (fails code) d later = record { done = d; why = Some (Fault 
 
 -- The result of all indications, in their order. The first argument is the free choice: None, no
 -- allocation fails; Some n, one fails after n indications.
-abbrev pub after_indications : Option ℕ → ℕ → ℕ → List Indication → Done → ReceiveResult
+abbrev pub after_indications : Option ℕ → ℕ → ℕ → List Indication → StepState → ReceiveResult
 after_indications None now a [] d = record { done = d; why = None }
 after_indications None now a (i ∷ is) d = on_indication now a i d (after_indications None now a is)
 after_indications (Some zero) now a is d = record { done = d; why = Some Memory }

@@ -27,6 +27,6 @@ state_view connections d = record {
   is_stale = d.is_stale;
   is_lost = d.is_lost;
   controls = controls_view d.bay d.bay.controls;
-  due = d.due;
+  pending = d.pending;
   connections = connections;
 }

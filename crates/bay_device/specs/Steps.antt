@@ -3,10 +3,10 @@ use Rattle.std.specs.Prelude.{ℕ, ◌≡◌, List, [], ◌∷◌, Option, Some,
 use Rattle.bay_connection.specs.ConnectionStates.{ConnectionState, indications, connection_after}
 use Rattle.bay_device.specs.Device.{State}
 use Rattle.bay_device.specs.Receiving.{after_indications}
-use Rattle.bay_device.specs.Outcomes.{Outcome, connection_at, nothing_done, outcome, slot_of, quiet_step, recv_done, recv_outcome, scan_step}
+use Rattle.bay_device.specs.Outcomes.{Outcome, connection_at, step_start, outcome, slot_of, quiet_step, recv_done, recv_outcome, scan_step}
 use Rattle.bay_device.specs.declared.event.Event.{Event}
 use Rattle.bay_device.specs.declared.event.Event.TheVariants.{Open, Recv, Close, Contact, Input, Measure, BadMeasure, Lost, Scan}
-use Rattle.bay_device.specs.declared.event.Scanned.{Scanned}
+use Rattle.bay_device.specs.declared.event.ScanResult.{ScanResult}
 use Rattle.bay_device.specs.declared.event.Sent.{Sent}
 use Rattle.bay_device.specs.declared.event.Step.{Step}
 use Rattle.bay_device.specs.declared.fault.StepFault.{StepFault}
@@ -28,7 +28,7 @@ pub record IsQuiet (answer : Result (Option Sent) StepFault) (new : State) (o : 
   pub left : new ≡ o.after
 
 -- an answer that has nothing but the result of a scan
-abbrev pub scan_answer : Result Scanned StepFault → Result Step StepFault
+abbrev pub scan_answer : Result ScanResult StepFault → Result Step StepFault
 scan_answer (Ok scanned) = Ok (scan_step scanned)
 scan_answer (Err fault) = Err fault
 
@@ -52,20 +52,20 @@ pub record Receives (now a : ℕ) (octets : List ℕ) (old : State) (answer : Re
 -- Octets of an open association have this answer and lead to this device, for some choice, after
 -- the end of what has expired, of which `ended` is the report.
 pub record HandlesOctetsFrom (now a : ℕ) (octets : List ℕ) (ended : Option Sent) (s : State)
-    (talk : ConnectionState)
+    (connection : ConnectionState)
     (step : Step) (new : State) : Type 0 where
   pub choice : Option ℕ
   pub answered : (let answer : Result Step StepFault = Ok step in answer)
-      ≡ (recv_done a (connection_after talk octets) ended
-      (after_indications choice now a (indications talk octets) (nothing_done s))).answer
-  pub left : new ≡ (recv_done a (connection_after talk octets) ended
-      (after_indications choice now a (indications talk octets) (nothing_done s))).after
+      ≡ (recv_done a (connection_after connection octets) ended
+      (after_indications choice now a (indications connection octets) (step_start s))).answer
+  pub left : new ≡ (recv_done a (connection_after connection octets) ended
+      (after_indications choice now a (indications connection octets) (step_start s))).after
 
 -- Octets of an open association have this answer, from the state of its connection.
 abbrev pub HandlesOctets : ℕ → ℕ → List ℕ → Option Sent → State → Step → State → Type 0
 HandlesOctets now a octets ended s step new =
-    (talk : ConnectionState) → connection_at (slot_of a) s ≡ Some talk
-    → HandlesOctetsFrom now a octets ended s talk step new
+    (connection : ConnectionState) → connection_at (slot_of a) s ≡ Some connection
+    → HandlesOctetsFrom now a octets ended s connection step new
 
 -- an event of an association
 abbrev pub OfAssociation : Event → Type 0

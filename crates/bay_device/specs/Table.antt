@@ -15,14 +15,14 @@ key_of name = fold key_after 0 name
 
 -- the table with one more name
 abbrev pub with_index_of : ℕ → ℕ → List ℕ → List ℕ
-with_index_of key place firsts =
-    if nat_lt place (get_or firsts key 0) then slice_set firsts key place else firsts
+with_index_of key index firsts =
+    if nat_lt index (get_or firsts key 0) then slice_set firsts key index else firsts
 
 -- no name has an index below that of its key, and no index in the table exceeds the number of names
 pub record IsTable (names : List (List ℕ)) (firsts : List ℕ) : Type 0 where
   pub within : (key : ℕ) → key < 64 → get_or firsts key 0 ≤ length names
-  pub first : (place : ℕ) (name : List ℕ) → slice_get names place ≡ Some name
-      → get_or firsts (key_of name) 0 ≤ place
+  pub first : (index : ℕ) (name : List ℕ) → slice_get names index ≡ Some name
+      → get_or firsts (key_of name) 0 ≤ index
 
 -- the tables of the ids of switches, the names of inputs and the ids of meters
 pub record AreTables (switches : List BoundSwitch) (inputs : List (List ℕ))

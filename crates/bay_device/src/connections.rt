@@ -1,6 +1,6 @@
 // The connections of a device's eight associations, each in its slot.
 ghost use Rattle.std.specs.Prelude.{◌≡◌, ◌<◌, None, IfSome, is_none, is_some, length, position, replicate, slice_get, slice_index_or, slice_set, unwrap_or};
-ghost use Rattle.bay_transport.specs.Feeding.{IsGoing};
+ghost use Rattle.bay_transport.specs.Feeding.{AcceptsOctets};
 ghost use Rattle.bay_device.specs.Connections.{state_without_pdu};
 ghost use Rattle.bay_device.specs.Outcomes.{associations};
 
@@ -12,7 +12,7 @@ use std::marker::Model;
 /// each connection.
 #[derive(Drop)]
 pub struct Connections {
-    places: [Option<Connection>; ASSOCIATIONS],
+    slots: [Option<Connection>; ASSOCIATIONS],
 }
 
 impl Model for Connections {
@@ -22,38 +22,38 @@ impl Model for Connections {
 
     ghost Value = { List (Option ConnectionState) };
 
-    ghost view = { λ c. connection_states c.places };
+    ghost view = { λ c. connection_states c.slots };
 
-    ghost invariant = { λ c. AreEight (connection_states c.places) };
+    ghost invariant = { λ c. AreEight (connection_states c.slots) };
 }
 
 // Returns the lowest slot without a connection; `None` if there is none.
-fn free_slot_in(places: &[Option<Connection>; ASSOCIATIONS]) -> Option<usize>
-    ensures lowest { result ≡ position is_none places.now }
-    ensures within { IfSome result (λ place. place < associations) }
+fn free_slot_in(slots: &[Option<Connection>; ASSOCIATIONS]) -> Option<usize>
+    ensures lowest { result ≡ position is_none slots.now }
+    ensures within { IfSome result (λ slot. slot < associations) }
 {
-    places.iter().position(|place| place.is_none())
+    slots.iter().position(|slot| slot.is_none())
 }
 
 // Removes and returns the connection in a slot.
-fn take_at(places: &mut [Option<Connection>; ASSOCIATIONS], place: usize) -> Option<Connection>
-    requires { place < associations }
-    ensures value { result ≡ slice_index_or places.old place None }
-    ensures rest { places.new ≡ slice_set places.old place None }
+fn take_at(slots: &mut [Option<Connection>; ASSOCIATIONS], slot: usize) -> Option<Connection>
+    requires { slot < associations }
+    ensures value { result ≡ slice_index_or slots.old slot None }
+    ensures rest { slots.new ≡ slice_set slots.old slot None }
 {
-    places[place].take()
+    slots[slot].take()
 }
 
 // Puts a connection, or none, into a slot.
 fn put_at(
-    places: &mut [Option<Connection>; ASSOCIATIONS],
-    place: usize,
+    slots: &mut [Option<Connection>; ASSOCIATIONS],
+    slot: usize,
     connection: Option<Connection>,
 )
-    requires { place < associations }
-    ensures { places.new ≡ slice_set places.old place connection }
+    requires { slot < associations }
+    ensures { slots.new ≡ slice_set slots.old slot connection }
 {
-    places[place] = connection;
+    slots[slot] = connection;
 }
 
 impl Connections {
@@ -62,7 +62,7 @@ impl Connections {
         ensures { result ≡ replicate associations None }
     {
         Connections {
-            places: [None, None, None, None, None, None, None, None],
+            slots: [None, None, None, None, None, None, None, None],
         }
     }
 
@@ -70,41 +70,41 @@ impl Connections {
     pub fn are_eight(&self)
         ensures { length self.now ≡ associations }
     {
-        let _ = &self.places;
+        let _ = &self.slots;
     }
 
     /// Returns whether the association with this slot is open.
-    pub fn is_open(&self, place: usize) -> bool
-        requires { place < associations }
-        ensures { result ≡ is_some (unwrap_or (slice_get self.now place) None) }
+    pub fn is_open(&self, slot: usize) -> bool
+        requires { slot < associations }
+        ensures { result ≡ is_some (unwrap_or (slice_get self.now slot) None) }
     {
-        self.places[place].is_some()
+        self.slots[slot].is_some()
     }
 
     /// Returns the lowest slot without an open association; `None` if all are open.
     pub fn free_slot(&self) -> Option<usize>
         ensures lowest { result ≡ position is_none self.now }
-        ensures within { IfSome result (λ place. place < associations) }
+        ensures within { IfSome result (λ slot. slot < associations) }
     {
-        free_slot_in(&self.places)
+        free_slot_in(&self.slots)
     }
 
     /// Removes and returns the connection in a slot; its association is then not open.
-    pub fn take(&mut self, place: usize) -> Option<Connection>
-        requires { place < associations }
-        ensures value { state_without_pdu result ≡ unwrap_or (slice_get self.old place) None }
-        ensures rest { self.new ≡ slice_set self.old place None }
-        ensures going { IfSome result (λ c. IsGoing c.talk.stream.left) }
+    pub fn take(&mut self, slot: usize) -> Option<Connection>
+        requires { slot < associations }
+        ensures value { state_without_pdu result ≡ unwrap_or (slice_get self.old slot) None }
+        ensures rest { self.new ≡ slice_set self.old slot None }
+        ensures going { IfSome result (λ c. AcceptsOctets c.state.stream.left) }
     {
-        take_at(&mut self.places, place)
+        take_at(&mut self.slots, slot)
     }
 
     /// Puts a connection, or none, into a slot.
-    pub fn put(&mut self, place: usize, connection: Option<Connection>)
-        requires within { place < associations }
-        requires going { IfSome connection (λ c. IsGoing c.talk.stream.left) }
-        ensures { self.new ≡ slice_set self.old place (state_without_pdu connection) }
+    pub fn put(&mut self, slot: usize, connection: Option<Connection>)
+        requires within { slot < associations }
+        requires going { IfSome connection (λ c. AcceptsOctets c.state.stream.left) }
+        ensures { self.new ≡ slice_set self.old slot (state_without_pdu connection) }
     {
-        put_at(&mut self.places, place, connection);
+        put_at(&mut self.slots, slot, connection);
     }
 }

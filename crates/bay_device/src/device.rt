@@ -1,10 +1,10 @@
 // The device: one bay, stepped by events.
 ghost use Rattle.std.specs.Prelude.{◌≡◌, ◌+◌, ◌<◌, ◌≤◌, ◌++◌, [], codes, None, Ok, Option, Some, All, ℕ, length, slice_get, option_map, position, replicate, IfOk, IfSome, IsSome, MatchResult, OnErr, is_err, is_none, is_some};
 ghost use Rattle.bay_control.specs.Backing.{AreBacked};
-ghost use Rattle.bay_mms_services.specs.Accepted.{AreNamedAlike};
+ghost use Rattle.bay_mms_services.specs.ObservedEntries.{AreNamedAlike};
 ghost use Rattle.bay_mms_services.specs.Bay.{Bay};
-ghost use Rattle.bay_mms_services.specs.Released.{AreTimed};
-ghost use Rattle.bay_transport.specs.Feeding.{IsGoing};
+ghost use Rattle.bay_mms_services.specs.Released.{HaveTravelTime};
+ghost use Rattle.bay_transport.specs.Feeding.{AcceptsOctets};
 ghost use Rattle.il_check.specs.Program.{Checked};
 ghost use Rattle.il_image.specs.Images.{image_octets};
 ghost use Rattle.il_image.specs.declared.opcode.Version.TheVariants.{Two};
@@ -12,26 +12,26 @@ ghost use Rattle.bay_load.specs.Report.{IsReport};
 ghost use Rattle.bay_device.specs.Commands.{CommandsReleased, IsSingle};
 ghost use Rattle.bay_device.specs.Device as spec_device;
 ghost use Rattle.bay_device.specs.Device.{bay_of};
-ghost use Rattle.bay_device.specs.Entries.{IsIdle, Leading};
+ghost use Rattle.bay_device.specs.Entries.{IsIdle, LeadsByChoice};
 ghost use Rattle.bay_device.specs.Fresh.{FreshAt};
 ghost use Rattle.bay_device.specs.Load.{device_of};
 ghost use Rattle.bay_device.specs.LookUps.{switch_index, input_index, meter_index, enabled_of, operating_in, position_of, switches_text};
 ghost use Rattle.bay_device.specs.Meaning.{HaltsAt, MeansAt, Runs, is_refused};
 ghost use Rattle.bay_device.specs.Operates.{AllOperate, AreOperates};
-ghost use Rattle.bay_device.specs.Outcomes.{associations, connection_at, event_outcome, outcome, recv_after, refusal_of, without_connection};
+ghost use Rattle.bay_device.specs.Outcomes.{associations, connection_at, event_outcome, outcome, recv_after, refusal_outcome, without_connection};
 ghost use Rattle.bay_device.specs.Outcomes as spec;
 ghost use Rattle.bay_device.specs.Remote.{RemoteAt};
 ghost use Rattle.bay_device.specs.StateView.{state_view};
 ghost use Rattle.bay_device.specs.Steps.{EachStep, IsOutcome, HandlesOctets, IsWithoutOctets, Receives, Steps, quiet_answer, scan_answer};
-ghost use Rattle.bay_device.specs.EntriesTold.{AreAgreed, EntriesLead, entries_of_run};
+ghost use Rattle.bay_device.specs.ObservedRuns.{HaveAgreedSize, EntriesLead, observed_in_run};
 ghost use Rattle.bay_tree.specs.declared.leaf.Leaf.TheVariants as leaf;
 ghost use Rattle.bay_device.specs.declared.event.Event.{Event};
 ghost use Rattle.bay_device.specs.declared.event.Event.TheVariants.{Open, Recv, Close, Contact, Input, Measure, BadMeasure, Lost, Scan};
 
 use crate::connections::Connections;
-use crate::event::{Event, LAST_MOMENT, Scanned, Sent, Step, Why, association_slot, closed_by};
+use crate::event::{Event, LAST_MOMENT, ScanResult, Sent, Step, Why, association_slot, closed_by};
 use crate::fault::StepFault;
-use crate::initial::state_of;
+use crate::initial::make_state;
 use crate::message::EventEffects;
 use crate::octets::handle_octets;
 use crate::state::DeviceState;
@@ -79,7 +79,7 @@ impl Device {
         ensures idle { IfOk result IsIdle }
     {
         let (bay, verified) = loaded.into_parts();
-        let state = state_of(alloc, bay, verified)?;
+        let state = make_state(alloc, bay, verified)?;
         let connections = Box::new(alloc, Connections::new())?;
         Ok(Device {
             alloc,
@@ -129,25 +129,25 @@ impl Device {
     fn open(&mut self, now: u64, association: u16) -> Result<Step, StepFault>
         ensures { IsOutcome (event_outcome None now (Open association) self.old) result self.new }
     {
-        let place = match association_slot(association) {
-            Some(place) => place,
+        let slot = match association_slot(association) {
+            Some(slot) => slot,
             None => return Err(StepFault::NoSuchAssociation),
         };
-        if self.connections.is_open(place) {
+        if self.connections.is_open(slot) {
             return Err(StepFault::AlreadyOpen);
         }
         let ended = self.state.advance(now);
         let connection = Connection::new(self.alloc, association);
-        self.connections.put(place, Some(connection));
+        self.connections.put(slot, Some(connection));
         Ok(self.quiet(ended))
     }
 
     // Closes an association, and ends its selection.
-    fn drop_connection(&mut self, association: u16, place: usize)
-        requires { spec.slot_of association ≡ Some place }
+    fn drop_connection(&mut self, association: u16, slot: usize)
+        requires { spec.slot_of association ≡ Some slot }
         ensures { self.new ≡ without_connection association self.old }
     {
-        self.connections.put(place, None);
+        self.connections.put(slot, None);
         self.state.drop_owner(association);
     }
 
@@ -155,27 +155,27 @@ impl Device {
     fn close(&mut self, now: u64, association: u16) -> Result<Step, StepFault>
         ensures { IsOutcome (event_outcome None now (Close association) self.old) result self.new }
     {
-        let place = match association_slot(association) {
-            Some(place) => place,
+        let slot = match association_slot(association) {
+            Some(slot) => slot,
             None => return Err(StepFault::NoSuchAssociation),
         };
-        if !self.connections.is_open(place) {
+        if !self.connections.is_open(slot) {
             return Err(StepFault::NoSuchAssociation);
         }
         let ended = self.state.advance(now);
-        self.drop_connection(association, place);
+        self.drop_connection(association, slot);
         Ok(self.quiet(ended))
     }
 
     // Puts the connection of an association back, or closes the association.
-    fn finish(&mut self, association: u16, place: usize, connection: Connection, why: Option<Why>)
-        requires here { spec.slot_of association ≡ Some place }
-        requires going { why ≡ None → IsGoing connection.talk.stream.left }
-        ensures { self.new ≡ recv_after association connection.talk self.old why }
+    fn finish(&mut self, association: u16, slot: usize, connection: Connection, why: Option<Why>)
+        requires here { spec.slot_of association ≡ Some slot }
+        requires going { why ≡ None → AcceptsOctets connection.state.stream.left }
+        ensures { self.new ≡ recv_after association connection.state self.old why }
     {
         match why {
-            None => self.connections.put(place, Some(connection)),
-            Some(_) => self.drop_connection(association, place),
+            None => self.connections.put(slot, Some(connection)),
+            Some(_) => self.drop_connection(association, slot),
         }
     }
 
@@ -184,20 +184,20 @@ impl Device {
         &mut self,
         now: u64,
         association: u16,
-        place: usize,
+        slot: usize,
         octets: &[u8],
         ended: Option<Sent>,
     ) -> Step
-        requires here { spec.slot_of association ≡ Some place }
-        requires open { IsSome (connection_at (Some place) self.old) }
+        requires here { spec.slot_of association ≡ Some slot }
+        requires open { IsSome (connection_at (Some slot) self.old) }
         requires some { 0 < length octets.now }
         ensures { HandlesOctets now association octets.now ended self.old result self.new }
     {
-        let mut connection = match self.connections.take(place) {
+        let mut connection = match self.connections.take(slot) {
             Some(connection) => connection,
             None => unreachable!(),
         };
-        let mut made = EventEffects::new(self.alloc);
+        let mut effects = EventEffects::new(self.alloc);
         let why = handle_octets(
             self.alloc,
             now,
@@ -205,15 +205,15 @@ impl Device {
             &mut self.state,
             &mut connection,
             octets,
-            &mut made,
+            &mut effects,
         )
         .err();
-        self.finish(association, place, connection, why);
+        self.finish(association, slot, connection, why);
         Step {
             ended,
-            sent: Listing::new(made.sent),
-            commands: Listing::new(made.commands),
-            decisions: Listing::new(made.decisions),
+            sent: Listing::new(effects.sent),
+            commands: Listing::new(effects.commands),
+            decisions: Listing::new(effects.decisions),
             closed: closed_by(association, why),
             scan: None,
         }
@@ -223,18 +223,18 @@ impl Device {
     fn recv(&mut self, now: u64, association: u16, octets: &[u8]) -> Result<Step, StepFault>
         ensures { Receives now association octets.now self.old result self.new }
     {
-        let place = match association_slot(association) {
-            Some(place) => place,
+        let slot = match association_slot(association) {
+            Some(slot) => slot,
             None => return Err(StepFault::NoSuchAssociation),
         };
-        if !self.connections.is_open(place) {
+        if !self.connections.is_open(slot) {
             return Err(StepFault::NoSuchAssociation);
         }
         let ended = self.state.advance(now);
         if octets.is_empty() {
             return Ok(self.quiet(ended));
         }
-        Ok(self.receive_octets(now, association, place, octets, ended))
+        Ok(self.receive_octets(now, association, slot, octets, ended))
     }
 
     // Handles the reported position of the switch at an index.
@@ -247,7 +247,7 @@ impl Device {
     }
 
     // Handles the reported value of the input at an index.
-    fn take_input(&mut self, now: u64, input: usize, value: bool) -> Result<Step, StepFault>
+    fn handle_input(&mut self, now: u64, input: usize, value: bool) -> Result<Step, StepFault>
         ensures { IsOutcome (event_outcome None now (Input input value) self.old) result self.new }
     {
         let ended = self.state.input(now, input, value)?;
@@ -287,14 +287,14 @@ impl Device {
     }
 
     // Runs the program once.
-    fn do_scan(&mut self, now: u64) -> Scanned
+    fn do_scan(&mut self, now: u64) -> ScanResult
         ensures gives { IsOutcome (event_outcome None now Scan self.old)
             (Ok (spec.scan_step result)) self.new }
         ensures halts { HaltsAt now Scan self.old (Ok (spec.scan_step result)) self.new }
     {
         let ended = self.state.advance(now);
         let steps = self.state.scan(now);
-        Scanned { ended, steps }
+        ScanResult { ended, steps }
     }
 
     // Runs the program once, as a step.
@@ -312,8 +312,8 @@ impl Device {
     // States that there is a slot for each association's connection, and that the travel time of
     // each controlled switch is at least 1 ms. Has no effect; callers use its contract.
     fn is_sound(&self)
-        ensures places { length self.now.connections ≡ associations }
-        ensures timed { AreTimed self.now.controls.controls }
+        ensures slots { length self.now.connections ≡ associations }
+        ensures timed { HaveTravelTime self.now.controls.controls }
     {
         self.connections.are_eight();
     }
@@ -322,7 +322,7 @@ impl Device {
     fn admit(&self, now: u64) -> Result<(), StepFault>
         ensures outcome { (choice : Option ℕ) (event : Event) → MatchResult result
             (λ _. outcome choice now event self.now ≡ event_outcome choice now event self.now)
-            (λ fault. outcome choice now event self.now ≡ refusal_of fault self.now) }
+            (λ fault. outcome choice now event self.now ≡ refusal_outcome fault self.now) }
         ensures refused { is_err result ≡ is_refused now self.now }
     {
         if now > LAST_MOMENT {
@@ -348,7 +348,7 @@ impl Device {
             } => self.recv(now, association, octets),
             Event::Close { association } => self.close(now, association),
             Event::Contact { switch, position } => self.contact_step(now, switch, position),
-            Event::Input { input, value } => self.take_input(now, input, value),
+            Event::Input { input, value } => self.handle_input(now, input, value),
             Event::Measure {
                 meter,
                 field,
@@ -380,7 +380,7 @@ impl Device {
         // The commands are the accepted operates among the entries that the octets of the event and
         // of its answer encode, in their order. Responses belong to requests by their order.
         ensures operates { (names : Bay) → AreNamedAlike names (bay_of self.old)
-            → AreAgreed self.old.connections
+            → HaveAgreedSize self.old.connections
             → IfOk result (AreOperates now event.entry names self.old.connections) }
         // If there is a command, the events since load include a scan that is not too old, since
         // which the process has not changed, and after all of them the process is not lost.
@@ -391,10 +391,10 @@ impl Device {
         ensures single { IsSingle result }
         // With such a choice, the entries of the event lead from the controls before it to those
         // after it.
-        ensures leads { Leading now event.entry self.old result self.new }
+        ensures leads { LeadsByChoice now event.entry self.old result self.new }
         // So do the entries that the octets of the event and of its answer encode.
         ensures tells { (names : Bay) → AreNamedAlike names (bay_of self.old)
-            → AreAgreed self.old.connections
+            → HaveAgreedSize self.old.connections
             → EntriesLead names now event.entry self.old result self.new }
         // A scan halts without a trap, within the budget, in the number of steps of the answer;
         ensures halts { HaltsAt now event.entry self.old result self.new }
@@ -423,7 +423,7 @@ impl Device {
     }
 
     /// Runs the program once, as `step` does. Returns the fault of `step` if the time is refused.
-    pub fn scan(&mut self, now: u64) -> Result<Scanned, StepFault>
+    pub fn scan(&mut self, now: u64) -> Result<ScanResult, StepFault>
         ensures { IsOutcome (outcome None now Scan self.old) (scan_answer result) self.new }
     {
         self.admit(now)?;
@@ -461,11 +461,11 @@ impl Device {
         // From a state without a selection, as load returns it, each accepted operate of an SBO
         // switch among the entries that the octets of the events and of the answers encode is
         // backed by a select.
-        ensures backed { self.old.controls.selection ≡ None → AreAgreed self.old.connections
+        ensures backed { self.old.controls.selection ≡ None → HaveAgreedSize self.old.connections
             → IfOk result (λ answers. AreBacked self.old.controls.controls
-            (entries_of_run (bay_of self.old) self.old.connections events.now answers.items)) }
+            (observed_in_run (bay_of self.old) self.old.connections events.now answers.items)) }
         // The commands are the accepted operates among these entries, in their order.
-        ensures operates { AreAgreed self.old.connections → IfOk result
+        ensures operates { HaveAgreedSize self.old.connections → IfOk result
             (λ answers. AllOperate (bay_of self.old) self.old.connections events.now
             answers.items) }
     {
@@ -501,7 +501,7 @@ impl Device {
 
     /// Returns the index of the switch whose execution has expired by a time in ms; else `None`.
     pub fn expired_at(&self, now: u64) -> Option<usize>
-        ensures { result ≡ spec_device.over_at now self.now }
+        ensures { result ≡ spec_device.expired_at now self.now }
     {
         let mut controls = self.state.bay.controls.duplicate();
         controls.advance(&self.state.bay.control_table, now)
@@ -522,7 +522,7 @@ impl Device {
         ensures { result ≡ is_some (connection_at (spec.slot_of association) self.now) }
     {
         match association_slot(association) {
-            Some(place) => self.connections.is_open(place),
+            Some(slot) => self.connections.is_open(slot),
             None => false,
         }
     }
@@ -530,11 +530,11 @@ impl Device {
     /// Returns the lowest number of an association that is not open; `None` if all eight are open.
     pub fn free_association(&self) -> Option<u16>
         ensures lowest { result
-            ≡ option_map (λ place. place + 1) (position is_none self.now.connections) }
+            ≡ option_map (λ slot. slot + 1) (position is_none self.now.connections) }
         ensures within { IfSome result (λ a. (0 < a) × (a ≤ associations)) }
     {
-        let place = self.connections.free_slot()?;
-        Some(place as u16 + 1)
+        let slot = self.connections.free_slot()?;
+        Some(slot as u16 + 1)
     }
 
     /// Returns the number of switches in the bay.

@@ -65,7 +65,7 @@ pub enum Event<'a> {
 /// Returns the slot of an association, its number less 1; `None` if the number is not 1 to 8.
 pub fn association_slot(association: u16) -> Option<usize>
     ensures value { result ≡ spec.slot_of association }
-    ensures within { IfSome result (λ place. place < associations) }
+    ensures within { IfSome result (λ slot. slot < associations) }
 {
     if 0 < association && usize::from(association) < ASSOCIATIONS + 1 {
         Some(usize::from(association - 1))
@@ -103,7 +103,7 @@ pub(crate) fn closed_by(association: u16, why: Option<Why>) -> Option<(u16, Why)
 
 /// The result of an accepted scan.
 #[derive(Drop)]
-pub struct Scanned {
+pub struct ScanResult {
     /// The report that an operate ended, for the client that requested it with enhanced security.
     pub ended: Option<Sent>,
     /// The number of instructions that the program executed, including HALT.

@@ -1,7 +1,7 @@
 // Why texts and images are not loaded, and why an event is refused.
 ghost use Rattle.std.specs.Prelude.{◌≡◌};
 ghost use Rattle.bay_device.specs.Code.{step_code_of};
-ghost use Rattle.bay_device.specs.Load.{refusal_of};
+ghost use Rattle.bay_device.specs.Load.{load_fault_of};
 ghost use Rattle.bay_device.specs.Load as spec;
 
 use bay_load::error::LoadError;
@@ -30,7 +30,7 @@ fn fault_of(code: Option<u8>, line: usize) -> LoadFault
 }
 
 impl From<LoadError> for LoadFault {
-    ghost from_gives = { λ error e. e ≡ refusal_of error };
+    ghost from_gives = { λ error e. e ≡ load_fault_of error };
 
     fn from(error: LoadError) -> LoadFault {
         fault_of(error.code(), error.line())

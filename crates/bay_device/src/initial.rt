@@ -10,7 +10,7 @@ ghost use Rattle.bay_device.specs.Outcomes.{associations};
 ghost use Rattle.bay_device.specs.StateView.{state_view};
 
 use crate::state::DeviceState;
-use crate::table::tables_of;
+use crate::table::build_tables;
 use bay_base::listing::Listing;
 use bay_base::text::Text;
 use bay_config::bay::{Bay, Source};
@@ -22,8 +22,8 @@ use bay_mms_services::decisions::clear_selected_rows;
 use bay_process::bind::{all_false, spans_of};
 use bay_process::controls::{ControlRows, control_rows};
 use bay_process::meter::BoundMeter;
-use bay_process::parts::{bound_machine, bound_rows, node_names};
-use bay_process::releases::{Releases, stored_releases};
+use bay_process::parts::{bind_machine, bind_rows, node_names};
+use bay_process::releases::{Releases, store_releases};
 use bay_tree::tree::Tree;
 use il_scan::span::Span;
 use il_verify::verify::Verified;
@@ -67,7 +67,7 @@ fn take_items<T>(alloc: Global, list: &mut Listing<T>) -> Vec<T>
 }
 
 // Makes a bay without a selection, with its switches and meters bound to the rows of its tree.
-fn bound_bay(alloc: Global, mut bay: Box<Bay>, writes: &[Source]) -> Result<BoundBay, AllocError>
+fn bind_bay(alloc: Global, mut bay: Box<Bay>, writes: &[Source]) -> Result<BoundBay, AllocError>
     requires { IsTimedBay bay.value }
     ensures { IfOk result (IsBoundBay bay.value writes.now) }
 {
@@ -75,9 +75,9 @@ fn bound_bay(alloc: Global, mut bay: Box<Bay>, writes: &[Source]) -> Result<Boun
     let control_table = ControlTable::new(&bay);
     let rows = take_items(alloc, &mut bay.rows);
     let switches = take_items(alloc, &mut bay.switches);
-    let mut bound = bound_rows(alloc, rows, switches, bay.meters.as_slice(), &nodes, writes)?;
+    let mut bound = bind_rows(alloc, rows, switches, bay.meters.as_slice(), &nodes, writes)?;
     let control_rows = control_rows_of_tree(alloc, &mut bound.tree, bound.switches.len())?;
-    let releases = stored_releases(alloc, &bound.tree, bound.switches.as_slice())?;
+    let releases = store_releases(alloc, &bound.tree, bound.switches.as_slice())?;
     let names = NameTexts::of_tree(alloc, &bound.tree)?;
     let Bay {
         domain,
@@ -109,7 +109,7 @@ fn bound_bay(alloc: Global, mut bay: Box<Bay>, writes: &[Source]) -> Result<Boun
 }
 
 /// Makes the state of a device from a bay and a verified image, before its first event.
-pub(crate) fn state_of(
+pub(crate) fn make_state(
     alloc: Global,
     bay: Box<Bay>,
     verified: Verified,
@@ -119,10 +119,10 @@ pub(crate) fn state_of(
     ensures { IfOk result (λ state. state_view (replicate associations None) state.value
         ≡ initial_device bay.value verified) }
 {
-    let wired = bound_machine(alloc, bay.points.as_slice(), verified)?;
+    let wired = bind_machine(alloc, bay.points.as_slice(), verified)?;
     let input_values = all_false(alloc, bay.inputs.as_slice())?;
-    let bound = bound_bay(alloc, bay, wired.writes.as_slice())?;
-    let tables = tables_of(
+    let bound = bind_bay(alloc, bay, wired.writes.as_slice())?;
+    let tables = build_tables(
         bound.bay.switches.as_slice(),
         bound.inputs.as_slice(),
         bound.meters.as_slice(),
@@ -152,7 +152,7 @@ pub(crate) fn state_of(
             last_scan: None,
             is_stale: false,
             is_lost: false,
-            due: None,
+            pending: None,
         },
     )?;
     Ok(state)

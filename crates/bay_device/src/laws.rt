@@ -3,7 +3,7 @@ ghost use Rattle.std.specs.Prelude.{◌≡◌};
 ghost use Rattle.bay_device.specs.Device.{State, inputs_of};
 ghost use Rattle.bay_device.specs.Entries.{IsIdle};
 ghost use Rattle.bay_device.specs.Fresh.{IsSameProcess};
-ghost use Rattle.bay_device.specs.EntriesTold.{AreAgreed};
+ghost use Rattle.bay_device.specs.ObservedRuns.{HaveAgreedSize};
 
 /// If the process is the same in two states, each program of the bay reads the same values. The
 /// comparison leaves out no position, no input and no measured value that a program can read.
@@ -14,5 +14,5 @@ pub fn programs_read_the_process()
 
 /// A run can begin with a device as load made it, without an open association.
 pub fn runs_begin_idle()
-    ensures { (s : State) → IsIdle s → AreAgreed s.connections }
+    ensures { (s : State) → IsIdle s → HaveAgreedSize s.connections }
 {}

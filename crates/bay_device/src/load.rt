@@ -1,6 +1,6 @@
 // Makes a device from a bay file and a program or an image.
 ghost use Rattle.std.specs.Prelude.{◌≡◌, ◌≢◌, Ok, Err, IfOk, IfErr};
-ghost use Rattle.bay_base.specs.Exact.{Gives};
+ghost use Rattle.bay_base.specs.Exact.{ExactOr};
 ghost use Rattle.bay_config.specs.Bay.{bay_of};
 ghost use Rattle.il_text.specs.Reading.{program_of};
 ghost use Rattle.il_check.specs.Program.{Checked};
@@ -42,7 +42,7 @@ pub fn load_device(
 /// of the bay file (50 to 55), then of the program's text (60 to 64), then of its checks (70 to
 /// 79), then 85 if the image would be too long; or `OutOfMemory` if an allocation fails.
 pub fn load(alloc: Global, bay: &str, logic: &str) -> Result<Device, LoadFault>
-    ensures device { Gives OutOfMemory (λ device. device) result
+    ensures device { ExactOr OutOfMemory (λ device. device) result
         (device_from (of_bay (bay_of bay.now) (program_of logic.now))) }
     // A device results only if the first text is a bay file, and the second one spells a program
     // that is right with the points of the bay; such texts are refused only if an allocation fails,

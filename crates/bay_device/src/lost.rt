@@ -2,7 +2,7 @@
 ghost use Rattle.std.specs.Prelude.{◌≡◌, ◌<◌, List, Option, length};
 ghost use Rattle.bay_connection.specs.ConnectionStates.{ConnectionState};
 ghost use Rattle.bay_process.specs.Layout.{meters_of, switches_of};
-ghost use Rattle.bay_device.specs.Device.{device_at, device_after_bad_measure, ended_at, device_after_loss, measures_lost, meter_lost, positions_lost};
+ghost use Rattle.bay_device.specs.Device.{device_at, device_after_bad_measure, expiry_report, device_after_loss, measures_lost, meter_lost, positions_lost};
 ghost use Rattle.bay_device.specs.StateView.{state_view};
 
 use crate::event::Sent;
@@ -13,7 +13,7 @@ use bay_config::bay::MeterField;
 
 impl DeviceState {
     /// Handles the report that a field of the meter at an index is invalid.
-    pub fn take_doubt(&mut self, now: u64, meter: usize, field: MeterField)
+    pub fn invalidate_field(&mut self, now: u64, meter: usize, field: MeterField)
         requires { meter < length self.old.meters }
         ensures after { (connections : List (Option ConnectionState))
             → state_view connections self.new
@@ -35,12 +35,12 @@ impl DeviceState {
             ≡ meter_lost now meter (state_view connections self.old) }
         ensures meters { self.new.meters ≡ self.old.meters }
     {
-        self.take_doubt(now, meter, MeterField::TotW);
-        self.take_doubt(now, meter, MeterField::TotVAr);
-        self.take_doubt(now, meter, MeterField::Hz);
-        self.take_doubt(now, meter, MeterField::PhaseA);
-        self.take_doubt(now, meter, MeterField::PhaseB);
-        self.take_doubt(now, meter, MeterField::PhaseC);
+        self.invalidate_field(now, meter, MeterField::TotW);
+        self.invalidate_field(now, meter, MeterField::TotVAr);
+        self.invalidate_field(now, meter, MeterField::Hz);
+        self.invalidate_field(now, meter, MeterField::PhaseA);
+        self.invalidate_field(now, meter, MeterField::PhaseB);
+        self.invalidate_field(now, meter, MeterField::PhaseC);
     }
 
     // Makes each field of each meter invalid.
@@ -62,7 +62,7 @@ impl DeviceState {
             (state_view connections self.old) }
     {
         for switch in 0..self.bay.switches.as_slice().len() {
-            self.take_contact(now, switch, Dbpos::Bad);
+            self.apply_contact(now, switch, Dbpos::Bad);
         }
     }
 
@@ -70,7 +70,7 @@ impl DeviceState {
     /// value invalid. Returns the report that an operate ended, if one expired.
     pub fn lose_process(&mut self, now: u64) -> Option<Sent>
         ensures sent { (connections : List (Option ConnectionState))
-            → result ≡ ended_at now (state_view connections self.old) }
+            → result ≡ expiry_report now (state_view connections self.old) }
         ensures after { (connections : List (Option ConnectionState))
             → state_view connections self.new
             ≡ device_after_loss now (device_at now (state_view connections self.old)) }

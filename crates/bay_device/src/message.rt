@@ -5,9 +5,9 @@ ghost use Rattle.bay_connection.specs.ConnectionStates.{ConnectionState, octets_
 ghost use Rattle.bay_mms_initiate.specs.Sizes.{IsPduSize};
 ghost use Rattle.bay_mms_services.specs.Answers.{pdu_answer};
 ghost use Rattle.bay_device.specs.Device.{bay_of};
-ghost use Rattle.bay_device.specs.Receiving.{answered_with, later_due, after_pdu, sending_if, sent_on};
+ghost use Rattle.bay_device.specs.Receiving.{answered_with, later_pending, after_pdu, sending_if, sent_on};
 ghost use Rattle.bay_device.specs.Receiving as spec;
-ghost use Rattle.bay_device.specs.ReceivingViews.{done_of, with_effect};
+ghost use Rattle.bay_device.specs.ReceivingViews.{step_state, with_effect};
 ghost use Rattle.bay_device.specs.StateView.{state_view};
 
 use crate::event::Sent;
@@ -48,8 +48,8 @@ fn wrap_report(
     connection: &Connection,
     report: Option<Outgoing>,
 ) -> Result<Option<Outgoing>, AllocError>
-    requires { IsSome (association_terms connection.now.talk.phase) }
-    ensures { IfOk result (λ octets. octets ≡ sending_if (terms_of connection.now.talk) report) }
+    requires { IsSome (association_terms connection.now.state.phase) }
+    ensures { IfOk result (λ octets. octets ≡ sending_if (terms_of connection.now.state) report) }
 {
     match report {
         Some(pdu) => {
@@ -61,17 +61,17 @@ fn wrap_report(
 }
 
 // Returns the octets that will report to an association that its operate ended.
-fn termination_of(
+fn wrap_termination(
     connection: &Connection,
     association: u16,
-    ending: TerminationReports,
+    termination: TerminationReports,
 ) -> Result<PendingTermination, AllocError>
-    requires { IsSome (association_terms connection.now.talk.phase) }
-    ensures { IfOk result (λ due. due
-        ≡ spec.due_of association (terms_of connection.now.talk) ending) }
+    requires { IsSome (association_terms connection.now.state.phase) }
+    ensures { IfOk result (λ pending. pending
+        ≡ spec.pending_of association (terms_of connection.now.state) termination) }
 {
-    let positive = wrap_report(connection, ending.positive)?;
-    let negative = wrap_report(connection, ending.negative)?;
+    let positive = wrap_report(connection, termination.positive)?;
+    let negative = wrap_report(connection, termination.negative)?;
     Ok(PendingTermination {
         association,
         positive,
@@ -79,31 +79,31 @@ fn termination_of(
     })
 }
 
-// Like `termination_of`; `None` if there are no reports.
-fn termination_if(
+// Like `wrap_termination`; `None` if there are no reports.
+fn wrap_termination_if(
     connection: &Connection,
     association: u16,
-    ending: Option<TerminationReports>,
+    termination: Option<TerminationReports>,
 ) -> Result<Option<PendingTermination>, AllocError>
-    requires { IsSome (association_terms connection.now.talk.phase) }
-    ensures { IfOk result (λ due. due
-        ≡ spec.due_if association (terms_of connection.now.talk) ending) }
+    requires { IsSome (association_terms connection.now.state.phase) }
+    ensures { IfOk result (λ pending. pending
+        ≡ spec.pending_if association (terms_of connection.now.state) termination) }
 {
-    match ending {
-        Some(ending) => {
-            let due = termination_of(connection, association, ending)?;
-            Ok(Some(due))
+    match termination {
+        Some(termination) => {
+            let pending = wrap_termination(connection, association, termination)?;
+            Ok(Some(pending))
         }
         None => Ok(None),
     }
 }
 
 // Replaces the pending reports by those of a new execution, if there are any.
-fn replace_termination(due: &mut Option<PendingTermination>, new: Option<PendingTermination>)
-    ensures { due.new ≡ later_due due.old new }
+fn replace_termination(pending: &mut Option<PendingTermination>, new: Option<PendingTermination>)
+    ensures { pending.new ≡ later_pending pending.old new }
 {
     if new.is_some() {
-        *due = new;
+        *pending = new;
     }
 }
 
@@ -114,10 +114,10 @@ fn send_all(
     pdus: Vec<Outgoing>,
     sent: &mut Vec<Sent>,
 ) -> Result<(), AllocError>
-    requires { IsSome (association_terms connection.now.talk.phase) }
+    requires { IsSome (association_terms connection.now.state.phase) }
     ensures ok { OnOk result
         (sent.new.items ≡ sent.old.items
-        ++ map (λ pdu. sent_on association (octets_to_send (terms_of connection.now.talk) pdu))
+        ++ map (λ pdu. sent_on association (octets_to_send (terms_of connection.now.state) pdu))
         pdus.items) }
     ensures kept { take (length sent.old.items) sent.new.items ≡ sent.old.items }
 {
@@ -138,34 +138,34 @@ fn record_answer(
     connection: &Connection,
     association: u16,
     answer: PduAnswer,
-    made: &mut EventEffects,
+    effects: &mut EventEffects,
 ) -> Result<Option<PendingTermination>, AllocError>
-    requires { IsSome (association_terms connection.now.talk.phase) }
-    ensures due { IfOk result
-        (λ due. due ≡ spec.due_if association (terms_of connection.now.talk) answer.ending) }
+    requires { IsSome (association_terms connection.now.state.phase) }
+    ensures pending { IfOk result
+        (λ pending. pending ≡ spec.pending_if association (terms_of connection.now.state) answer.termination) }
     ensures sent { OnOk result
-        (made.new.sent.items ≡ made.old.sent.items
-        ++ map (λ pdu. sent_on association (octets_to_send (terms_of connection.now.talk) pdu))
+        (effects.new.sent.items ≡ effects.old.sent.items
+        ++ map (λ pdu. sent_on association (octets_to_send (terms_of connection.now.state) pdu))
         answer.sent.items) }
     ensures commands { OnOk result
-        (made.new.commands.items ≡ made.old.commands.items ++ answer.commands.items) }
+        (effects.new.commands.items ≡ effects.old.commands.items ++ answer.commands.items) }
     ensures decisions { OnOk result
-        (made.new.decisions.items ≡ made.old.decisions.items ++ answer.decisions.items) }
-    ensures sent_before { take (length made.old.sent.items) made.new.sent.items
-        ≡ made.old.sent.items }
-    ensures commands_before { take (length made.old.commands.items) made.new.commands.items
-        ≡ made.old.commands.items }
-    ensures decisions_before { take (length made.old.decisions.items) made.new.decisions.items
-        ≡ made.old.decisions.items }
+        (effects.new.decisions.items ≡ effects.old.decisions.items ++ answer.decisions.items) }
+    ensures sent_before { take (length effects.old.sent.items) effects.new.sent.items
+        ≡ effects.old.sent.items }
+    ensures commands_before { take (length effects.old.commands.items) effects.new.commands.items
+        ≡ effects.old.commands.items }
+    ensures decisions_before { take (length effects.old.decisions.items) effects.new.decisions.items
+        ≡ effects.old.decisions.items }
 {
-    send_all(connection, association, answer.sent, &mut made.sent)?;
-    made.commands.extend_from_slice(answer.commands.as_slice())?;
+    send_all(connection, association, answer.sent, &mut effects.sent)?;
+    effects.commands.extend_from_slice(answer.commands.as_slice())?;
     let mut decisions = answer.decisions;
-    made.decisions.append(&mut decisions)?;
-    termination_if(connection, association, answer.ending)
+    effects.decisions.append(&mut decisions)?;
+    wrap_termination_if(connection, association, answer.termination)
 }
 
-// Answers a PDU. `controls` becomes the controls after the PDU. Changes nothing else but `made`; if
+// Answers a PDU. `controls` becomes the controls after the PDU. Changes nothing else but `effects`; if
 // an allocation fails, more may have been added to it.
 fn answer(
     alloc: Global,
@@ -173,20 +173,20 @@ fn answer(
     client: ClientContext,
     connection: &Connection,
     controls: &mut Controls,
-    made: &mut EventEffects,
+    effects: &mut EventEffects,
 ) -> Result<Option<PendingTermination>, AllocError>
-    requires open { IsSome (association_terms connection.now.talk.phase) }
+    requires open { IsSome (association_terms connection.now.state.phase) }
     requires sized { IsPduSize client.size }
-    ensures ok { IfOk result (λ due. (connections : List (Option ConnectionState))
-        → done_of (with_effect controls.new due (state_view connections state.now)) made.new
-        ≡ answered_with client.association (terms_of connection.now.talk)
+    ensures ok { IfOk result (λ pending. (connections : List (Option ConnectionState))
+        → step_state (with_effect controls.new pending (state_view connections state.now)) effects.new
+        ≡ answered_with client.association (terms_of connection.now.state)
         (pdu_answer client connection.now.pdu (bay_of (state_view connections state.now)))
-        (done_of (state_view connections state.now) made.old)) }
-    ensures sent { take (length made.old.sent.items) made.new.sent.items ≡ made.old.sent.items }
-    ensures commands { take (length made.old.commands.items) made.new.commands.items
-        ≡ made.old.commands.items }
-    ensures decisions { take (length made.old.decisions.items) made.new.decisions.items
-        ≡ made.old.decisions.items }
+        (step_state (state_view connections state.now) effects.old)) }
+    ensures sent { take (length effects.old.sent.items) effects.new.sent.items ≡ effects.old.sent.items }
+    ensures commands { take (length effects.old.commands.items) effects.new.commands.items
+        ≡ effects.old.commands.items }
+    ensures decisions { take (length effects.old.decisions.items) effects.new.decisions.items
+        ≡ effects.old.decisions.items }
 {
     let answer = state.bay.answer(
         alloc,
@@ -195,39 +195,39 @@ fn answer(
         connection.pdu(),
         controls,
     )?;
-    record_answer(connection, client.association, answer, made)
+    record_answer(connection, client.association, answer, effects)
 }
 
 // Stores the effects of an answered PDU: the controls after it, and the pending reports of a new
 // execution.
-fn put_in(state: &mut DeviceState, controls: Controls, due: Option<PendingTermination>)
+fn store_effects(state: &mut DeviceState, controls: Controls, pending: Option<PendingTermination>)
     ensures { (connections : List (Option ConnectionState))
         → state_view connections state.new
-        ≡ with_effect controls due (state_view connections state.old) }
+        ≡ with_effect controls pending (state_view connections state.old) }
 {
     state.bay.controls = controls;
-    replace_termination(&mut state.due, due);
+    replace_termination(&mut state.pending, pending);
 }
 
 /// Answers a PDU of an association and carries it out. If an allocation fails, changes nothing.
-pub fn message(
+pub fn handle_pdu(
     alloc: Global,
     now: u64,
     association: u16,
     state: &mut DeviceState,
     connection: &Connection,
-    made: &mut EventEffects,
+    effects: &mut EventEffects,
 ) -> Result<(), AllocError>
-    requires { IsSome (association_terms connection.now.talk.phase) }
+    requires { IsSome (association_terms connection.now.state.phase) }
     ensures ok { OnOk result
         ((connections : List (Option ConnectionState))
-        → done_of (state_view connections state.new) made.new
-        ≡ after_pdu now association (terms_of connection.now.talk) connection.now.pdu
-        (done_of (state_view connections state.old) made.old)) }
+        → step_state (state_view connections state.new) effects.new
+        ≡ after_pdu now association (terms_of connection.now.state) connection.now.pdu
+        (step_state (state_view connections state.old) effects.old)) }
     ensures err { OnErr result
         ((connections : List (Option ConnectionState))
-        → done_of (state_view connections state.new) made.new
-        ≡ done_of (state_view connections state.old) made.old) }
+        → step_state (state_view connections state.new) effects.new
+        ≡ step_state (state_view connections state.old) effects.old) }
 {
     let client = ClientContext {
         association,
@@ -236,19 +236,19 @@ pub fn message(
         lost: state.is_lost,
         fresh: state.is_fresh(now),
     };
-    let sent = made.sent.len();
-    let commands = made.commands.len();
-    let decisions = made.decisions.len();
+    let sent = effects.sent.len();
+    let commands = effects.commands.len();
+    let decisions = effects.decisions.len();
     let mut controls = Controls::new();
-    match answer(alloc, state, client, connection, &mut controls, made) {
-        Ok(due) => {
-            put_in(state, controls, due);
+    match answer(alloc, state, client, connection, &mut controls, effects) {
+        Ok(pending) => {
+            store_effects(state, controls, pending);
             Ok(())
         }
         Err(fault) => {
-            made.sent.truncate(sent);
-            made.commands.truncate(commands);
-            made.decisions.truncate(decisions);
+            effects.sent.truncate(sent);
+            effects.commands.truncate(commands);
+            effects.decisions.truncate(decisions);
             Err(fault)
         }
     }

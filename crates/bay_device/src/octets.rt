@@ -1,15 +1,15 @@
 // Handles the octets of a client, PDU by PDU.
 ghost use Rattle.std.specs.Prelude.{◌≡◌, ◌≢◌, ◌<◌, ◌≤◌, ◌++◌, ◌∷◌, [], List, Option, None, Some, IfOk, IfErr, OnOk, OnErr, drop, length, take};
-ghost use Rattle.bay_transport.specs.Feeding.{IsGoing};
+ghost use Rattle.bay_transport.specs.Feeding.{AcceptsOctets};
 ghost use Rattle.bay_connection.specs.ConnectionStates.{ConnectionState, connection_after};
 ghost use Rattle.bay_connection.specs.Feeding.{IsOpenFor, indication_of};
-ghost use Rattle.bay_device.specs.Receiving.{Done, ReceiveResult as HeardSo, sent_on};
-ghost use Rattle.bay_device.specs.ReceivingViews.{done_of, on_heard_if, ComesTo, IsContinuedIf, Moves};
+ghost use Rattle.bay_device.specs.Receiving.{StepState, ReceiveResult as ReceiveData, sent_on};
+ghost use Rattle.bay_device.specs.ReceivingViews.{step_state, on_indication_if, ResultsIn, IsContinuedIf, AdvancesTo};
 ghost use Rattle.bay_device.specs.StateView.{state_view};
 ghost use Rattle.bay_device.specs.declared.event.Why.TheVariants.{Memory};
 
 use crate::event::{Sent, Why};
-use crate::message::{EventEffects, message};
+use crate::message::{EventEffects, handle_pdu};
 use crate::state::DeviceState;
 use bay_ber::outgoing::Outgoing;
 use bay_connection::connection::Connection;
@@ -25,15 +25,15 @@ impl From<AllocError> for Why {
 }
 
 // Adds octets to what is sent on an association.
-fn send(association: u16, octets: Vec<u8>, made: &mut EventEffects) -> Result<(), AllocError>
+fn send(association: u16, octets: Vec<u8>, effects: &mut EventEffects) -> Result<(), AllocError>
     ensures ok { OnOk result
-        (made.new.sent.items ≡ made.old.sent.items ++ sent_on association octets.items ∷ []) }
-    ensures err { OnErr result (made.new.sent.items ≡ made.old.sent.items) }
-    ensures commands { made.new.commands.items ≡ made.old.commands.items }
-    ensures decisions { made.new.decisions.items ≡ made.old.decisions.items }
+        (effects.new.sent.items ≡ effects.old.sent.items ++ sent_on association octets.items ∷ []) }
+    ensures err { OnErr result (effects.new.sent.items ≡ effects.old.sent.items) }
+    ensures commands { effects.new.commands.items ≡ effects.old.commands.items }
+    ensures decisions { effects.new.decisions.items ≡ effects.old.decisions.items }
 {
     let octets = Outgoing::new(octets);
-    made.sent.push(Sent {
+    effects.sent.push(Sent {
         association,
         octets,
     })?;
@@ -48,36 +48,36 @@ fn handle_indication(
     state: &mut DeviceState,
     connection: &Connection,
     heard: Indication,
-    made: &mut EventEffects,
+    effects: &mut EventEffects,
 ) -> Result<(), Why>
-    requires { IsOpenFor heard connection.now.talk.phase }
-    ensures ok { OnOk result ((connections : List (Option ConnectionState)) (later : Done → HeardSo)
-        → on_heard_if now association (indication_of heard connection.now)
-        (done_of (state_view connections state.old) made.old) later
-        ≡ later (done_of (state_view connections state.new) made.new)) }
+    requires { IsOpenFor heard connection.now.state.phase }
+    ensures ok { OnOk result ((connections : List (Option ConnectionState)) (later : StepState → ReceiveData)
+        → on_indication_if now association (indication_of heard connection.now)
+        (step_state (state_view connections state.old) effects.old) later
+        ≡ later (step_state (state_view connections state.new) effects.new)) }
     ensures goes { OnOk result (IsContinuedIf (indication_of heard connection.now)) }
     ensures memory { IfErr result
         (λ why. why ≡ Memory → (connections : List (Option ConnectionState))
-        → done_of (state_view connections state.new) made.new
-        ≡ done_of (state_view connections state.old) made.old) }
+        → step_state (state_view connections state.new) effects.new
+        ≡ step_state (state_view connections state.old) effects.old) }
     ensures stops { IfErr result (λ why. why ≢ Memory
-        → (connections : List (Option ConnectionState)) (later : Done → HeardSo)
-        → on_heard_if now association (indication_of heard connection.now)
-        (done_of (state_view connections state.old) made.old) later
-        ≡ record { done = done_of (state_view connections state.new) made.new; why = Some why }) }
+        → (connections : List (Option ConnectionState)) (later : StepState → ReceiveData)
+        → on_indication_if now association (indication_of heard connection.now)
+        (step_state (state_view connections state.old) effects.old) later
+        ≡ record { done = step_state (state_view connections state.new) effects.new; why = Some why }) }
 {
     match heard {
         Indication::Nothing => Ok(()),
         Indication::Answer(octets) => {
-            send(association, octets, made)?;
+            send(association, octets, effects)?;
             Ok(())
         }
         Indication::Mms => {
-            message(alloc, now, association, state, connection, made)?;
+            handle_pdu(alloc, now, association, state, connection, effects)?;
             Ok(())
         }
         Indication::Released(octets) => {
-            send(association, octets, made)?;
+            send(association, octets, effects)?;
             Err(Why::Ended)
         }
         Indication::Ended => Err(Why::Ended),
@@ -95,26 +95,26 @@ fn feed_once(
     state: &mut DeviceState,
     connection: &mut Connection,
     rest: &[u8],
-    made: &mut EventEffects,
+    effects: &mut EventEffects,
 ) -> Result<usize, Why>
-    requires going { IsGoing connection.old.talk.stream.left }
+    requires going { AcceptsOctets connection.old.state.stream.left }
     requires some { 0 < length rest.now }
     ensures within { IfOk result (λ used. used ≤ length rest.now) }
     ensures moves { IfOk result (λ used. 0 < used) }
     ensures left { IfOk result
-        (λ used. connection.new.talk ≡ connection_after connection.old.talk (take used rest.now)) }
-    ensures going { OnOk result (IsGoing connection.new.talk.stream.left) }
+        (λ used. connection.new.state ≡ connection_after connection.old.state (take used rest.now)) }
+    ensures going { OnOk result (AcceptsOctets connection.new.state.stream.left) }
     ensures ok { IfOk result (λ used. (connections : List (Option ConnectionState))
-        → Moves now association connection.old.talk rest.now
-        (done_of (state_view connections state.old) made.old) connection.new.talk
-        (drop used rest.now) (done_of (state_view connections state.new) made.new)) }
+        → AdvancesTo now association connection.old.state rest.now
+        (step_state (state_view connections state.old) effects.old) connection.new.state
+        (drop used rest.now) (step_state (state_view connections state.new) effects.new)) }
     ensures err { IfErr result (λ why. (connections : List (Option ConnectionState))
-        → ComesTo now association connection.old.talk rest.now
-        (done_of (state_view connections state.old) made.old) (Some why)
-        (done_of (state_view connections state.new) made.new)) }
+        → ResultsIn now association connection.old.state rest.now
+        (step_state (state_view connections state.old) effects.old) (Some why)
+        (step_state (state_view connections state.new) effects.new)) }
 {
     let fed = connection.feed(rest)?;
-    handle_indication(alloc, now, association, state, connection, fed.heard, made)?;
+    handle_indication(alloc, now, association, state, connection, fed.heard, effects)?;
     Ok(fed.used)
 }
 
@@ -127,21 +127,21 @@ pub fn handle_octets(
     state: &mut DeviceState,
     connection: &mut Connection,
     octets: &[u8],
-    made: &mut EventEffects,
+    effects: &mut EventEffects,
 ) -> Result<(), Why>
-    requires going { IsGoing connection.old.talk.stream.left }
+    requires going { AcceptsOctets connection.old.state.stream.left }
     requires some { 0 < length octets.now }
     ensures left { OnOk result
-        (connection.new.talk ≡ connection_after connection.old.talk octets.now) }
-    ensures going { OnOk result (IsGoing connection.new.talk.stream.left) }
+        (connection.new.state ≡ connection_after connection.old.state octets.now) }
+    ensures going { OnOk result (AcceptsOctets connection.new.state.stream.left) }
     ensures ok { OnOk result ((connections : List (Option ConnectionState))
-        → ComesTo now association connection.old.talk octets.now
-        (done_of (state_view connections state.old) made.old) None
-        (done_of (state_view connections state.new) made.new)) }
+        → ResultsIn now association connection.old.state octets.now
+        (step_state (state_view connections state.old) effects.old) None
+        (step_state (state_view connections state.new) effects.new)) }
     ensures err { IfErr result (λ why. (connections : List (Option ConnectionState))
-        → ComesTo now association connection.old.talk octets.now
-        (done_of (state_view connections state.old) made.old) (Some why)
-        (done_of (state_view connections state.new) made.new)) }
+        → ResultsIn now association connection.old.state octets.now
+        (step_state (state_view connections state.old) effects.old) (Some why)
+        (step_state (state_view connections state.new) effects.new)) }
 {
     let mut at = 0;
     while at < octets.len() {
@@ -152,7 +152,7 @@ pub fn handle_octets(
             state,
             connection,
             &octets[at..],
-            made,
+            effects,
         )?;
     }
     Ok(())

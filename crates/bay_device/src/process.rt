@@ -5,16 +5,16 @@ ghost use Rattle.bay_nodes.specs.Names.{meter_names, switch_names};
 ghost use Rattle.bay_nodes.specs.declared.switch.Switch.{Switch};
 ghost use Rattle.bay_process.specs.Layout.{layout_of, switches_of, IsMeterBound};
 ghost use Rattle.bay_process.specs.Names.{field_names};
-ghost use Rattle.bay_process.specs.Scans.{outputs_put};
+ghost use Rattle.bay_process.specs.Scans.{rows_after_outputs};
 ghost use Rattle.bay_process.specs.ReportedRows.{AreInterlocked, AreStored};
-ghost use Rattle.bay_process.specs.Values.{rows_after_contact, rows_after_doubt, rows_after_measure, has_position, has_invalid_measure, has_measure};
+ghost use Rattle.bay_process.specs.Values.{rows_after_contact, rows_after_bad_measure, rows_after_measure, has_position, has_invalid_measure, has_measure};
 ghost use Rattle.bay_mms_services.specs.Views.{bay_view};
 
 use bay_base::position::Dbpos;
 use bay_config::bay::MeterField;
 use bay_mms_services::bay::ServedBay;
-use bay_process::contact::take_position;
-use bay_process::meter::{MeterRows, take_bad_measure, take_measure};
+use bay_process::contact::apply_position;
+use bay_process::meter::{MeterRows, apply_bad_measure, apply_measure};
 use bay_process::releases::Releases;
 use bay_process::scan::write_outputs;
 use il_scan::points::Outputs;
@@ -35,7 +35,7 @@ pub fn contact(bay: &mut ServedBay, now: u64, switch: usize, position: Dbpos) ->
     ensures layout { layout_of bay.new.tree ≡ layout_of bay.old.tree }
 {
     let rows = bay.switches.as_slice()[switch].rows;
-    take_position(&mut bay.tree, &rows, position, now)
+    apply_position(&mut bay.tree, &rows, position, now)
 }
 
 /// Applies a measured value of the meter at an index, which has these rows; only the contract uses
@@ -59,7 +59,7 @@ pub fn measure(
     ensures switches { bay.new.switches ≡ bay.old.switches }
     ensures layout { layout_of bay.new.tree ≡ layout_of bay.old.tree }
 {
-    take_measure(&mut bay.tree, rows.field(field), value, now)
+    apply_measure(&mut bay.tree, rows.field(field), value, now)
 }
 
 /// Applies the report that a measured value of the meter at an index is invalid. The meter has
@@ -76,12 +76,12 @@ pub fn doubt(
         ≡ not (has_invalid_measure (field_names field (meter_names _meter)) bay.old.tree) }
     ensures after { bay_view bay.new
         ≡ record (bay_view bay.old) {
-          rows = rows_after_doubt (field_names field (meter_names _meter)) now bay.old.tree;
+          rows = rows_after_bad_measure (field_names field (meter_names _meter)) now bay.old.tree;
         } }
     ensures switches { bay.new.switches ≡ bay.old.switches }
     ensures layout { layout_of bay.new.tree ≡ layout_of bay.old.tree }
 {
-    take_bad_measure(&mut bay.tree, rows.field(field), now)
+    apply_bad_measure(&mut bay.tree, rows.field(field), now)
 }
 
 /// Writes the outputs of a scan to the interlocking values of all switches.
@@ -90,7 +90,7 @@ pub fn write_scan(bay: &mut ServedBay, kept: &mut Releases, outputs: &Outputs<'_
     requires kept { AreStored bay.old.tree (switches_of bay.old.switches) 0 kept.old }
     ensures after { bay_view bay.new
         ≡ record (bay_view bay.old) {
-          rows = outputs_put (layout_of bay.old.tree) bay.old.switches outputs.now now
+          rows = rows_after_outputs (layout_of bay.old.tree) bay.old.switches outputs.now now
               bay.old.tree;
         } }
     ensures switches { bay.new.switches ≡ bay.old.switches }

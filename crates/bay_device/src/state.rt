@@ -59,7 +59,7 @@ pub struct DeviceState {
     /// Whether the process is lost: nothing has been received from it since.
     pub is_lost: bool,
     /// The pending reports for the end of the current operate.
-    pub due: Option<PendingTermination>,
+    pub pending: Option<PendingTermination>,
     ghost bound: { AreBound (layout_of bay.tree) writes bay.switches },
     ghost metered: { AreMetersBound (layout_of bay.tree) meters },
     ghost released: { AreStored bay.tree (switches_of bay.switches) 0 releases },

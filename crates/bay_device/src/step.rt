@@ -7,7 +7,7 @@ ghost use Rattle.bay_nodes.specs.declared.switch.Switch.{Switch};
 ghost use Rattle.bay_process.specs.Layout.{AreLeafTyped, AreMetersLeafTyped, layout_of, switches_of};
 ghost use Rattle.bay_process.specs.Scans.{source_value};
 ghost use Rattle.bay_process.specs.Sources.{type_of_source};
-ghost use Rattle.bay_device.specs.Device.{device_at, device_after_contact, ended_at, ran_at, reached_at, after_scan};
+ghost use Rattle.bay_device.specs.Device.{device_at, device_after_contact, expiry_report, run_result_at, reached_report_at, after_scan};
 ghost use Rattle.bay_device.specs.Device as spec;
 ghost use Rattle.bay_device.specs.Meaning.{Halts};
 ghost use Rattle.bay_device.specs.Outcomes.{event_outcome, without_owner};
@@ -92,7 +92,7 @@ impl DeviceState {
     #[inline(always)]
     pub fn advance(&mut self, now: u64) -> Option<Sent>
         ensures sent { (connections : List (Option ConnectionState))
-            → result ≡ ended_at now (state_view connections self.old) }
+            → result ≡ expiry_report now (state_view connections self.old) }
         ensures after { (connections : List (Option ConnectionState))
             → state_view connections self.new ≡ device_at now (state_view connections self.old) }
         ensures meters { self.new.meters ≡ self.old.meters }
@@ -101,7 +101,7 @@ impl DeviceState {
         let over = self.bay.controls.advance(&self.bay.control_table, now);
         self.moment = now;
         match over {
-            Some(_) => report_missed(&mut self.due),
+            Some(_) => report_missed(&mut self.pending),
             None => None,
         }
     }
@@ -109,10 +109,10 @@ impl DeviceState {
     /// Applies the reported position of the switch at an index. Returns the report that an operate
     /// ended, if the position ends one.
     #[inline(always)]
-    pub fn take_contact(&mut self, now: u64, switch: usize, position: Dbpos) -> Option<Sent>
+    pub fn apply_contact(&mut self, now: u64, switch: usize, position: Dbpos) -> Option<Sent>
         requires { switch < length self.old.bay.switches }
         ensures sent { (connections : List (Option ConnectionState))
-            → result ≡ reached_at switch position (state_view connections self.old) }
+            → result ≡ reached_report_at switch position (state_view connections self.old) }
         ensures after { (connections : List (Option ConnectionState)) (s : Switch)
             → slice_get (switches_of self.old.bay.switches) switch ≡ Some s
             → state_view connections self.new
@@ -123,7 +123,7 @@ impl DeviceState {
         self.is_stale |= changed;
         self.is_lost = false;
         if self.bay.controls.contact(switch, position) {
-            report_reached(&mut self.due)
+            report_reached(&mut self.pending)
         } else {
             None
         }
@@ -144,7 +144,7 @@ impl DeviceState {
             return Err(StepFault::NoSuchPoint);
         }
         let over = self.advance(now);
-        let report_reached = self.take_contact(now, switch, position);
+        let report_reached = self.apply_contact(now, switch, position);
         Ok(or_else(over, report_reached))
     }
 
@@ -207,7 +207,7 @@ impl DeviceState {
             return Err(StepFault::NoSuchPoint);
         }
         let over = self.advance(now);
-        self.take_doubt(now, meter, field);
+        self.invalidate_field(now, meter, field);
         Ok(over)
     }
 
@@ -218,7 +218,7 @@ impl DeviceState {
         ensures after { (connections : List (Option ConnectionState))
             → state_view connections self.new ≡ after_scan now (state_view connections self.old) }
         ensures steps { (connections : List (Option ConnectionState))
-            → result ≡ (ran_at now (state_view connections self.old)).steps }
+            → result ≡ (run_result_at now (state_view connections self.old)).steps }
         ensures halts { (connections : List (Option ConnectionState))
             → Halts now (state_view connections self.old) result (state_view connections self.new) }
     {
@@ -253,6 +253,6 @@ impl DeviceState {
             ≡ without_owner association (state_view connections self.old) }
     {
         self.bay.controls.drop_owner(association);
-        forget(&mut self.due, association);
+        forget(&mut self.pending, association);
     }
 }

@@ -75,12 +75,12 @@ pub struct NameTable {
 
 impl NameTable {
     // Records that the name at an index has this key.
-    fn note(&mut self, key: usize, place: usize)
+    fn note(&mut self, key: usize, index: usize)
         requires { key < 64 }
-        ensures { self.new.firsts ≡ with_index_of key place self.old.firsts }
+        ensures { self.new.firsts ≡ with_index_of key index self.old.firsts }
     {
-        if place < self.firsts[key] {
-            self.firsts[key] = place;
+        if index < self.firsts[key] {
+            self.firsts[key] = index;
         }
     }
 
@@ -91,8 +91,8 @@ impl NameTable {
         let mut table = NameTable {
             firsts: [items.len(); KEYS],
         };
-        for place in 0..items.len() {
-            table.note(key_of(items[place].name()), place);
+        for index in 0..items.len() {
+            table.note(key_of(items[index].name()), index);
         }
         table
     }
@@ -103,9 +103,9 @@ impl NameTable {
         requires { IsTable (map T.name items.now) self.now.firsts }
         ensures { result ≡ position (λ item. same_name (T.name item) name.now) items.now }
     {
-        for place in self.firsts[key_of(name)]..items.len() {
-            if is_named(items[place].name(), name) {
-                return Some(place);
+        for index in self.firsts[key_of(name)]..items.len() {
+            if is_named(items[index].name(), name) {
+                return Some(index);
             }
         }
         None
@@ -122,7 +122,7 @@ pub struct NameTables {
 
 /// Makes the tables of the ids of these switches, the names of these inputs, and the ids of these
 /// meters.
-pub fn tables_of(switches: &[BoundSwitch], inputs: &[Text], meters: &[BoundMeter]) -> NameTables
+pub fn build_tables(switches: &[BoundSwitch], inputs: &[Text], meters: &[BoundMeter]) -> NameTables
     ensures { AreTables switches.now inputs.now meters.now result }
 {
     NameTables {

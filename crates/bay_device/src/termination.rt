@@ -2,7 +2,7 @@
 // CommandTermination).
 ghost use Rattle.std.specs.Prelude.{◌≡◌, None};
 ghost use Rattle.bay_device.specs.Device as spec;
-ghost use Rattle.bay_device.specs.Outcomes.{due_without};
+ghost use Rattle.bay_device.specs.Outcomes.{pending_without};
 
 use crate::event::Sent;
 use bay_ber::outgoing::Outgoing;
@@ -31,32 +31,32 @@ fn sent_to(association: u16, octets: Option<Outgoing>) -> Option<Sent>
 
 /// Returns the report that the switch reached the requested position. No report is pending
 /// afterwards.
-pub fn report_reached(due: &mut Option<PendingTermination>) -> Option<Sent>
-    ensures sent { result ≡ spec.reached_report due.old }
-    ensures none { due.new ≡ None }
+pub fn report_reached(pending: &mut Option<PendingTermination>) -> Option<Sent>
+    ensures sent { result ≡ spec.reached_report pending.old }
+    ensures none { pending.new ≡ None }
 {
-    let due = due.take()?;
-    sent_to(due.association, due.positive)
+    let pending = pending.take()?;
+    sent_to(pending.association, pending.positive)
 }
 
 /// Returns the report that the switch did not reach the requested position in time. No report is
 /// pending afterwards.
-pub fn report_missed(due: &mut Option<PendingTermination>) -> Option<Sent>
-    ensures sent { result ≡ spec.missed_report due.old }
-    ensures none { due.new ≡ None }
+pub fn report_missed(pending: &mut Option<PendingTermination>) -> Option<Sent>
+    ensures sent { result ≡ spec.missed_report pending.old }
+    ensures none { pending.new ≡ None }
 {
-    let due = due.take()?;
-    sent_to(due.association, due.negative)
+    let pending = pending.take()?;
+    sent_to(pending.association, pending.negative)
 }
 
 /// Discards the pending reports to a closed association.
-pub fn forget(due: &mut Option<PendingTermination>, association: u16)
-    ensures { due.new ≡ due_without association due.old }
+pub fn forget(pending: &mut Option<PendingTermination>, association: u16)
+    ensures { pending.new ≡ pending_without association pending.old }
 {
-    if due
+    if pending
         .as_ref()
-        .is_some_and(|due| due.association == association)
+        .is_some_and(|pending| pending.association == association)
     {
-        *due = None;
+        *pending = None;
     }
 }

@@ -17,7 +17,7 @@ own-backs choice = record {
   between = [];
   split = refl;
   granted = refl;
-  stands = λ k d lt. absurd (omega arith);
+  not_undone = λ k d lt. absurd (omega arith);
   in_time = omega arith;
   matched = λ e. absurd cc;
 }
@@ -36,7 +36,7 @@ left-backs choice = record {
   between = unrelated_entries choice;
   split = refl;
   granted = refl;
-  stands = stays choice;
+  not_undone = stays choice;
   in_time = omega arith;
   matched = λ e. absurd cc;
 }
@@ -72,7 +72,7 @@ undone : (controls : List SwitchControl) (choice : Choice) (now : ℕ) (e f : En
 undone controls choice now e f undoing other h =
     ⊎_elim (λ (is : (h.select ≡ e) × (h.between ≡ f ∷ [])).
     let kept : undoes 1 0 f ≡ false =
-    subst (λ (es : List Entry). All (λ (g : Entry). undoes 1 0 g ≡ false) es) is.1 h.stands 0 f
+    subst (λ (es : List Entry). All (λ (g : Entry). undoes 1 0 g ≡ false) es) is.1 h.not_undone 0 f
     (omega arith) in absurd cc)
     (λ (is : (h.select ≡ f) × (h.earlier ≡ e ∷ [])).
     let granted : grants 1 0 f ≡ true = subst (λ (g : Entry). grants 1 0 g ≡ true) is.0 h.granted in
@@ -118,7 +118,7 @@ matched-backs choice = record {
   between = [];
   split = refl;
   granted = refl;
-  stands = λ k d lt. absurd (omega arith);
+  not_undone = λ k d lt. absurd (omega arith);
   in_time = omega arith;
   matched = λ e. record { last = λ k d lt. absurd (omega arith); same = refl };
 }

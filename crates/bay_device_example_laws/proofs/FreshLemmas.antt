@@ -1,7 +1,7 @@
 -- What it says of a command that it is fresh.
 use Rattle.std.proofs.Common.{◌≡◌, ℕ, List, [], ◌∷◌, Ok, Err, refl, sym, ◌∙◌}
 use Rattle.bay_device.specs.Device.{State}
-use Rattle.bay_device.specs.Fresh.{Came, FreshAt, HasScan, Past}
+use Rattle.bay_device.specs.Fresh.{IsHistory, FreshAt, HasScan, PastEvent}
 use Rattle.bay_device.specs.declared.event.Event.{Event}
 use Rattle.bay_device.specs.declared.event.Step.{Step}
 use Rattle.bay_device.specs.declared.fault.StepFault.{StepFault}
@@ -13,8 +13,8 @@ use Rattle.bay_device_example_laws.proofs.ScanLemmas.{none-stands}
 some : (step : Step) → HasOnlyCommand open_command step → step.commands ≡ [] → ⊥
 some step told none = let no : open_command ∷ [] ≡ [] = sym told.commands ∙ none in absurd cc
 
-pub says-scan : (now : ℕ) (event : Event) (s t : State) (step : Step) (past : List Past)
-    → HasOnlyCommand open_command step → Came past s → FreshAt now event s (Ok step) t
+pub says-scan : (now : ℕ) (event : Event) (s t : State) (step : Step) (past : List PastEvent)
+    → HasOnlyCommand open_command step → IsHistory past s → FreshAt now event s (Ok step) t
     → HasScan now s.scan_max_age_ms past
 says-scan now event s t step past told came fresh = fresh past came (some step told)
 
@@ -27,6 +27,6 @@ pub says-nothing-refused : (now : ℕ) (event : Event) (s t : State) (fault : St
 says-nothing-refused now event s t fault past came = tt
 
 pub not-loaded : (now : ℕ) (event : Event) (s t : State) (step : Step)
-    → HasOnlyCommand open_command step → Came [] s → FreshAt now event s (Ok step) t → ⊥
+    → HasOnlyCommand open_command step → IsHistory [] s → FreshAt now event s (Ok step) t → ⊥
 not-loaded now event s t step told came fresh =
     none-stands now s.scan_max_age_ms (fresh [] came (some step told))

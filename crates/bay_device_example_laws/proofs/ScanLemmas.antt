@@ -8,7 +8,7 @@ use Rattle.il_image.specs.Reading.{instr_at, instr_from}
 use Rattle.il_image.specs.declared.value.Value.TheVariants.{Truth}
 use Rattle.il_compile.specs.Meaning.{Memory}
 use Rattle.bay_device.specs.Device.{State}
-use Rattle.bay_device.specs.Fresh.{HasScan, IsSameProcess, Past}
+use Rattle.bay_device.specs.Fresh.{HasScan, IsSameProcess, PastEvent}
 use Rattle.bay_device.specs.Meaning.{Halts, HaltsAt, MeansAt, memory_of}
 use Rattle.bay_device.specs.declared.event.Event.TheVariants.{Contact, Scan}
 use Rattle.bay_device.specs.declared.event.Step.{Step}
@@ -36,7 +36,7 @@ pub old-falls : (s : State) (step : Step) (age : ℕ)
 old-falls s step age h =
     let is : h.scan ≡ scan_past s step =
     one-there (scan_past s step) h.since h.earlier h.scan h.split in
-    let late : age + 1 ≤ 0 + age = subst (λ (p : Past). age + 1 ≤ p.now + age) is h.recent in
+    let late : age + 1 ≤ 0 + age = subst (λ (p : PastEvent). age + 1 ≤ p.now + age) is h.recent in
     omega (arith, late)
 
 pub none-stands : (now age : ℕ) → HasScan now age [] → ⊥
@@ -47,14 +47,14 @@ pub other-falls : (s : State) (step : Step) (age : ℕ)
 other-falls s step age h =
     let is : h.scan ≡ contact_past s step =
     one-there (contact_past s step) h.since h.earlier h.scan h.split in
-    let no : Contact 0 Off ≡ Scan = subst (λ (p : Past). p.event ≡ Scan) is h.scanned in absurd cc
+    let no : Contact 0 Off ≡ Scan = subst (λ (p : PastEvent). p.event ≡ Scan) is h.scanned in absurd cc
 
 pub refused-falls : (s : State) (fault : StepFault) (age : ℕ)
     → HasScan age age (refused_past s fault ∷ []) → ⊥
 refused-falls s fault age h =
     let is : h.scan ≡ refused_past s fault =
     one-there (refused_past s fault) h.since h.earlier h.scan h.split in
-    let no : false ≡ true = subst (λ (p : Past). IsOk p.answer) is h.done in absurd cc
+    let no : false ≡ true = subst (λ (p : PastEvent). IsOk p.answer) is h.done in absurd cc
 
 pub unchanged-stands : (s t : State) (step : Step) (age : ℕ) → IsSameProcess s t
     → HasScan age age (contact_past t step ∷ scan_past s step ∷ [])
@@ -66,7 +66,7 @@ unchanged-stands s t step age same = record {
   scanned = refl;
   done = refl;
   recent = omega arith;
-  unchanged = all-one (λ (p : Past). IsSameProcess s p.after) (contact_past t step) same;
+  unchanged = all-one (λ (p : PastEvent). IsSameProcess s p.after) (contact_past t step) same;
   heard = refl;
 }
 
@@ -74,13 +74,13 @@ pub changed-falls : (s t : State) (step : Step) (age : ℕ) → (IsSameProcess s
     → HasScan age age (contact_past t step ∷ scan_past s step ∷ []) → ⊥
 changed-falls s t step age differs h =
     ⊎_elim (λ (is : (h.scan ≡ contact_past t step) × (h.earlier ≡ scan_past s step ∷ [])).
-    let no : Contact 0 Off ≡ Scan = subst (λ (p : Past). p.event ≡ Scan) is.0 h.scanned in
+    let no : Contact 0 Off ≡ Scan = subst (λ (p : PastEvent). p.event ≡ Scan) is.0 h.scanned in
     absurd cc)
     (λ (is : (h.scan ≡ scan_past s step) × (h.since ≡ contact_past t step ∷ [])).
-    let all : All (λ (p : Past). IsSameProcess h.scan.after p.after) (contact_past t step ∷ []) =
-    subst (λ (ps : List Past). All (λ (p : Past). IsSameProcess h.scan.after p.after) ps) is.1
+    let all : All (λ (p : PastEvent). IsSameProcess h.scan.after p.after) (contact_past t step ∷ []) =
+    subst (λ (ps : List PastEvent). All (λ (p : PastEvent). IsSameProcess h.scan.after p.after) ps) is.1
     h.unchanged in
-    differs (subst (λ (p : Past). IsSameProcess p.after t) is.0
+    differs (subst (λ (p : PastEvent). IsSameProcess p.after t) is.0
     (all 0 (contact_past t step) (omega arith))))
     (two-there (contact_past t step) (scan_past s step) h.since h.earlier h.scan h.split)
 

@@ -1,7 +1,7 @@
 -- A device that has just released switch 0 for opening, and steps with a command to it.
 use Rattle.std.specs.Prelude.{ℕ, ◌≡◌, ◌≢◌, Bool, true, false, List, [], ◌∷◌, ◌++◌, None, Some, codes}
 use Rattle.bay_tree.specs.declared.leaf.Leaf.TheVariants as leaf
-use Rattle.bay_nodes.specs.Names.{opening_of}
+use Rattle.bay_nodes.specs.Names.{opening_names_at}
 use Rattle.bay_base.specs.declared.switch.Control.TheVariants.{Direct}
 use Rattle.bay_base.specs.declared.switch.Operation.TheVariants.{Open, Close}
 use Rattle.bay_mms_services.specs.declared.answer.Command.{Command}
@@ -29,7 +29,7 @@ released_state s = record s {
   last_scan = Some 5;
   is_stale = false;
   is_lost = false;
-  rows = record { name = (opening_of 0).value; leaf = Some (leaf.Truth true) } ∷ [];
+  rows = record { name = (opening_names_at 0).value; leaf = Some (leaf.Truth true) } ∷ [];
   controls = record { controls = []; selection = None; execution = None };
 }
 

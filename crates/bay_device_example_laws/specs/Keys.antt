@@ -5,7 +5,7 @@ use Rattle.bay_base.specs.declared.switch.Operation.TheVariants.{Open}
 use Rattle.bay_base.specs.declared.switch.SwitchKind.TheVariants.{Breaker}
 use Rattle.bay_mms_services.specs.declared.answer.Command.{Command}
 use Rattle.bay_device.specs.Device.{State}
-use Rattle.bay_device.specs.Fresh.{Past}
+use Rattle.bay_device.specs.Fresh.{PastEvent}
 use Rattle.bay_device.specs.declared.event.Event.TheVariants.{Input}
 use Rattle.bay_device.specs.declared.event.Step.{Step}
 use Rattle.bay_device.specs.declared.fault.StepFault.{StepFault}
@@ -41,10 +41,10 @@ abbrev pub open_switch : ℕ → Command
 open_switch k = record { switch = k; operation = Open }
 
 -- a report of the value of an input that was accepted
-abbrev pub input_past : ℕ → Bool → State → Step → Past
+abbrev pub input_past : ℕ → Bool → State → Step → PastEvent
 input_past k value s step = record { now = 0; event = Input k value; answer = Ok step; after = s }
 
 -- a report of the value of an input that was refused
-abbrev pub refused_input : ℕ → Bool → State → StepFault → Past
+abbrev pub refused_input : ℕ → Bool → State → StepFault → PastEvent
 refused_input k value s fault =
     record { now = 0; event = Input k value; answer = Err fault; after = s }

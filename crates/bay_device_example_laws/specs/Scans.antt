@@ -5,26 +5,26 @@ use Rattle.bay_tree.specs.declared.leaf.Leaf.{Leaf}
 use Rattle.il_image.specs.declared.value.Value.TheVariants.{Truth}
 use Rattle.il_check.specs.Program.{Checked}
 use Rattle.bay_device.specs.Device.{State}
-use Rattle.bay_device.specs.Fresh.{Past, is_heard}
+use Rattle.bay_device.specs.Fresh.{PastEvent, is_heard}
 use Rattle.bay_device.specs.declared.event.Event.{Event}
 use Rattle.bay_device.specs.declared.event.Event.TheVariants.{Contact, Lost, Scan}
 use Rattle.bay_device.specs.declared.event.Step.{Step}
 use Rattle.bay_device.specs.declared.fault.StepFault.{StepFault}
 
 -- an accepted scan, and the device after it
-abbrev pub scan_past : State → Step → Past
+abbrev pub scan_past : State → Step → PastEvent
 scan_past s step = record { now = 0; event = Scan; answer = Ok step; after = s }
 
 -- a refused scan
-abbrev pub refused_past : State → StepFault → Past
+abbrev pub refused_past : State → StepFault → PastEvent
 refused_past s fault = record { now = 0; event = Scan; answer = Err fault; after = s }
 
 -- an accepted report of a position
-abbrev pub contact_past : State → Step → Past
+abbrev pub contact_past : State → Step → PastEvent
 contact_past s step = record { now = 0; event = Contact 0 Off; answer = Ok step; after = s }
 
 -- the loss of the process
-abbrev pub lost_past : State → Step → Past
+abbrev pub lost_past : State → Step → PastEvent
 lost_past s step = record { now = 0; event = Lost; answer = Ok step; after = s }
 
 -- the device after a process reported a position of a breaker, an input and a measured value, the

@@ -10,7 +10,7 @@ ghost use Rattle.bay_control.specs.declared.request.Choice.{Choice};
 ghost use Rattle.bay_mms_services.specs.Bay.{Bay};
 ghost use Rattle.bay_device.specs.Commands.{CommandsReleased};
 ghost use Rattle.bay_device.specs.Device.{State};
-ghost use Rattle.bay_device.specs.Fresh.{Came, FreshAt, HasScan, IsSameProcess, Past};
+ghost use Rattle.bay_device.specs.Fresh.{IsHistory, FreshAt, HasScan, IsSameProcess, PastEvent};
 ghost use Rattle.bay_device.specs.Meaning.{HaltsAt, MeansAt};
 ghost use Rattle.bay_device.specs.Operates.{AllOperate, AreOperates, AreRepliedForEvent};
 ghost use Rattle.bay_device.specs.Outcomes.{initial_connection};
@@ -280,7 +280,7 @@ pub fn a_command_needs_its_key_at_remote()
         → ⊥ }
     ensures refused { (s : State) (fault : StepFault) → IsAtRemote (two_switches s)
         (refused_input 1 true s fault ∷ []) (open_switch 0) → ⊥ }
-    ensures keyless { (s : State) (past : List Past)
+    ensures keyless { (s : State) (past : List PastEvent)
         → IsAtRemote (two_switches s) past (open_switch 1) }
 {}
 
@@ -288,15 +288,15 @@ pub fn a_command_needs_its_key_at_remote()
 /// than the device allows; a step without a command, or a refused event, implies nothing. A device
 /// that was just loaded has no such command.
 pub fn a_command_implies_a_scan_before_it()
-    ensures says { (now : ℕ) (event : Event) (s t : State) (step : Step) (past : List Past)
-        → HasOnlyCommand open_command step → Came past s → FreshAt now event s (Ok step) t
+    ensures says { (now : ℕ) (event : Event) (s t : State) (step : Step) (past : List PastEvent)
+        → HasOnlyCommand open_command step → IsHistory past s → FreshAt now event s (Ok step) t
         → HasScan now s.scan_max_age_ms past }
     ensures silent { (now : ℕ) (event : Event) (s t : State) (step : Step)
         → FreshAt now event s (Ok (step_with_commands [] step)) t }
     ensures refused { (now : ℕ) (event : Event) (s t : State) (fault : StepFault)
         → FreshAt now event s (Err fault) t }
     ensures loaded { (now : ℕ) (event : Event) (s t : State) (step : Step)
-        → HasOnlyCommand open_command step → Came [] s → FreshAt now event s (Ok step) t → ⊥ }
+        → HasOnlyCommand open_command step → IsHistory [] s → FreshAt now event s (Ok step) t → ⊥ }
 {}
 
 /// The scan of a program of HALT alone takes one step, neither none nor two, and is not refused; a

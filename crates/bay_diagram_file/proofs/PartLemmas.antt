@@ -2,7 +2,7 @@
 use Rattle.std.proofs.Common.{◌≡◌, ℕ, zero, suc, ◌+◌, ◌<◌, length, get_or, List, [], ◌∷◌, ◌++◌, drop, option_to_list, refl, ap, sym, arith, Option, None, Some, Result, Ok, Err, IfOk, ◌⊎◌, inl, inr}
 use Rattle.toml.specs.Data.{Data, Members}
 use Rattle.toml.specs.View.{items_of}
-use Rattle.bay_base.specs.Exact.{Gives, unless_refused}
+use Rattle.bay_base.specs.Exact.{ExactOr, unless_refused}
 use Rattle.bay_config.specs.Bay.{document_of}
 use Rattle.bay_config.specs.declared.bay.Bay.{Bay}
 use Rattle.bay_diagram.specs.declared.network.Network.{Network}
@@ -89,7 +89,7 @@ fault-of-named bay text e h = fault-of-document bay (document_of text) e h
 
 -- what is given with names is given without them
 pub gives-network : (bay : Bay) (text : List ℕ) (r : Result Diagram DiagramFault)
-    → Gives out_of_memory (λ x. x) r (named_diagram_of bay text)
+    → ExactOr out_of_memory (λ x. x) r (named_diagram_of bay text)
     → IfOk r (λ d. diagram_of bay text ≡ Ok d.network)
 gives-network bay text (Ok d) h = network-of-named bay text d h
 gives-network bay text (Err e) h = tt

@@ -3,7 +3,7 @@ ghost use Rattle.std.specs.Prelude.{◌≡◌, IfOk, Ok};
 ghost use Rattle.std.specs.Option.{ok_or};
 ghost use Rattle.toml.specs.Data.{get_member};
 ghost use Rattle.toml.specs.View.{table_view};
-ghost use Rattle.bay_base.specs.Exact.{Gives};
+ghost use Rattle.bay_base.specs.Exact.{ExactOr};
 ghost use Rattle.bay_config.specs.Bay.{document_of};
 ghost use Rattle.bay_diagram_file.specs.Code.{out_of_memory};
 ghost use Rattle.bay_diagram_file.specs.Diagram as spec;
@@ -85,7 +85,7 @@ fn sections_refusal(file: &Table) -> Option<DiagramFault>
 
 // Reads the diagram in the table of a file.
 fn diagram_from(alloc: Global, bay: &Bay, file: &Table) -> Result<Diagram, DiagramFault>
-    ensures { Gives out_of_memory (λ x. x) result (spec.named_in bay.now (table_view file.now)) }
+    ensures { ExactOr out_of_memory (λ x. x) result (spec.named_in bay.now (table_view file.now)) }
 {
     if let Some(fault) = sections_refusal(file) {
         return Err(fault);
@@ -101,7 +101,7 @@ fn diagram_from(alloc: Global, bay: &Bay, file: &Table) -> Result<Diagram, Diagr
 // Parses a diagram file into its table. Does not parse a text that is too long.
 #[tactic(auto, unfolding(bay_config::specs::Bay::document_of))]
 fn document_at(alloc: Global, text: &str) -> Result<Table, DiagramFault>
-    ensures { Gives out_of_memory table_view result
+    ensures { ExactOr out_of_memory table_view result
         (ok_or (document_of text.now) (spec.file_fault BadToml)) }
 {
     if text.len() > MAX_OCTETS {
@@ -121,7 +121,7 @@ fn document_at(alloc: Global, text: &str) -> Result<Table, DiagramFault>
 
 // Reads the diagram of a bay from the text of its file, with its names.
 fn named_diagram(alloc: Global, bay: &Bay, text: &str) -> Result<Diagram, DiagramFault>
-    ensures { Gives out_of_memory (λ x. x) result (spec.named_diagram_of bay.now text.now) }
+    ensures { ExactOr out_of_memory (λ x. x) result (spec.named_diagram_of bay.now text.now) }
 {
     let file = document_at(alloc, text)?;
     diagram_from(alloc, bay, &file)
@@ -131,7 +131,7 @@ fn named_diagram(alloc: Global, bay: &Bay, text: &str) -> Result<Diagram, Diagra
 pub fn read_diagram(alloc: Global, bay: &Bay, text: &str) -> Result<Network, DiagramFault>
     // The diagram that the text describes for the bay, or its first refusal; `OutOfMemory` if an
     // allocation fails.
-    ensures { Gives out_of_memory (λ x. x) result (spec.diagram_of bay.now text.now) }
+    ensures { ExactOr out_of_memory (λ x. x) result (spec.diagram_of bay.now text.now) }
 {
     match named_diagram(alloc, bay, text) {
         Ok(diagram) => Ok(diagram.network),
@@ -144,7 +144,7 @@ pub fn read_diagram(alloc: Global, bay: &Bay, text: &str) -> Result<Network, Dia
 pub fn diagram_in(alloc: Global, bay: &Bay, octets: &[u8]) -> Result<Diagram, DiagramFault>
     // The diagram that the file describes for the bay, or its first refusal; `OutOfMemory` if an
     // allocation fails;
-    ensures file { Gives out_of_memory (λ x. x) result (spec.diagram_of_file bay.now octets.now) }
+    ensures file { ExactOr out_of_memory (λ x. x) result (spec.diagram_of_file bay.now octets.now) }
     // its network is that of `diagram_of`.
     ensures network { IfOk result
         (λ diagram. spec.diagram_of bay.now octets.now ≡ Ok diagram.network) }

@@ -13,8 +13,8 @@ FileReads F = F → List ℕ → Result (List ℕ) ReadFault → Type 0
 
 -- the type of a relation of reads whose result also has whether the file's mode denies all access
 -- to its group and others
-abbrev pub FileGuards : Type 0 → Type 1
-FileGuards F = F → List ℕ → Result (List ℕ × Bool) ReadFault → Type 0
+abbrev pub ProtectedReads : Type 0 → Type 1
+ProtectedReads F = F → List ℕ → Result (List ℕ × Bool) ReadFault → Type 0
 
 -- the type of a relation of attempts to write: files, a name, the attempt's number, octets, the
 -- outcome and the files after it
@@ -42,10 +42,10 @@ ReadsFile reads files name (Err unread) =
     (unread.name ≡ name) × reads files name (Err unread.fault)
 
 -- a file was read if it was named; without a name the result is no octets
-abbrev pub ReadsNamed : {F : Type 0} → FileReads F → F → Option (List ℕ)
+abbrev pub ReadsIfNamed : {F : Type 0} → FileReads F → F → Option (List ℕ)
     → Result (List ℕ) UnreadData → Type 0
-ReadsNamed reads files None read = read ≡ Ok []
-ReadsNamed reads files (Some name) read = ReadsFile reads files name read
+ReadsIfNamed reads files None read = read ≡ Ok []
+ReadsIfNamed reads files (Some name) read = ReadsFile reads files name read
 
 -- two files were read, in this order: the octets of both, or the first that could not be read
 abbrev pub ReadsBoth : {F : Type 0} → FileReads F → F → List ℕ → List ℕ
@@ -59,21 +59,21 @@ ReadsBoth reads files bay program (Err unread) =
 
 -- what holds after an attempt: the file was written; or the name beside it is taken, and `next`
 -- holds; or the file could not be written
-abbrev pub FollowsTry : {F : Type 0} → Result Bool FileFault → Type 0 → F → F → Option FileFault
+abbrev pub AttemptOutcome : {F : Type 0} → Result Bool FileFault → Type 0 → F → F → Option FileFault
     → Type 0
-FollowsTry (Ok true) next mid new fault = (new ≡ mid) × (fault ≡ None)
-FollowsTry (Ok false) next mid new fault = next
-FollowsTry (Err e) next mid new fault = (new ≡ mid) × (fault ≡ Some e)
+AttemptOutcome (Ok true) next mid new fault = (new ≡ mid) × (fault ≡ None)
+AttemptOutcome (Ok false) next mid new fault = next
+AttemptOutcome (Err e) next mid new fault = (new ≡ mid) × (fault ≡ Some e)
 
 -- A file is written in at most n attempts (the first number), numbered from `number` on, until one
 -- finds a free name beside the file. If none does, it fails, and nothing more is done.
-unfoldable pub WritesWhole : {F : Type 0}
+unfoldable pub WritesAtomically : {F : Type 0}
     → FileWrites F → ℕ → ℕ → List ℕ
     → List ℕ → F → F → Option FileFault → Type 0
-WritesWhole writes zero number name octets old new fault =
+WritesAtomically writes zero number name octets old new fault =
     (new ≡ old) × (fault ≡ Some (Failed kind.Other))
-WritesWhole {F} writes (suc left) number name octets old new fault =
+WritesAtomically {F} writes (suc left) number name octets old new fault =
     (outcome : Result Bool FileFault) × (mid : F)
     × writes old name number octets outcome mid
-    × FollowsTry outcome (WritesWhole writes left (number + 1) name octets mid new fault) mid new
+    × AttemptOutcome outcome (WritesAtomically writes left (number + 1) name octets mid new fault) mid new
     fault

@@ -1,7 +1,7 @@
 // Files that a command reads and writes, by name.
 ghost use Rattle.std.specs.Prelude.{◌≡◌, ℕ, List, Bool, Option, None, Some, option_map, Result, Ok, Err, IfOk, IfErr, OnOk};
 ghost use Rattle.bay_io.specs.declared.input.ReadFault.{ReadFault};
-ghost use Rattle.bay_files.specs.Files.{ReadsBoth, ReadsFile, ReadsNamed, WritesWhole, unread_view};
+ghost use Rattle.bay_files.specs.Files.{ReadsBoth, ReadsFile, ReadsIfNamed, WritesAtomically, unread_view};
 ghost use Rattle.bay_files.specs.declared.files.FileFault.{FileFault};
 
 use bay_io::input::{ReadFault, read_all};
@@ -146,10 +146,10 @@ pub fn read_optional<'a, F: FileSystem>(
     name: Option<&'a str>,
 ) -> Result<Vec<u8>, UnreadFile<'a>>
     ensures ok { IfOk result
-        (λ octets. ReadsNamed F.reads files.now (option_map (λ n. n.now) name.entry)
+        (λ octets. ReadsIfNamed F.reads files.now (option_map (λ n. n.now) name.entry)
         (Ok octets.items)) }
     ensures err { IfErr result
-        (λ unread. ReadsNamed F.reads files.now (option_map (λ n. n.now) name.entry)
+        (λ unread. ReadsIfNamed F.reads files.now (option_map (λ n. n.now) name.entry)
         (Err (unread_view unread))) }
 {
     match name {
@@ -210,7 +210,7 @@ fn file_fault(error: &io::Error) -> FileFault {
 }
 
 // Opens a file for reading, and returns it with its mode.
-fn opened_with_mode<R: Files>(rt: &R, name: &str) -> io::Result<(R::File, u32)> {
+fn open_with_mode<R: Files>(rt: &R, name: &str) -> io::Result<(R::File, u32)> {
     let file = fs::open(rt, name)?;
     let mode = file.metadata()?.permissions().mode();
     Ok((file, mode))
@@ -227,7 +227,7 @@ struct Target {
 
 impl<R: Files> SystemFiles<'_, R> {
     // Returns the name that a link leads to, resolved from the link's folder.
-    fn led_by(&self, alloc: Global, link: &PathBuf) -> Result<PathBuf, FileFault> {
+    fn follow_link(&self, alloc: Global, link: &PathBuf) -> Result<PathBuf, FileFault> {
         let to = self
             .rt
             .read_link(alloc, link.as_str())
@@ -244,7 +244,7 @@ impl<R: Files> SystemFiles<'_, R> {
         let mut name = PathBuf::from_str(alloc, name)?;
         for _ in 0..LINKS {
             match self.rt.symlink_metadata(name.as_str()) {
-                Ok(found) if found.is_symlink() => name = self.led_by(alloc, &name)?,
+                Ok(found) if found.is_symlink() => name = self.follow_link(alloc, &name)?,
                 Ok(found) if found.is_file() => {
                     let mode = Some(found.permissions());
                     return Ok(Target { name, mode });
@@ -286,7 +286,7 @@ impl<R: Files<File = File>> FileSystem for SystemFiles<'_, R> {
     }
 
     fn read_guarded(&self, alloc: Global, name: &str) -> Result<ProtectedFile, ReadFault> {
-        let (file, mode) = opened_with_mode(self.rt, name).map_err(|error| read_fault(&error))?;
+        let (file, mode) = open_with_mode(self.rt, name).map_err(|error| read_fault(&error))?;
         let octets = read_all(alloc, &mut WatchedReader::new(file), FILE_LIMIT)?;
         Ok(ProtectedFile {
             octets,
@@ -342,9 +342,9 @@ pub fn write_atomically<F: FileSystem>(
     octets: &[u8],
 ) -> Result<(), FileFault>
     ensures ok { OnOk result
-        (WritesWhole F.writes 100 0 name.now octets.now files.old files.new None) }
+        (WritesAtomically F.writes 100 0 name.now octets.now files.old files.new None) }
     ensures err { IfErr result
-        (λ fault. WritesWhole F.writes 100 0 name.now octets.now files.old files.new (Some fault)) }
+        (λ fault. WritesAtomically F.writes 100 0 name.now octets.now files.old files.new (Some fault)) }
 {
     for number in 0..TRIES {
         match files.write(alloc, name, number, octets) {

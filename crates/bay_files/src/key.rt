@@ -2,7 +2,7 @@
 ghost use Rattle.std.specs.Prelude.{◌≡◌, ◌≤◌, length, option_map, Ok, Err, IfErr, IfOk};
 ghost use Rattle.std.specs.Char.{is_ascii_hexdigit};
 ghost use Rattle.std.specs.List.{prefix_len};
-ghost use Rattle.bay_files.specs.Keys.{ReadsKey, ReadsNamedKey, key_in, keyless_view};
+ghost use Rattle.bay_files.specs.Keys.{ReadsKey, ReadsKeyIfNamed, key_in, key_fault_view};
 ghost use Rattle.bay_files.specs.Keys as spec;
 
 use crate::files::{FileSystem, ProtectedFile};
@@ -45,9 +45,9 @@ fn digit_len(text: &[u8]) -> usize
 }
 
 // Returns whether a text is empty or one line end.
-#[tactic(auto, unfolding(crate::specs::Keys::is_end))]
-fn is_end(text: &[u8]) -> bool
-    ensures { result ≡ spec.is_end text.now }
+#[tactic(auto, unfolding(crate::specs::Keys::is_key_end))]
+fn is_key_end(text: &[u8]) -> bool
+    ensures { result ≡ spec.is_key_end text.now }
 {
     matches!(text, b"" | b"\n" | b"\r\n")
 }
@@ -57,7 +57,7 @@ fn key_length(text: &[u8]) -> Option<usize>
     ensures { result ≡ option_map length (key_in text.now) }
 {
     let digits = digit_len(text);
-    if is_end(&text[digits..]) && digits >= FEWEST && digits <= MOST {
+    if is_key_end(&text[digits..]) && digits >= FEWEST && digits <= MOST {
         Some(digits)
     } else {
         None
@@ -98,11 +98,11 @@ pub fn read_key<'a, F: FileSystem>(
     name: Option<&'a str>,
 ) -> Result<Option<Vec<u8>>, KeyFileFault<'a>>
     ensures ok { IfOk result
-        (λ key. ReadsNamedKey F.guards files.now (option_map (λ n. n.now) name.entry)
+        (λ key. ReadsKeyIfNamed F.guards files.now (option_map (λ n. n.now) name.entry)
         (Ok (option_map (λ digits. digits.items) key))) }
     ensures err { IfErr result
-        (λ keyless. ReadsNamedKey F.guards files.now (option_map (λ n. n.now) name.entry)
-        (Err (keyless_view keyless))) }
+        (λ keyless. ReadsKeyIfNamed F.guards files.now (option_map (λ n. n.now) name.entry)
+        (Err (key_fault_view keyless))) }
 {
     let Some(name) = name else {
         return Ok(None);

@@ -1,8 +1,8 @@
 -- Lemmas on the calls that a source or a sink was asked.
 use Rattle.std.proofs.Common.{◌≡◌, ℕ, ◌+◌, ◌≤◌, Bool, true, false, ◌||◌, List, [], ◌∷◌, ◌++◌, length-append, Result, Ok, Err, is_err, refl, ap, sym, subst, ◌∙◌, arith}
 use Rattle.std.proofs.Math.Bool.{or_assoc}
-use Rattle.bay_io.specs.Calls.{CallsMade, MakesFewCalls, MakesCalls, flushes, read_failed, reads, some_call, write_failed, writes}
-use Rattle.bay_io.specs.Watched.{write_fails}
+use Rattle.bay_io.specs.Calls.{SomeCalls, MakesFewCalls, MakesCalls, sink_flush, read_failed, source_read, some_call, write_failed, sink_write}
+use Rattle.bay_io.specs.Watched.{is_write_failure}
 
 pub or-false : (b : Bool) → b ≡ (b || false)
 or-false true = refl
@@ -22,12 +22,12 @@ talks-append does a b c (x ∷ xs) ys t u = (t.0, t.1, talks-append does t.0 b c
 
 module _ {S C : Type 0} {does : S → C → S → Type 0} {fails : C → Bool} where
   -- nothing was asked
-  abbrev pub Asked-none : (s : S) (b : Bool) → CallsMade does fails s b s b
+  abbrev pub Asked-none : (s : S) (b : Bool) → SomeCalls does fails s b s b
   Asked-none s b = record { calls = []; talks = refl; failed = or-false b }
 
   -- one call
   abbrev pub Asked-one : (old new : S) (was is : Bool) (call : C) → does old call new
-      → is ≡ (was || fails call) → CallsMade does fails old was new is
+      → is ≡ (was || fails call) → SomeCalls does fails old was new is
   Asked-one old new was is call d e = record {
     calls = call ∷ [];
     talks = (new, d, refl);
@@ -35,9 +35,9 @@ module _ {S C : Type 0} {does : S → C → S → Type 0} {fails : C → Bool} w
   }
 
   -- some, and then others
-  abbrev pub Asked-then : (a b c : S) (x y z : Bool) → CallsMade does fails a x b y
-      → CallsMade does fails b y c z
-      → CallsMade does fails a x c z
+  abbrev pub Asked-then : (a b c : S) (x y z : Bool) → SomeCalls does fails a x b y
+      → SomeCalls does fails b y c z
+      → SomeCalls does fails a x c z
   Asked-then a b c x y z p q = record {
     calls = p.calls ++ q.calls;
     talks = talks-append does a b c p.calls q.calls p.talks q.talks;
@@ -47,33 +47,33 @@ module _ {S C : Type 0} {does : S → C → S → Type 0} {fails : C → Bool} w
   }
 
   abbrev pub AskedFew-none : (s : S) (b : Bool) (most : ℕ) → MakesFewCalls does fails most s b s b
-  AskedFew-none s b most = record { asked = Asked-none s b; few = omega arith }
+  AskedFew-none s b most = record { calls_made = Asked-none s b; few = omega arith }
 
   -- one call more
   abbrev pub AskedFew-step : (a b c : S) (x y z : Bool) (most : ℕ) (call : C)
       → MakesFewCalls does fails most a x b y → does b call c → z ≡ (y || fails call)
       → MakesFewCalls does fails (most + 1) a x c z
   AskedFew-step a b c x y z most call p d e = record {
-    asked = Asked-then a b c x y z p.asked (Asked-one b c y z call d e);
-    few = omega (arith, p.few, length-append p.asked.calls (call ∷ []));
+    calls_made = Asked-then a b c x y z p.calls_made (Asked-one b c y z call d e);
+    few = omega (arith, p.few, length-append p.calls_made.calls (call ∷ []));
   }
 
   abbrev pub AskedFew-more : (a b : S) (x y : Bool) (few most : ℕ) → few ≤ most
       → MakesFewCalls does fails few a x b y → MakesFewCalls does fails most a x b y
-  AskedFew-more a b x y few most h p = record { asked = p.asked; few = omega (arith, p.few, h) }
+  AskedFew-more a b x y few most h p = record { calls_made = p.calls_made; few = omega (arith, p.few, h) }
 
 -- ---- which calls fail
 
 pub read-failed : {E : Type 0} (n : ℕ) (r : Result ℕ E) (room : List ℕ)
-    → is_err r ≡ read_failed (reads n r room)
+    → is_err r ≡ read_failed (source_read n r room)
 read-failed n (Ok k) room = refl
 read-failed n (Err e) room = refl
 
 pub write-failed : {E : Type 0} (octets : List ℕ) (r : Result ℕ E)
-    → write_fails octets r ≡ write_failed (writes octets r)
+    → is_write_failure octets r ≡ write_failed (sink_write octets r)
 write-failed octets (Ok k) = refl
 write-failed octets (Err e) = refl
 
-pub flush-failed : {X E : Type 0} (r : Result X E) → is_err r ≡ write_failed (flushes r)
+pub flush-failed : {X E : Type 0} (r : Result X E) → is_err r ≡ write_failed (sink_flush r)
 flush-failed (Ok x) = refl
 flush-failed (Err e) = refl

@@ -3,9 +3,9 @@ use Rattle.std.proofs.Common.{◌≡◌, ◌≢◌, ℕ, Bool, true, false, cond
 use Rattle.std.proofs.lemmas.Bool.{ne_eqb}
 use Rattle.std.specs.Io.KnownBytes.{Appends, Keeps}
 use Rattle.std.proofs.KnownBytes.{Appends-nil, Appends-trans, Appends-kept}
-use Rattle.bay_io.specs.Calls.{CallsMade, Unlogged, WriteCall, write_failed}
+use Rattle.bay_io.specs.Calls.{SomeCalls, Unlogged, WriteCall, write_failed}
 use Rattle.bay_io.specs.Sent.{Sends, SendsPart, Puts}
-use Rattle.bay_io.specs.Watched.{Watching, Writing}
+use Rattle.bay_io.specs.Watched.{SinkState, WriterState}
 use Rattle.bay_io.proofs.AskedLemmas.{Asked-none, Asked-then}
 
 pub Sends-all : (a b : Option (List ℕ)) (xs : List ℕ) → Appends a b xs → Sends a b xs []
@@ -122,11 +122,11 @@ joined false false a b c pending front back middle left put more kept =
 
 module _ {W : Type 0} {contents : W → Option (List ℕ)} {does : W → WriteCall → W → Type 0} where
   -- a text was put, and then another
-  pub Puts-then : {old mid new : Writing W} {front back : List ℕ} → Puts contents does old front mid
+  pub Puts-then : {old mid new : WriterState W} {front back : List ℕ} → Puts contents does old front mid
       → Puts contents does mid back new → Puts contents does old (front ++ back) new
   Puts-then {old} {mid} {new} {front} {back} put more = record {
-    asked = Asked-then old.inner mid.inner new.inner old.has_failed mid.has_failed new.has_failed
-        put.asked more.asked;
+    calls_made = Asked-then old.inner mid.inner new.inner old.has_failed mid.has_failed new.has_failed
+        put.calls_made more.calls_made;
     sent = joined mid.has_failed new.has_failed (contents old.inner) (contents mid.inner)
         (contents new.inner) old.pending front back mid.pending new.pending put.sent more.sent
         (λ e. (ap contents (more.kept e).0, (more.kept e).1));
@@ -137,14 +137,14 @@ module _ {W : Type 0} {contents : W → Option (List ℕ)} {does : W → WriteCa
     same_logs = more.same_logs ∙ put.same_logs;
   }
 
-  pub Puts-as : {old new : Writing W} {text : List ℕ} (other : List ℕ) → text ≡ other
+  pub Puts-as : {old new : WriterState W} {text : List ℕ} (other : List ℕ) → text ≡ other
       → Puts contents does old text new → Puts contents does old other new
   Puts-as {old} {new} {text} other e put = subst (λ t. Puts contents does old t new) e put
 
   -- nothing was put
-  pub Puts-nil : (w : Writing W) → Puts contents does w [] w
+  pub Puts-nil : (w : WriterState W) → Puts contents does w [] w
   Puts-nil w = record {
-    asked = Asked-none w.inner w.has_failed;
+    calls_made = Asked-none w.inner w.has_failed;
     sent = by_failed w.has_failed;
     kept = λ e. (refl, e);
     same_logs = refl;
@@ -159,16 +159,16 @@ module _ {W : Type 0} {contents : W → Option (List ℕ)} {does : W → WriteCa
           (sym (append-nil w.pending)) (Sends-none (contents w.inner) w.pending)
 
   -- a text goes by the buffer, which is empty
-  pub Puts-out : {X E : Type 0} (old new : Writing W) (text : List ℕ) (r : Result X E)
+  pub Puts-out : {X E : Type 0} (old new : WriterState W) (text : List ℕ) (r : Result X E)
       → OnOk r (Appends (contents old.inner) (contents new.inner) (old.pending ++ text))
       → OnErr r (SendsPart (contents old.inner) (contents new.inner) (old.pending ++ text))
       → OnOk r (new.pending ≡ []) → is_err r ≡ new.has_failed
       → (old.has_failed ≡ true → (new.inner ≡ old.inner) × (new.has_failed ≡ true))
-      → CallsMade (Unlogged does) write_failed old.inner old.has_failed new.inner new.has_failed
+      → SomeCalls (Unlogged does) write_failed old.inner old.has_failed new.inner new.has_failed
       → new.logs ≡ old.logs → Puts contents does old text new
-  Puts-out {X} {E} old new text (Ok x) all part none failed kept asked logs =
+  Puts-out {X} {E} old new text (Ok x) all part none failed kept calls_made logs =
       record {
-        asked = asked;
+        calls_made = calls_made;
         sent = subst (λ b. MatchBool b
             (SendsPart (contents old.inner) (contents new.inner) (old.pending ++ text))
             (Sends (contents old.inner) (contents new.inner) (old.pending ++ text) new.pending))
@@ -179,9 +179,9 @@ module _ {W : Type 0} {contents : W → Option (List ℕ)} {does : W → WriteCa
         kept = kept;
         same_logs = logs;
       }
-  Puts-out {X} {E} old new text (Err e) all part none failed kept asked logs =
+  Puts-out {X} {E} old new text (Err e) all part none failed kept calls_made logs =
       record {
-        asked = asked;
+        calls_made = calls_made;
         sent = subst (λ b. MatchBool b
             (SendsPart (contents old.inner) (contents new.inner) (old.pending ++ text))
             (Sends (contents old.inner) (contents new.inner) (old.pending ++ text) new.pending))
@@ -191,7 +191,7 @@ module _ {W : Type 0} {contents : W → Option (List ℕ)} {does : W → WriteCa
       }
 
   -- a text was kept in the buffer
-  pub Puts-kept : (old : Writing W) (sink : Watching W) (pending text left : List ℕ) (kept : Bool)
+  pub Puts-kept : (old : WriterState W) (sink : SinkState W) (pending text left : List ℕ) (kept : Bool)
       → record {
         inner = sink.inner;
         has_failed = sink.has_failed;
@@ -215,7 +215,7 @@ module _ {W : Type 0} {contents : W → Option (List ℕ)} {does : W → WriteCa
         logs = sink.logs;
         pending = left;
       })) same (record {
-        asked = Asked-none sink.inner sink.has_failed;
+        calls_made = Asked-none sink.inner sink.has_failed;
         sent = by_failed sink.has_failed;
         kept = λ f. (refl, f);
         same_logs = refl;
@@ -231,53 +231,53 @@ module _ {W : Type 0} {contents : W → Option (List ℕ)} {does : W → WriteCa
   Puts-kept old sink pending text left false same e is = absurd cc
 
   -- what was pending was written out, and then a text was put
-  pub Puts-after : {X E : Type 0} (old mid new : Writing W) (text : List ℕ) (r : Result X E)
+  pub Puts-after : {X E : Type 0} (old mid new : WriterState W) (text : List ℕ) (r : Result X E)
       → OnOk r (Appends (contents old.inner) (contents mid.inner) old.pending)
       → OnOk r (mid.pending ≡ []) → is_err r ≡ mid.has_failed
       → (old.has_failed ≡ true → mid ≡ old)
-      → CallsMade (Unlogged does) write_failed old.inner old.has_failed mid.inner mid.has_failed
+      → SomeCalls (Unlogged does) write_failed old.inner old.has_failed mid.inner mid.has_failed
       → mid.logs ≡ old.logs
       → is_ok r ≡ true → Puts contents does mid text new → Puts contents does old text new
-  Puts-after {X} {E} old mid new text (Ok x) all none failed kept asked logs is put =
+  Puts-after {X} {E} old mid new text (Ok x) all none failed kept calls_made logs is put =
       Puts-then (Puts-out {X = X} {E = E} old mid [] (Ok x)
       (subst (Appends (contents old.inner) (contents mid.inner)) (sym (append-nil old.pending)) all)
       tt none failed
       (λ e. (
-        ap (λ (w : Writing W). w.inner) (kept e),
-        ap (λ (w : Writing W). w.has_failed) (kept e) ∙ e,
-      )) asked logs) put
-  Puts-after {X} {E} old mid new text (Err e) all none failed kept asked logs is put = absurd cc
+        ap (λ (w : WriterState W). w.inner) (kept e),
+        ap (λ (w : WriterState W). w.has_failed) (kept e) ∙ e,
+      )) calls_made logs) put
+  Puts-after {X} {E} old mid new text (Err e) all none failed kept calls_made logs is put = absurd cc
 
   -- it could not be written out
-  pub Puts-stuck : {X E : Type 0} (old mid : Writing W) (text : List ℕ) (r : Result X E)
+  pub Puts-stuck : {X E : Type 0} (old mid : WriterState W) (text : List ℕ) (r : Result X E)
       → OnErr r (SendsPart (contents old.inner) (contents mid.inner) old.pending)
       → is_err r ≡ mid.has_failed → (old.has_failed ≡ true → mid ≡ old)
-      → CallsMade (Unlogged does) write_failed old.inner old.has_failed mid.inner mid.has_failed
+      → SomeCalls (Unlogged does) write_failed old.inner old.has_failed mid.inner mid.has_failed
       → mid.logs ≡ old.logs
       → is_ok r ≡ false → Puts contents does old text mid
-  Puts-stuck {X} {E} old mid text (Ok x) part failed kept asked logs is = absurd cc
-  Puts-stuck {X} {E} old mid text (Err e) part failed kept asked logs is =
+  Puts-stuck {X} {E} old mid text (Ok x) part failed kept calls_made logs is = absurd cc
+  Puts-stuck {X} {E} old mid text (Err e) part failed kept calls_made logs is =
       Puts-out {X = X} {E = E} old mid text (Err e) tt
       (SendsPart-more (contents old.inner) (contents mid.inner) old.pending text
       (old.pending ++ text) part refl) tt failed
       (λ f. (
-        ap (λ (w : Writing W). w.inner) (kept f),
-        ap (λ (w : Writing W). w.has_failed) (kept f) ∙ f,
-      )) asked logs
+        ap (λ (w : WriterState W). w.inner) (kept f),
+        ap (λ (w : WriterState W). w.has_failed) (kept f) ∙ f,
+      )) calls_made logs
 
 -- of a text, all but the rest was put into a writer
 pub record Rest {W : Type 0} (contents : W → Option (List ℕ)) (does : W → WriteCall → W → Type 0)
-    (old : Writing W) (text rest : List ℕ) (new : Writing W) : Type 0 where
+    (old : WriterState W) (text rest : List ℕ) (new : WriterState W) : Type 0 where
   pub done : List ℕ
   pub whole : text ≡ done ++ rest
   pub put : Puts contents does old done new
 
 module _ {W : Type 0} {contents : W → Option (List ℕ)} {does : W → WriteCall → W → Type 0} where
-  pub Rest-start : (w : Writing W) (text : List ℕ) → Rest contents does w text text w
+  pub Rest-start : (w : WriterState W) (text : List ℕ) → Rest contents does w text text w
   Rest-start w text = record { done = []; whole = refl; put = Puts-nil w }
 
   -- a part more was put
-  pub Rest-step : {old mid new : Writing W} {text rest part more : List ℕ}
+  pub Rest-step : {old mid new : WriterState W} {text rest part more : List ℕ}
       → Rest contents does old text rest mid → rest ≡ part ++ more → Puts contents does mid part new
       → Rest contents does old text more new
   Rest-step {old} {mid} {new} {text} {rest} {part} {more} r e put = record {
@@ -287,7 +287,7 @@ module _ {W : Type 0} {contents : W → Option (List ℕ)} {does : W → WriteCa
   }
 
   -- all was put
-  pub Rest-end : {old new : Writing W} {text rest : List ℕ} → Rest contents does old text rest new
+  pub Rest-end : {old new : WriterState W} {text rest : List ℕ} → Rest contents does old text rest new
       → rest ≡ [] → Puts contents does old text new
   Rest-end {old} {new} {text} {rest} r e =
       Puts-as text (sym (r.whole ∙ ap (λ t. r.done ++ t) e ∙ append-nil r.done)) r.put

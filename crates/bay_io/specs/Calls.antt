@@ -9,7 +9,7 @@ use Rattle.bay_io.specs.declared.calls.LinePart.TheVariants.{Text, Number, Momen
 -- the size of the room in octets, and the octets read
 pub record ReadCall : Type 0 where
   pub room : ℕ
-  pub came : Option (List ℕ)
+  pub octets_read : Option (List ℕ)
 
 -- the octets offered, and how many of them were accepted; a flush, and whether it succeeded; a line
 -- that was logged
@@ -19,21 +19,21 @@ pub data WriteCall : Type 0 where
   Log : List ℕ → WriteCall
 
 -- the octets of a read, from its result and the octets in its room after it
-abbrev pub came_of : {E : Type 0} → Result ℕ E → List ℕ → Option (List ℕ)
-came_of (Ok n) room = Some (take n room)
-came_of (Err e) room = None
+abbrev pub octets_read_of : {E : Type 0} → Result ℕ E → List ℕ → Option (List ℕ)
+octets_read_of (Ok n) room = Some (take n room)
+octets_read_of (Err e) room = None
 
 -- a read, from the size of its room, its result, and the octets in the room after it
-abbrev pub reads : {E : Type 0} → ℕ → Result ℕ E → List ℕ → ReadCall
-reads room answer after = record { room = room; came = came_of answer after }
+abbrev pub source_read : {E : Type 0} → ℕ → Result ℕ E → List ℕ → ReadCall
+source_read room answer after = record { room = room; octets_read = octets_read_of answer after }
 
 -- a write, from the octets offered and its result
-abbrev pub writes : {E : Type 0} → List ℕ → Result ℕ E → WriteCall
-writes octets answer = Write octets (result_ok answer)
+abbrev pub sink_write : {E : Type 0} → List ℕ → Result ℕ E → WriteCall
+sink_write octets answer = Write octets (result_ok answer)
 
 -- a flush, from its result
-abbrev pub flushes : {X E : Type 0} → Result X E → WriteCall
-flushes answer = Flush (is_ok answer)
+abbrev pub sink_flush : {X E : Type 0} → Result X E → WriteCall
+sink_flush answer = Flush (is_ok answer)
 
 -- the text of a part of a line: a text, a number in decimal digits, or a moment
 abbrev pub part_text : LinePart → List ℕ
@@ -50,7 +50,7 @@ parts_text (part ∷ parts) = part_text part ++ parts_text parts
 
 -- whether a read failed
 abbrev pub read_failed : ReadCall → Bool
-read_failed call = is_none call.came
+read_failed call = is_none call.octets_read
 
 -- whether a write or a flush failed, or a write accepted none of the octets offered; a line of the
 -- log never counts as failed
@@ -83,15 +83,15 @@ MakesCalls {S} does old (call ∷ calls) new =
 
 -- Some calls led from the old state to the new one; and a call has failed by now if one had failed
 -- before, or one of these calls failed.
-pub record CallsMade {S C : Type 0} (does : S → C → S → Type 0) (fails : C → Bool) (old : S)
-    (was : Bool) (new : S) (is : Bool) : Type 0 where
+pub record SomeCalls {S C : Type 0} (does : S → C → S → Type 0) (fails : C → Bool) (old : S)
+    (had_failed : Bool) (new : S) (has_failed : Bool) : Type 0 where
   pub calls : List C
   pub talks : MakesCalls does old calls new
-  pub failed : is ≡ (was || some_call fails calls)
+  pub failed : has_failed ≡ (had_failed || some_call fails calls)
 
 -- At most `most` calls led from the old state to the new one; and a call has failed by now if one
 -- had failed before, or one of these calls failed.
 pub record MakesFewCalls {S C : Type 0} (does : S → C → S → Type 0) (fails : C → Bool) (most : ℕ)
-    (old : S) (was : Bool) (new : S) (is : Bool) : Type 0 where
-  pub asked : CallsMade does fails old was new is
-  pub few : length asked.calls ≤ most
+    (old : S) (had_failed : Bool) (new : S) (has_failed : Bool) : Type 0 where
+  pub calls_made : SomeCalls does fails old had_failed new has_failed
+  pub few : length calls_made.calls ≤ most

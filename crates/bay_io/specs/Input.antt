@@ -5,23 +5,23 @@ use Rattle.bay_io.specs.declared.input.ReadFault.{ReadFault}
 use Rattle.bay_io.specs.declared.input.ReadFault.TheVariants.{TooLong, Failed, OutOfMemory}
 
 -- whether a result means that a read failed
-abbrev pub failed_of : {A : Type 0} → Result A ReadFault → Bool
-failed_of (Ok octets) = false
-failed_of (Err TooLong) = false
-failed_of (Err (Failed kind)) = true
-failed_of (Err OutOfMemory) = false
+abbrev pub is_read_failure : {A : Type 0} → Result A ReadFault → Bool
+is_read_failure (Ok octets) = false
+is_read_failure (Err TooLong) = false
+is_read_failure (Err (Failed kind)) = true
+is_read_failure (Err OutOfMemory) = false
 
 -- the octets of all reads, in their order
 abbrev pub octets_of : List ReadCall → List ℕ
 octets_of [] = []
-octets_of (call ∷ calls) = unwrap_or call.came [] ++ octets_of calls
+octets_of (call ∷ calls) = unwrap_or call.octets_read [] ++ octets_of calls
 
 -- The last of these reads had room and returned no octets: that is the end.
 pub record IsEnded (calls : List ReadCall) : Type 0 where
   pub before : List ReadCall
   pub room : ℕ
   pub some : 0 < room
-  pub split : calls ≡ before ++ record { room = room; came = Some [] } ∷ []
+  pub split : calls ≡ before ++ record { room = room; octets_read = Some [] } ∷ []
 
 -- When reads up to a limit end with a fault: with `TooLong` if they returned more octets than the
 -- limit; with `OutOfMemory` only if they reached the end within the limit; `Failed` follows from
@@ -34,9 +34,9 @@ FailsAs limit calls OutOfMemory = IsEnded calls × (length (octets_of calls) ≤
 -- At most `limit` + 1 reads were made. The result is all octets that they returned, in their order,
 -- up to the end; or a fault.
 pub record ReadsAll {S A : Type 0} (does : S → ReadCall → S → Type 0) (octets : A → List ℕ)
-    (limit : ℕ) (old : S) (was : Bool) (new : S) (is : Bool) (result : Result A ReadFault)
+    (limit : ℕ) (old : S) (had_failed : Bool) (new : S) (has_failed : Bool) (result : Result A ReadFault)
     : Type 0 where
-  pub asked : MakesFewCalls does read_failed (limit + 1) old was new is
+  pub calls_made : MakesFewCalls does read_failed (limit + 1) old had_failed new has_failed
   pub gave : MatchResult result
-      (λ all. (octets all ≡ octets_of asked.asked.calls) × IsEnded asked.asked.calls)
-      (FailsAs limit asked.asked.calls)
+      (λ all. (octets all ≡ octets_of calls_made.calls_made.calls) × IsEnded calls_made.calls_made.calls)
+      (FailsAs limit calls_made.calls_made.calls)

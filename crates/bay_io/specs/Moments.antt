@@ -51,13 +51,13 @@ date_text y m days ms =
 
 -- the text of a moment, from its year with the day's offset in the year, and the milliseconds of
 -- the day
-abbrev pub dated : ℕ × ℕ → ℕ → List ℕ
-dated year ms =
+abbrev pub text_in_year : ℕ × ℕ → ℕ → List ℕ
+text_in_year year ms =
     let month = month_from 11 year.0 1 year.1 in date_text year.0 month.0 month.1 ms
 
 -- the text of a moment in milliseconds since 1970, up to the last of the year 9999
 abbrev pub date_of : ℕ → List ℕ
-date_of moment = dated (year_from 8029 1970 (moment / 86400000)) (moment % 86400000)
+date_of moment = text_in_year (year_from 8029 1970 (moment / 86400000)) (moment % 86400000)
 
 -- the text of a moment in milliseconds since 1970; after the year 9999, that of its last
 -- millisecond

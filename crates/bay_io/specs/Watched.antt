@@ -2,20 +2,20 @@
 use Rattle.std.specs.Prelude.{ℕ, Bool, true, ◌&&◌, ◌==◌, nat_lt, List, length, Result, Ok, Err}
 
 -- a reader, and whether a read has failed
-pub record Reading (R : Type 0) : Type 0 where
+pub record ReaderState (R : Type 0) : Type 0 where
   pub inner : R
   pub has_failed : Bool
 
 -- a sink, whether a write or a flush has failed, whether the sink was flushed since its last write,
 -- and whether lines are logged
-pub record Watching (W : Type 0) : Type 0 where
+pub record SinkState (W : Type 0) : Type 0 where
   pub inner : W
   pub has_failed : Bool
   pub is_flushed : Bool
   pub logs : Bool
 
 -- a writer: its sink, what is known of the sink, and the octets not yet written
-pub record Writing (W : Type 0) : Type 0 where
+pub record WriterState (W : Type 0) : Type 0 where
   pub inner : W
   pub has_failed : Bool
   pub is_flushed : Bool
@@ -23,6 +23,6 @@ pub record Writing (W : Type 0) : Type 0 where
   pub pending : List ℕ
 
 -- whether a write fails, or accepts none of the octets offered
-abbrev pub write_fails : {E : Type 0} → List ℕ → Result ℕ E → Bool
-write_fails given (Ok n) = n == 0 && nat_lt 0 (length given)
-write_fails given (Err e) = true
+abbrev pub is_write_failure : {E : Type 0} → List ℕ → Result ℕ E → Bool
+is_write_failure given (Ok n) = n == 0 && nat_lt 0 (length given)
+is_write_failure given (Err e) = true

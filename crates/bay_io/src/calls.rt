@@ -2,7 +2,7 @@
 ghost use Rattle.std.specs.Prelude.{ℕ, List, length, Option, None};
 ghost use Rattle.std.specs.Io.{ReadsAtMost, WritesAtMost};
 ghost use Rattle.std.specs.Io.KnownBytes.{Keeps, ReadConsumes, WriteAppends};
-ghost use Rattle.bay_io.specs.Calls.{Log, ReadCall, WriteCall, flushes, parts_text, reads, writes};
+ghost use Rattle.bay_io.specs.Calls.{Log, ReadCall, WriteCall, sink_flush, parts_text, source_read, sink_write};
 
 use std::io;
 use std::io::{Read, Write};
@@ -23,7 +23,7 @@ pub trait OctetSource {
     fn read_octets(&mut self, room: &mut [u8]) -> io::Result<usize>
         ensures bound { ReadsAtMost result room.new }
         ensures bytes { ReadConsumes (remaining self.old) (remaining self.new) result room.new }
-        ensures call { does self.old (reads (length room.old) result room.new) self.new };
+        ensures call { does self.old (source_read (length room.old) result room.new) self.new };
 }
 
 /// A part of a line of the log.
@@ -48,12 +48,12 @@ pub trait Sink {
     fn write_octets(&mut self, octets: &[u8]) -> io::Result<usize>
         ensures bound { WritesAtMost result octets.now }
         ensures bytes { WriteAppends (contents self.old) (contents self.new) result octets.now }
-        ensures call { does self.old (writes octets.now result) self.new };
+        ensures call { does self.old (sink_write octets.now result) self.new };
 
     /// Flushes the octets written before.
     fn flush_octets(&mut self) -> io::Result<()>
         ensures bytes { Keeps (contents self.old) (contents self.new) }
-        ensures call { does self.old (flushes result) self.new };
+        ensures call { does self.old (sink_flush result) self.new };
 
     /// Logs the line of these parts, the last of which ends with LF. A failure of the log is not
     /// reported.

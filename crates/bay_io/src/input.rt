@@ -1,6 +1,6 @@
 // All octets of a reader, up to a limit.
 ghost use Rattle.std.specs.Prelude.{◌≡◌, ◌+◌, ◌-◌, ◌^◌, ◌<◌, ◌≤◌, ◌++◌, true, is_ok, length, vec_len, IfOk, IfSome};
-ghost use Rattle.bay_io.specs.Input.{ReadsAll, failed_of};
+ghost use Rattle.bay_io.specs.Input.{ReadsAll, is_read_failure};
 
 use crate::calls::OctetSource;
 use crate::reader::WatchedReader;
@@ -25,7 +25,7 @@ pub enum ReadFault {
 }
 
 // Appends octets to the buffer, if all octets before them were appended.
-fn keep(all: &mut Vec<u8>, kept: Result<(), AllocError>, octets: &[u8]) -> Result<(), AllocError>
+fn append_octets(all: &mut Vec<u8>, kept: Result<(), AllocError>, octets: &[u8]) -> Result<(), AllocError>
     ensures { is_ok result ≡ true
         → (is_ok kept ≡ true) × (all.new.items ≡ all.old.items ++ octets.now) }
 {
@@ -50,9 +50,9 @@ pub fn read_all<R: OctetSource>(
         → IfSome (R.remaining reader.old.inner) (λ xs. limit < length xs) }
     ensures memory { result ≡ Err ReadFault.OutOfMemory
         → IfSome (R.remaining reader.old.inner) (λ xs. length xs ≤ limit) }
-    ensures failed { reader.new.has_failed ≡ failed_of result }
+    ensures failed { reader.new.has_failed ≡ is_read_failure result }
     // The reads that were made, and that the result is all octets that they returned.
-    ensures asked { ReadsAll R.does (λ v. v.items) limit reader.old.inner reader.old.has_failed
+    ensures calls_made { ReadsAll R.does (λ v. v.items) limit reader.old.inner reader.old.has_failed
         reader.new.inner reader.new.has_failed result }
 {
     if reader.has_failed() {
@@ -75,7 +75,7 @@ pub fn read_all<R: OctetSource>(
                     return Err(ReadFault::TooLong);
                 }
                 count += n;
-                kept = keep(&mut all, kept, &piece[..n]);
+                kept = append_octets(&mut all, kept, &piece[..n]);
             }
             Err(error) => return Err(ReadFault::Failed(error.kind())),
         }

@@ -1,7 +1,7 @@
 // A buffer of octets that are not yet written.
 ghost use Rattle.std.specs.Prelude.{◌≡◌, ◌+◌, ◌≤◌, ◌++◌, [], length, take, drop, if◌then◌else◌};
 ghost use Rattle.std.specs.Fmt.{decimal};
-ghost use Rattle.bay_io.specs.Sent.{has_room};
+ghost use Rattle.bay_io.specs.Sent.{fits_buffer};
 
 use itoa::Buffer;
 use std::marker::Model;
@@ -20,7 +20,7 @@ pub struct WriteFault;
 #[inline(always)]
 fn append(room: &mut [u8; ROOM], count: &mut usize, text: &[u8]) -> bool
     requires { count.old ≤ 65536 }
-    ensures fits { result ≡ has_room (take count.old room.old) text.now }
+    ensures fits { result ≡ fits_buffer (take count.old room.old) text.now }
     ensures after { take count.new room.new
         ≡ (if result then take count.old room.old ++ text.now else take count.old room.old) }
     ensures within { count.new ≤ 65536 }
@@ -70,7 +70,7 @@ impl Outbox {
     /// Appends a text if it fits in the buffer. Returns whether it fitted.
     #[inline(always)]
     pub fn keep(&mut self, text: &[u8]) -> bool
-        ensures fits { result ≡ has_room self.old text.now }
+        ensures fits { result ≡ fits_buffer self.old text.now }
         ensures after { self.new ≡ (if result then self.old ++ text.now else self.old) }
     {
         append(&mut self.room, &mut self.count, text)
@@ -80,7 +80,7 @@ impl Outbox {
     /// fitted.
     #[inline(always)]
     pub fn append_number(&mut self, number: u64) -> bool
-        ensures fits { result ≡ has_room self.old (decimal number) }
+        ensures fits { result ≡ fits_buffer self.old (decimal number) }
         ensures after { self.new ≡ (if result then self.old ++ decimal number else self.old) }
     {
         let digits = self.digits.format(number);

@@ -2,7 +2,7 @@
 ghost use Rattle.std.specs.Prelude.{◌≡◌, ◌||◌, false, is_err, length};
 ghost use Rattle.std.specs.Io.{ReadsAtMost};
 ghost use Rattle.std.specs.Io.KnownBytes.{ReadConsumes};
-ghost use Rattle.bay_io.specs.Calls.{reads};
+ghost use Rattle.bay_io.specs.Calls.{source_read};
 
 use crate::calls::OctetSource;
 use std::io;
@@ -16,9 +16,9 @@ pub struct WatchedReader<R> {
 }
 
 impl<R> Model for WatchedReader<R> {
-    ghost use Rattle.bay_io.specs.Watched.{Reading};
+    ghost use Rattle.bay_io.specs.Watched.{ReaderState};
 
-    ghost Value = { Reading R };
+    ghost Value = { ReaderState R };
 
     ghost view = { λ w. record { inner = w.inner; has_failed = w.has_failed } };
 }
@@ -50,7 +50,7 @@ impl<R: OctetSource> WatchedReader<R> {
         ensures bytes { ReadConsumes (R.remaining self.old.inner) (R.remaining self.new.inner)
             result room.new }
         // The source was read once, with this room and this result.
-        ensures call { R.does self.old.inner (reads (length room.old) result room.new)
+        ensures call { R.does self.old.inner (source_read (length room.old) result room.new)
             self.new.inner }
         ensures failed { self.new.has_failed ≡ (self.old.has_failed || is_err result) }
     {

@@ -3,7 +3,7 @@
 ghost use Rattle.std.specs.Prelude.{◌≡◌, ◌||◌, true, false, is_ok, is_err, if◌then◌else◌, MatchBool};
 ghost use Rattle.std.specs.Io.{WritesAtMost};
 ghost use Rattle.std.specs.Io.KnownBytes.{WriteAppends, Keeps};
-ghost use Rattle.bay_io.specs.Calls.{Log, parts_text, writes, flushes};
+ghost use Rattle.bay_io.specs.Calls.{Log, parts_text, sink_write, sink_flush};
 ghost use Rattle.bay_io.specs.Watched as spec;
 
 use crate::calls::{LinePart, Sink};
@@ -21,9 +21,9 @@ pub struct Watched<W> {
 }
 
 impl<W> Model for Watched<W> {
-    ghost use Rattle.bay_io.specs.Watched.{Watching};
+    ghost use Rattle.bay_io.specs.Watched.{SinkState};
 
-    ghost Value = { Watching W };
+    ghost Value = { SinkState W };
 
     ghost view = { λ w. record {
       inner = w.inner;
@@ -83,8 +83,8 @@ impl<W> Watched<W> {
 }
 
 // Returns whether a write of a text failed or accepted none of it.
-fn write_fails(text: &[u8], outcome: &io::Result<usize>) -> bool
-    ensures { result ≡ spec.write_fails text.now outcome.now }
+fn is_write_failure(text: &[u8], outcome: &io::Result<usize>) -> bool
+    ensures { result ≡ spec.is_write_failure text.now outcome.now }
 {
     match outcome {
         Ok(taken) => *taken == 0 && !text.is_empty(),
@@ -100,14 +100,14 @@ impl<W: Sink> Watched<W> {
         ensures bytes { WriteAppends (W.contents self.old.inner) (W.contents self.new.inner) result
             octets.now }
         // The sink was offered these octets once, with this result.
-        ensures call { W.does self.old.inner (writes octets.now result) self.new.inner }
+        ensures call { W.does self.old.inner (sink_write octets.now result) self.new.inner }
         ensures failed { self.new.has_failed
-            ≡ (self.old.has_failed || spec.write_fails octets.now result) }
+            ≡ (self.old.has_failed || spec.is_write_failure octets.now result) }
         ensures flushed { self.new.is_flushed ≡ false }
         ensures logs { self.new.logs ≡ self.old.logs }
     {
         let outcome = self.inner.write_octets(octets);
-        if write_fails(octets, &outcome) {
+        if is_write_failure(octets, &outcome) {
             self.has_failed = true;
         }
         self.is_flushed = false;
@@ -117,7 +117,7 @@ impl<W: Sink> Watched<W> {
     /// Flushes the sink. Fails if the sink does, and records that.
     pub fn flush(&mut self) -> io::Result<()>
         ensures bytes { Keeps (W.contents self.old.inner) (W.contents self.new.inner) }
-        ensures call { W.does self.old.inner (flushes result) self.new.inner }
+        ensures call { W.does self.old.inner (sink_flush result) self.new.inner }
         ensures failed { self.new.has_failed ≡ (self.old.has_failed || is_err result) }
         ensures flushed { self.new.is_flushed
             ≡ (if is_ok result then true else self.old.is_flushed) }

@@ -4,7 +4,7 @@
 ghost use Rattle.std.specs.Prelude.{◌≡◌, [], true, false, is_err, OnOk, OnErr};
 ghost use Rattle.std.specs.Fmt.{decimal};
 ghost use Rattle.std.specs.Io.KnownBytes.{Appends, Keeps};
-ghost use Rattle.bay_io.specs.Calls.{CallsMade, Unlogged, parts_text, write_failed};
+ghost use Rattle.bay_io.specs.Calls.{SomeCalls, Unlogged, parts_text, write_failed};
 ghost use Rattle.bay_io.specs.Sent.{Finishes, Logs, Puts, SendsPart};
 
 use crate::calls::{LinePart, Sink};
@@ -21,7 +21,7 @@ fn write_out<W: Sink>(sink: &mut Watched<W>, text: &[u8]) -> Result<(), WriteFau
     ensures err { OnErr result
         (SendsPart (W.contents sink.old.inner) (W.contents sink.new.inner) text.now) }
     ensures fault { is_err result ≡ sink.new.has_failed }
-    ensures asked { CallsMade (Unlogged W.does) write_failed sink.old.inner sink.old.has_failed
+    ensures calls_made { SomeCalls (Unlogged W.does) write_failed sink.old.inner sink.old.has_failed
         sink.new.inner sink.new.has_failed }
     ensures kept { sink.old.has_failed ≡ true → sink.new ≡ sink.old }
     ensures logs { sink.new.logs ≡ sink.old.logs }
@@ -45,7 +45,7 @@ fn flush_out<W: Sink>(sink: &mut Watched<W>) -> Result<(), WriteFault>
     ensures kept { Keeps (W.contents sink.old.inner) (W.contents sink.new.inner) }
     ensures flushed { OnOk result (sink.new.is_flushed ≡ true) }
     ensures fault { is_err result ≡ sink.new.has_failed }
-    ensures asked { CallsMade (Unlogged W.does) write_failed sink.old.inner sink.old.has_failed
+    ensures calls_made { SomeCalls (Unlogged W.does) write_failed sink.old.inner sink.old.has_failed
         sink.new.inner sink.new.has_failed }
     ensures logs { sink.new.logs ≡ sink.old.logs }
 {
@@ -69,9 +69,9 @@ pub struct WatchedWriter<W> {
 }
 
 impl<W> Model for WatchedWriter<W> {
-    ghost use Rattle.bay_io.specs.Watched.{Writing};
+    ghost use Rattle.bay_io.specs.Watched.{WriterState};
 
-    ghost Value = { Writing W };
+    ghost Value = { WriterState W };
 
     ghost view = { λ w. record {
       inner = w.sink.inner;
@@ -139,7 +139,7 @@ impl<W: Sink> WatchedWriter<W> {
             (SendsPart (W.contents self.old.inner) (W.contents self.new.inner) self.old.pending) }
         ensures empty { OnOk result (self.new.pending ≡ []) }
         ensures fault { is_err result ≡ self.new.has_failed }
-        ensures asked { CallsMade (Unlogged W.does) write_failed self.old.inner self.old.has_failed
+        ensures calls_made { SomeCalls (Unlogged W.does) write_failed self.old.inner self.old.has_failed
             self.new.inner self.new.has_failed }
         ensures kept { self.old.has_failed ≡ true → self.new ≡ self.old }
         ensures logs { self.new.logs ≡ self.old.logs }

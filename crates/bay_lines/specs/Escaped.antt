@@ -18,7 +18,7 @@ escaped_octets [] = []
 escaped_octets (octet ∷ octets) = escaped_octet octet ++ escaped_octets octets
 
 -- The first 80 octets, escaped, and two dots if there are more.
-abbrev pub shown_text : List ℕ → List ℕ
-shown_text octets =
+abbrev pub escaped_text : List ℕ → List ℕ
+escaped_text octets =
     if nat_le (length octets) 80 then escaped_octets octets
     else escaped_octets (take 80 octets) ++ codes ".."

@@ -11,8 +11,8 @@ pub data LineSearchData : Type 0 where
   Whole : List ℕ → List ℕ → LineSearchData
 
 -- whether an octet is LF
-abbrev pub is_end : ℕ → Bool
-is_end b = b == 10
+abbrev pub is_lf : ℕ → Bool
+is_lf b = b == 10
 
 -- whether an octet is present and is CR
 abbrev pub is_return : Option ℕ → Bool
@@ -35,7 +35,7 @@ first_line_at xs (Some k) = Whole (without_return (take k xs)) (drop (k + 1) xs)
 -- The first line. A line has at most 256 octets before its LF; a CR before the LF is no part of the
 -- line.
 abbrev pub first_line_of : List ℕ → LineSearchData
-first_line_of xs = first_line_at xs (position is_end (take 257 xs))
+first_line_of xs = first_line_at xs (position is_lf (take 257 xs))
 
 -- the view of the code's result, which has lengths: of the line, and of the line with its end
 abbrev pub first_line_view : List ℕ → LineSearch → LineSearchData

@@ -1,7 +1,7 @@
 // Escaping octets for a log.
 ghost use Rattle.std.specs.Prelude.{◌≡◌, ◌+◌, ◌<◌, ◌≤◌, ◌++◌, length, take};
 ghost use Rattle.std.specs.Char.{digit_char};
-ghost use Rattle.bay_lines.specs.Escaped.{escaped_octet, escaped_octets, shown_text};
+ghost use Rattle.bay_lines.specs.Escaped.{escaped_octet, escaped_octets, escaped_text};
 ghost use Rattle.bay_lines.specs.Escaped as spec;
 
 use arrayvec::ArrayVec;
@@ -79,7 +79,7 @@ fn escape_all(octets: &[u8]) -> ArrayVec<u8, ROOM>
 impl EscapedText {
     /// Escapes the first 80 octets, and appends two dots if there are more.
     pub fn new(octets: &[u8]) -> EscapedText
-        ensures { result ≡ shown_text octets.now }
+        ensures { result ≡ escaped_text octets.now }
     {
         if octets.len() <= MOST {
             return EscapedText {

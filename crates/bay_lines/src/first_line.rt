@@ -1,6 +1,6 @@
 // Finding the first line in octets.
 ghost use Rattle.std.specs.Prelude.{◌≡◌, ◌+◌, ◌<◌, ◌≤◌, drop, take, length, position, IfSome};
-ghost use Rattle.bay_lines.specs.FirstLines.{LiesIn, Whole, first_line_of, first_line_view, is_end, without_return};
+ghost use Rattle.bay_lines.specs.FirstLines.{LiesIn, Whole, first_line_of, first_line_view, is_lf, without_return};
 ghost use Rattle.bay_lines.specs.FirstLines as spec;
 
 // The most octets of a line before its LF.
@@ -55,14 +55,14 @@ fn line_at(octets: &[u8], at: usize) -> LineSearch
 
 // Returns the index of the first LF.
 fn first_end(octets: &[u8]) -> Option<usize>
-    ensures { result ≡ position is_end octets.now }
+    ensures { result ≡ position is_lf octets.now }
 {
     octets.iter().position(|octet| *octet == b'\n')
 }
 
 // Returns the index of the LF of the first line, if the line is not too long.
 fn end_in_reach(octets: &[u8]) -> Option<usize>
-    ensures value { result ≡ position is_end (take 257 octets.now) }
+    ensures value { result ≡ position is_lf (take 257 octets.now) }
     ensures within { IfSome result (λ at. (at < length octets.now) × (at ≤ 256)) }
 {
     first_end(&octets[..(MOST + 1).min(octets.len())])

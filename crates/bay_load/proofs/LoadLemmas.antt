@@ -2,7 +2,7 @@
 -- image, which is verified.
 use Rattle.std.proofs.Common.{◌≡◌, ◌≢◌, ◌⊎◌, inl, inr, List, ℕ, true, Result, Ok, Err, IfOk, IfErr, ap, refl, subst, sym}
 use Rattle.std.specs.Str.{is_utf8}
-use Rattle.bay_base.specs.Exact.{Gives}
+use Rattle.bay_base.specs.Exact.{ExactOr}
 use Rattle.bay_config.specs.Bay.{bay_of}
 use Rattle.bay_config.specs.Laws.{IsBay}
 use Rattle.bay_config.specs.declared.bay.Bay.{Bay}
@@ -54,7 +54,7 @@ only-memory e h = elim (memory-or e h) [ inl never ↦ absurd never | inr memory
 -- ---- the parts of a load
 
 pub is-read : (text : List ℕ) (r : Result Bay BayFault)
-    → Gives bay_fault.OutOfMemory (λ b. b) r (bay_of text) → IfOk r IsBay → IfOk r IsRead
+    → ExactOr bay_fault.OutOfMemory (λ b. b) r (bay_of text) → IfOk r IsBay → IfOk r IsRead
 is-read text (Ok b) read sound = record { text = text; file = read; sound = sound }
 is-read text (Err e) read sound = tt
 
@@ -80,7 +80,7 @@ pub compiled-gives : (bay : Bay) (names : NamesData) (held : Result Code Compile
     → IsVerified bay.points image
     → IfOk r (λ l. l ≡ record { bay = bay; names = names; image = image })
     → IfErr r (λ e. e ≢ OutOfMemory → IsVerified bay.points image → ⊥)
-    → Gives OutOfMemory (λ (l : LoadData). l) r (of_compiled bay names held)
+    → ExactOr OutOfMemory (λ (l : LoadData). l) r (of_compiled bay names held)
 compiled-gives bay names held image (Ok l) is fits same exact =
     rw is (ap (λ (x : LoadData). let r : Result LoadData LoadError = Ok x in r) (sym same))
 compiled-gives bay names held image (Err e) is fits same exact =
@@ -113,13 +113,13 @@ bay-refused bay Image program fault (inr is) = inl (rw is refl)
 
 module _ (bay program : List ℕ) (b : Bay) (is : file_of bay ≡ Ok b) where
   pub logic-ok : (r : Result LoadData LoadError)
-      → Gives OutOfMemory (λ (l : LoadData). l) r (of_program b (text_of program))
+      → ExactOr OutOfMemory (λ (l : LoadData). l) r (of_program b (text_of program))
       → IfOk r (λ l. LoadsTo bay Logic program (Ok l))
   logic-ok (Ok l) gives = rw is gives
   logic-ok (Err e) gives = tt
 
   pub logic-refused : (r : Result LoadData LoadError)
-      → Gives OutOfMemory (λ (l : LoadData). l) r (of_program b (text_of program))
+      → ExactOr OutOfMemory (λ (l : LoadData). l) r (of_program b (text_of program))
       → IfErr r (λ e. MayLoadTo bay Logic program (Err e))
   logic-refused (Ok l) gives = tt
   logic-refused (Err e) (inl memory) =

@@ -1,6 +1,6 @@
 // Loads a bay file with a program or an image.
 ghost use Rattle.std.specs.Prelude.{◌≡◌, ◌≢◌, ℕ, Ok, Err, IfOk, IfErr};
-ghost use Rattle.bay_base.specs.Exact.{Gives};
+ghost use Rattle.bay_base.specs.Exact.{ExactOr};
 ghost use Rattle.il_text.specs.Listing.{PlainProgram};
 ghost use Rattle.il_text.specs.Views.{plain_program};
 ghost use Rattle.il_text.specs.declared.fault.TextFault.TheVariants as text_fault;
@@ -77,7 +77,7 @@ fn load_checked(
     requires read { IsRead bay.value }
     requires checked { (program : PlainProgram)
         × (checked_of bay.value.points program ≡ Ok (checked_view typed)) }
-    ensures { Gives OutOfMemory (λ loaded. loaded) result
+    ensures { ExactOr OutOfMemory (λ loaded. loaded) result
         (of_compiled bay.value names (compiled_of (checked_view typed))) }
 {
     let image = compile(alloc, &typed)?;
@@ -87,7 +87,7 @@ fn load_checked(
 // Checks and compiles a program for the points of a bay.
 fn load_program(alloc: Global, bay: Box<Bay>, program: &Program<'_>) -> Result<Loaded, LoadError>
     requires { IsRead bay.value }
-    ensures { Gives OutOfMemory (λ loaded. loaded) result
+    ensures { ExactOr OutOfMemory (λ loaded. loaded) result
         (of_program bay.value (Ok (plain_program program.now))) }
 {
     let typed = check(alloc, program, bay.points.as_slice())?;
@@ -110,7 +110,7 @@ fn program_in<'a>(alloc: Global, logic: &'a [u8]) -> Result<Program<'a>, TextFau
 // Loads the octets of a program's text for a bay.
 fn load_logic(alloc: Global, bay: Box<Bay>, logic: &[u8]) -> Result<Loaded, LoadError>
     requires { IsRead bay.value }
-    ensures { Gives OutOfMemory (λ loaded. loaded) result
+    ensures { ExactOr OutOfMemory (λ loaded. loaded) result
         (of_program bay.value (text_of logic.now)) }
 {
     let program = program_in(alloc, logic)?;
@@ -131,7 +131,7 @@ fn load_image(alloc: Global, bay: Box<Bay>, image: &[u8]) -> Result<Loaded, Load
 
 // Reads the bay in the octets of a bay file.
 fn bay_in(alloc: Global, file: &[u8]) -> Result<Bay, BayFault>
-    ensures file { Gives BayFault.OutOfMemory (λ bay. bay) result (file_of file.now) }
+    ensures file { ExactOr BayFault.OutOfMemory (λ bay. bay) result (file_of file.now) }
     ensures read { IfOk result IsRead }
 {
     match std::str::from_utf8(file) {

@@ -5,7 +5,7 @@ use Rattle.il_image.specs.Images.{Image}
 use Rattle.bay_load.specs.Report.{IsReport}
 use Rattle.bay_load.specs.declared.report.Report.{Report}
 use Rattle.bay_files.specs.Files.{FileWrites}
-use Rattle.bay_io.specs.Watched.{Writing}
+use Rattle.bay_io.specs.Watched.{WriterState}
 use Rattle.bay_io.specs.declared.outbox.WriteFault.{WriteFault}
 use Rattle.bay_main.specs.Commands.{CompilesImage}
 use Rattle.bay_report.specs.Report.{IsLast, Prints, report_text}
@@ -14,7 +14,7 @@ use Rattle.bay_report.specs.Report.{IsLast, Prints, report_text}
 pub line-fails : {F W : Type 0} (writes : FileWrites F) (contents : W → Option (List ℕ))
     (asks : W → WriteCall → W → Type 0)
     (out : List ℕ) (image : Image) (report : Report) → IsReport image report → (files : F)
-    (old middle : Writing W) (fault : WriteFault)
+    (old middle : WriterState W) (fault : WriteFault)
     → Prints contents asks (IsLast (report_text report) 0) old middle (Err fault)
     → (answer : Result ℕ WriteFault) → IsErr answer
     → CompilesImage writes contents asks out image files files old middle answer

@@ -9,9 +9,9 @@ use Rattle.bay_load.specs.declared.error.LoadError.{LoadError}
 use Rattle.bay_load.specs.declared.load.Form.{Form}
 use Rattle.bay_load.specs.declared.load.Form.TheVariants as form
 use Rattle.bay_load.specs.declared.report.Report.{Report}
-use Rattle.bay_io.specs.Watched.{Reading, Writing}
+use Rattle.bay_io.specs.Watched.{ReaderState, WriterState}
 use Rattle.bay_io.specs.declared.outbox.WriteFault.{WriteFault}
-use Rattle.bay_files.specs.Files.{FileGuards, FileReads, FileWrites, FilesData, ReadsBoth, UnreadData, WritesWhole}
+use Rattle.bay_files.specs.Files.{ProtectedReads, FileReads, FileWrites, FilesData, ReadsBoth, UnreadData, WritesAtomically}
 use Rattle.bay_files.specs.declared.files.FileFault.{FileFault}
 use Rattle.bay_files.specs.declared.files.FileFault.TheVariants as unwritten
 use Rattle.std.specs.declared.io.ErrorKind.{ErrorKind}
@@ -36,7 +36,7 @@ use Rattle.bay_server_turn.specs.Calls.{Call}
 
 -- the files that were read are checked; or it is reported that one can't be read
 abbrev pub ChecksRead : {W : Type 0} → (W → Option (List ℕ)) → (W → WriteCall → W → Type 0) → Form
-    → Result FilesData UnreadData → Writing W → Writing W → Result ℕ WriteFault → Type 0
+    → Result FilesData UnreadData → WriterState W → WriterState W → Result ℕ WriteFault → Type 0
 ChecksRead contents asks form (Err unread) old new answer =
     PrintsLogs contents asks (UnreadReport unread.name unread.fault) old new answer
 ChecksRead contents asks form (Ok both) old new answer =
@@ -47,22 +47,22 @@ ChecksRead contents asks form (Ok both) old new answer =
 pub record Checks {F W : Type 0} (reads : FileReads F)
     (contents : W → Option (List ℕ)) (asks : W → WriteCall → W → Type 0) (form : Form)
     (bay program : List ℕ) (files : F)
-    (old new : Writing W) (answer : Result ℕ WriteFault) : Type 0 where
+    (old new : WriterState W) (answer : Result ℕ WriteFault) : Type 0 where
   pub read : Result FilesData UnreadData
   pub is_read : ReadsBoth reads files bay program read
   pub checks : ChecksRead contents asks form read old new answer
 
 -- a file can't be written: this is logged, and the result of the command is a fault
 abbrev pub Unwritten : {W : Type 0} → (W → Option (List ℕ)) → (W → WriteCall → W → Type 0)
-    → List ℕ → ErrorKind → Writing W → Writing W → Result ℕ WriteFault → Type 0
+    → List ℕ → ErrorKind → WriterState W → WriterState W → Result ℕ WriteFault → Type 0
 Unwritten contents asks out kind old new answer =
     Logs contents asks old (unwritten_line out kind) new × (is_err answer ≡ true)
 
 -- the result of writing a compiled program: the whole file; a failure, which is logged; or memory
 -- ran out, which is printed
 abbrev pub EndsWritten : {W : Type 0} → (W → Option (List ℕ)) → (W → WriteCall → W → Type 0)
-    → List ℕ → Option FileFault → Writing W
-    → Writing W → Result ℕ WriteFault → Type 0
+    → List ℕ → Option FileFault → WriterState W
+    → WriterState W → Result ℕ WriteFault → Type 0
 EndsWritten contents asks out None old new answer = (new ≡ old) × (answer ≡ Ok 0)
 EndsWritten contents asks out (Some (unwritten.Failed kind)) old new answer =
     Unwritten contents asks out kind old new answer
@@ -72,19 +72,19 @@ EndsWritten contents asks out (Some unwritten.OutOfMemory) old new answer =
 -- after the line of the load, a command makes the image, and writes it to the file of this name; or
 -- memory runs out for it, which is printed, and no file is touched
 abbrev pub WritesImage : {F W : Type 0} → FileWrites F
-    → (W → Option (List ℕ)) → (W → WriteCall → W → Type 0) → List ℕ → Code → F → F → Writing W
-    → Writing W → Result ℕ WriteFault
+    → (W → Option (List ℕ)) → (W → WriteCall → W → Type 0) → List ℕ → Code → F → F → WriterState W
+    → WriterState W → Result ℕ WriteFault
     → Type 0
 WritesImage writes contents asks out image before after old new answer =
     ((fault : Option FileFault)
-    × WritesWhole writes 100 0 out (image_octets Two image) before after fault
+    × WritesAtomically writes 100 0 out (image_octets Two image) before after fault
     × EndsWritten contents asks out fault old new answer)
     ⊎ (Prints contents asks (IsLast (codes "fault memory\n") 3) old new answer × (after ≡ before))
 
 -- the continuation after a load's line, if this was printed: writing the image
 abbrev pub GoesOn : {F W : Type 0} → FileWrites F → (W → Option (List ℕ))
     → (W → WriteCall → W → Type 0) → List ℕ → Code → F → F
-    → Writing W → Writing W → Result ℕ WriteFault → Result ℕ WriteFault → Type 0
+    → WriterState W → WriterState W → Result ℕ WriteFault → Result ℕ WriteFault → Type 0
 GoesOn writes contents asks out image before after old new (Err fault) answer =
     (new ≡ old) × (after ≡ before) × (answer ≡ Err fault)
 GoesOn writes contents asks out image before after old new (Ok status) answer =
@@ -93,11 +93,11 @@ GoesOn writes contents asks out image before after old new (Ok status) answer =
 -- what was loaded is compiled: the line of the load is printed, and then the image is written
 pub record CompilesImage {F W : Type 0} (writes : FileWrites F) (contents : W → Option (List ℕ))
     (asks : W → WriteCall → W → Type 0)
-    (out : List ℕ) (image : Code) (before after : F) (old new : Writing W)
+    (out : List ℕ) (image : Code) (before after : F) (old new : WriterState W)
     (answer : Result ℕ WriteFault) : Type 0 where
   pub report : Report
   pub is : IsReportOf image report
-  pub middle : Writing W
+  pub middle : WriterState W
   pub told : Result ℕ WriteFault
   pub printed : Prints contents asks (IsLast (report_text report) 0) old middle told
   pub goes_on : GoesOn writes contents asks out image before after middle new told answer
@@ -105,7 +105,7 @@ pub record CompilesImage {F W : Type 0} (writes : FileWrites F) (contents : W �
 -- what was loaded is compiled; the refusal of a load is reported, and no file is touched
 abbrev pub CompilesLoaded : {F W : Type 0} → FileWrites F
     → (W → Option (List ℕ)) → (W → WriteCall → W → Type 0) → List ℕ → Result LoadData LoadError
-    → F → F → Writing W → Writing W → Result ℕ WriteFault → Type 0
+    → F → F → WriterState W → WriterState W → Result ℕ WriteFault → Type 0
 CompilesLoaded writes contents asks out (Err error) before after old new answer =
     PrintsLogs contents asks (Refuses error) old new answer × (after ≡ before)
 CompilesLoaded writes contents asks out (Ok loaded) before after old new answer =
@@ -114,7 +114,7 @@ CompilesLoaded writes contents asks out (Ok loaded) before after old new answer 
 -- the files that were read are loaded and compiled; memory may run out for the load
 abbrev pub CompilesOctets : {F W : Type 0} → FileWrites F
     → (W → Option (List ℕ)) → (W → WriteCall → W → Type 0) → List ℕ → FilesData → F
-    → F → Writing W → Writing W
+    → F → WriterState W → WriterState W
     → Result ℕ WriteFault → Type 0
 CompilesOctets writes contents asks out both before after old new answer =
     (loaded : Result LoadData LoadError)
@@ -124,8 +124,8 @@ CompilesOctets writes contents asks out both before after old new answer =
 -- the files are loaded and compiled if they could be read; otherwise this is reported, and no file
 -- is touched
 abbrev pub CompilesRead : {F W : Type 0} → FileWrites F → (W → Option (List ℕ))
-    → (W → WriteCall → W → Type 0) → List ℕ → Result FilesData UnreadData → F → F → Writing W
-    → Writing W → Result ℕ WriteFault → Type 0
+    → (W → WriteCall → W → Type 0) → List ℕ → Result FilesData UnreadData → F → F → WriterState W
+    → WriterState W → Result ℕ WriteFault → Type 0
 CompilesRead writes contents asks out (Err unread) before after old new answer =
     PrintsLogs contents asks (UnreadReport unread.name unread.fault) old new answer
     × (after ≡ before)
@@ -138,7 +138,7 @@ CompilesRead writes contents asks out (Ok both) before after old new answer =
 abbrev pub Compiles : {F W : Type 0} → FileReads F
     → FileWrites F → (F → List ℕ → List ℕ → Bool → Type 0)
     → (W → Option (List ℕ)) → (W → WriteCall → W → Type 0) → List ℕ → List ℕ → List ℕ → F → F
-    → Writing W → Writing W
+    → WriterState W → WriterState W
     → Result ℕ WriteFault → Type 0
 Compiles reads writes same contents asks bay logic out before after old new answer =
     ((same before out bay true ⊎ same before out logic true) × (after ≡ before)
@@ -173,11 +173,11 @@ record_room None most = None
 record_room (Some name) most = Some (unwrap_or most 16000000)
 
 -- the log is started, if the command has this option
-abbrev pub logging : {W : Type 0} → Bool → Writing W → Writing W
+abbrev pub logging : {W : Type 0} → Bool → WriterState W → WriterState W
 logging log writer = if log then record writer { logs = true } else writer
 
 -- the log line if standard output can't be written
-abbrev pub unprinted_line : {W : Type 0} → Writing W → Option (List ℕ)
+abbrev pub unprinted_line : {W : Type 0} → WriterState W → Option (List ℕ)
 unprinted_line writer =
     if writer.has_failed then Some (unwritten_line (codes "standard output") kind.Other) else None
 
@@ -185,10 +185,10 @@ unprinted_line writer =
 pub record CommandEnvironment (F H R W : Type 0) : Type 0 where
   pub files : F
   pub host : H
-  pub reader : Reading R
-  pub writer : Writing W
+  pub reader : ReaderState R
+  pub writer : WriterState W
 
-module _ {F L H R W : Type 0} (reads : FileReads F) (guards : FileGuards F) (writes : FileWrites F)
+module _ {F L H R W : Type 0} (reads : FileReads F) (guards : ProtectedReads F) (writes : FileWrites F)
     (same : F → List ℕ → List ℕ → Bool → Type 0)
     (step : L → Call → L → Type 0) (acts : H → HostCall L → H → Type 0)
     (remaining : R → Option (List ℕ)) (contents : W → Option (List ℕ))

@@ -1,11 +1,11 @@
 -- The program as a whole: its output, its command, and the exit status.
 use Rattle.std.specs.Prelude.{◌≡◌, ℕ, Bool, false, not, List, [], ◌∷◌, codes, Option, Some, None, if◌then◌else◌}
 use Rattle.std.specs.Str.{bytes_eq}
-use Rattle.bay_files.specs.Files.{FileGuards, FileReads, FileWrites}
+use Rattle.bay_files.specs.Files.{ProtectedReads, FileReads, FileWrites}
 use Rattle.bay_io.specs.Calls.{WriteCall, Log}
-use Rattle.bay_io.specs.Watched.{Writing}
+use Rattle.bay_io.specs.Watched.{WriterState}
 use Rattle.bay_stdio.specs.Descriptor.{DescriptorData, accepted_octets}
-use Rattle.bay_stdio.specs.Output.{Does, Drains, OutputData, written}
+use Rattle.bay_stdio.specs.Output.{CallEffect, Drains, OutputData, written_octets}
 use Rattle.bay_server_turn.specs.Calls.{Call}
 use Rattle.bay_server.specs.Host.{HostCall}
 use Rattle.bay_main.specs.Commands.{CommandEnvironment, Obeys}
@@ -33,7 +33,7 @@ fresh_output serving out err = record {
 }
 
 -- a sink that was not used before
-abbrev pub unused : {W : Type 0} → W → Writing W
+abbrev pub unused : {W : Type 0} → W → WriterState W
 unused sink = record {
   inner = sink;
   has_failed = false;
@@ -67,11 +67,11 @@ OutputDrained contents log_contents old (Refused text) new last =
 abbrev pub SystemDoes : {O E : Type 0} → (O → Option (List ℕ)) → (E → Option (List ℕ))
     → SystemOutput O E → WriteCall → SystemOutput O E → Type 0
 SystemDoes contents log_contents =
-    Does (accepted_octets contents) AnyCall (accepted_octets log_contents) AnyCall
+    CallEffect (accepted_octets contents) AnyCall (accepted_octets log_contents) AnyCall
 
 -- The program obeys its arguments; then it writes what is queued of its output, logs a failed
 -- write, and exits with the status of the result.
-pub record Runs {F L H R O E : Type 0} (reads : FileReads F) (guards : FileGuards F)
+pub record Runs {F L H R O E : Type 0} (reads : FileReads F) (guards : ProtectedReads F)
     (writes : FileWrites F) (same : F → List ℕ → List ℕ → Bool → Type 0)
     (step : L → Call → L → Type 0) (acts : H → HostCall L → H → Type 0)
     (remaining : R → Option (List ℕ)) (contents : O → Option (List ℕ))
@@ -80,7 +80,7 @@ pub record Runs {F L H R O E : Type 0} (reads : FileReads F) (guards : FileGuard
   pub new : CommandEnvironment F H R (SystemOutput O E)
   pub ended : CommandResult
   pub obeys : Obeys reads guards writes same step acts remaining
-      (λ output. written (accepted_octets contents output.out) output.queue)
+      (λ output. written_octets (accepted_octets contents output.out) output.queue)
       (SystemDoes contents log_contents) words old new ended
   pub output : SystemOutput O E
   pub last : CommandResult
@@ -93,7 +93,7 @@ pub record Runs {F L H R O E : Type 0} (reads : FileReads F) (guards : FileGuard
   pub tells : status ≡ status_of last
 
 -- The program runs with an output over these writers, which were not used before.
-pub record Concludes {F L H R O E : Type 0} (reads : FileReads F) (guards : FileGuards F)
+pub record Concludes {F L H R O E : Type 0} (reads : FileReads F) (guards : ProtectedReads F)
     (writes : FileWrites F) (same : F → List ℕ → List ℕ → Bool → Type 0)
     (step : L → Call → L → Type 0) (acts : H → HostCall L → H → Type 0)
     (remaining : R → Option (List ℕ)) (contents : O → Option (List ℕ))

@@ -3,7 +3,7 @@ use Rattle.std.proofs.Common.{ℕ, zero, suc}
 use Rattle.bay_ber.proofs.FormLemmas.{ExactIn, ExactAs, none-exact, made-exact, each-exact, choice-exact, front-exact, exacts}
 use Rattle.bay_mms_initiate.proofs.InitiateLemmas.{proposal-exact}
 use Rattle.bay_mms.specs.Grammar.{domain_parts, name, variable_parts, variable, access, string, simple, datum_at, scope, class_part, scope_part, get_name_list_parts, get_name_list, attributes_request, read_parts, write_parts, service_request, invoke_id, confirmed_parts, pdu, request, leading_id}
-use Rattle.bay_mms.specs.Answers.{list_parts, list_pdu}
+use Rattle.bay_mms.specs.RequestResults.{list_service_parts, list_service_pdu}
 use Rattle.bay_ber.specs.Forms.{one}
 
 name-exact : ExactAs name
@@ -44,6 +44,6 @@ pub front_id-exact : ExactIn leading_id
 unfolding leading_id
 front_id-exact = search (exacts, id-exact, front-exact) depth 20
 
-pub list_pdu-exact : ExactIn (one list_pdu)
-unfolding list_pdu list_parts
-list_pdu-exact = search exacts depth 20
+pub list_pdu-exact : ExactIn (one list_service_pdu)
+unfolding list_service_pdu list_service_parts
+list_service_pdu-exact = search exacts depth 20

@@ -9,7 +9,7 @@ use Rattle.bay_mms.specs.Marks.{rows_marked}
 pub names_of-marked : (marked : Option ℕ) (rows : List Row)
     → names_of (rows_marked marked rows) ≡ names_of rows
 names_of-marked None rows = refl
-names_of-marked (Some place) rows =
-    map-set_same (λ (r : Row). r.name) rows place
-    (record { name = name_at rows place; leaf = Some (leaf.Truth true) })
+names_of-marked (Some index) rows =
+    map-set_same (λ (r : Row). r.name) rows index
+    (record { name = name_at rows index; leaf = Some (leaf.Truth true) })
     (record { name = []; leaf = None }) refl

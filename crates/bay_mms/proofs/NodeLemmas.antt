@@ -9,7 +9,7 @@ use Rattle.bay_mms.specs.Types.{type_text, components_text}
 use Rattle.bay_mms.specs.Data.{datum_text, data_text, leaf_datum}
 use Rattle.bay_tree.specs.declared.leaf.Leaf.{Leaf}
 use Rattle.bay_ber.specs.Writing.{element}
-use Rattle.bay_ber.specs.EncoderBuffers.{EncoderBuffer, sheet_with}
+use Rattle.bay_ber.specs.EncoderBuffers.{EncoderBuffer, buffer_with}
 use Rattle.bay_ber.proofs.SheetLemmas.{put_nil, put-put}
 use Rattle.bay_ber.specs.Tags.{context, constructed, sequence}
 use Rattle.bay_mms.specs.Nodes.{Nodes, no_nodes, node, node_of, nodes_in, node_at, node_datum, nodes_data, data_at, node_type, nodes_types, type_at}
@@ -179,12 +179,12 @@ next-part rows handle part next below is after =
 -- the text of all parts.
 pub record Written (rows : List Row) (handle : ℕ) (text : Nodes → List ℕ) (octet : ℕ)
     (front writer : EncoderBuffer) (next : Option ℕ) : Type 0 where
-  pub is : sheet_with writer (text (nodes_since rows (name_at rows handle) next))
-      ≡ sheet_with front (octet ∷ 0 ∷ text (parts_at rows handle))
+  pub is : buffer_with writer (text (nodes_since rows (name_at rows handle) next))
+      ≡ buffer_with front (octet ∷ 0 ∷ text (parts_at rows handle))
   pub below : IfSome next (Below rows handle)
 
 pub written-first : (rows : List Row) (handle : ℕ) (text : Nodes → List ℕ) (octet : ℕ)
-    (front writer : EncoderBuffer) (next : Option ℕ) → writer ≡ sheet_with front (octet ∷ 0 ∷ [])
+    (front writer : EncoderBuffer) (next : Option ℕ) → writer ≡ buffer_with front (octet ∷ 0 ∷ [])
     → next ≡ first_below rows handle → IfSome next (λ k. (handle < k) × (k < length rows))
     → Written rows handle text octet front writer next
 written-first rows handle text octet front writer next opened is after =
@@ -192,7 +192,7 @@ written-first rows handle text octet front writer next opened is after =
     record {
       is = rw opened
           (put-put front (octet ∷ 0 ∷ []) (text (nodes_since rows (name_at rows handle) next))
-          ∙ ap (λ (ps : Nodes). sheet_with front (octet ∷ 0 ∷ text ps)) (sym p.0));
+          ∙ ap (λ (ps : Nodes). buffer_with front (octet ∷ 0 ∷ text ps)) (sym p.0));
       below = p.1;
     }
 
@@ -201,25 +201,25 @@ pub written-more : (rows : List Row) (handle part : ℕ) (text : Nodes → List 
     → text (nodes_since rows (name_at rows handle) (Some part))
     ≡ one ++ text (nodes_in (name_at rows handle) (drop (part + 1) rows))
     → Written rows handle text octet front writer (Some part)
-    → new ≡ sheet_with writer one → next ≡ next_beside rows part
+    → new ≡ buffer_with writer one → next ≡ next_beside rows part
     → IfSome next (λ k. (part < k) × (k < length rows))
     → Written rows handle text octet front new next
 written-more rows handle part text octet front writer new one next split w added is after =
     let p = next-part rows handle part next w.below is after in
     let rest = text (nodes_since rows (name_at rows handle) next) in
     record {
-      is = ap (λ (s : EncoderBuffer). sheet_with s rest) added ∙ put-put writer one rest
-          ∙ ap (λ (ps : Nodes). sheet_with writer (one ++ text ps)) (sym p.0)
-          ∙ ap (λ (ys : List ℕ). sheet_with writer ys) (sym split) ∙ w.is;
+      is = ap (λ (s : EncoderBuffer). buffer_with s rest) added ∙ put-put writer one rest
+          ∙ ap (λ (ps : Nodes). buffer_with writer (one ++ text ps)) (sym p.0)
+          ∙ ap (λ (ys : List ℕ). buffer_with writer ys) (sym split) ∙ w.is;
       below = p.1;
     }
 
 pub written-end : (rows : List Row) (handle : ℕ) (text : Nodes → List ℕ) (octet : ℕ)
     (front writer : EncoderBuffer) → text no_nodes ≡ []
     → Written rows handle text octet front writer None
-    → writer ≡ sheet_with front (octet ∷ 0 ∷ text (parts_at rows handle))
+    → writer ≡ buffer_with front (octet ∷ 0 ∷ text (parts_at rows handle))
 written-end rows handle text octet front writer none w =
-    sym (put_nil writer) ∙ ap (λ (ys : List ℕ). sheet_with writer ys) (sym none) ∙ w.is
+    sym (put_nil writer) ∙ ap (λ (ys : List ℕ). buffer_with writer ys) (sym none) ∙ w.is
 
 -- the text of the data of nodes
 abbrev pub nodes_text : Nodes → List ℕ
@@ -243,9 +243,9 @@ nodes_types_text parts = components_text (nodes_types parts)
 
 -- the text of the component that the row at a place makes
 abbrev pub component_text : List Row → ℕ → List ℕ
-component_text rows place =
-    element sequence (element (context 0) (word_of (name_at rows place))
-    ++ element (constructed 1) (type_text (type_at rows place)))
+component_text rows index =
+    element sequence (element (context 0) (word_of (name_at rows index))
+    ++ element (constructed 1) (type_text (type_at rows index)))
 
 pub structure-type : (rows : List Row) (handle : ℕ) → leaf_at rows handle ≡ None
     → type_text (type_at rows handle)

@@ -11,7 +11,7 @@ use Rattle.bay_tree.specs.declared.row.Row.{Row}
 use Rattle.bay_tree.specs.Rows.{names_of}
 use Rattle.bay_ber.specs.Tags.{visible_tag}
 use Rattle.bay_mms.specs.Responses.{names_text, page_text}
-use Rattle.bay_mms.specs.Pages.{AreEnds, NamesText, begin_at, ends_from, text_of_names, greatest, fits, names_on_page, first_page, length_of_page, page_length, response_of_texts}
+use Rattle.bay_mms.specs.Pages.{AreEnds, NameTextsData, begin_at, ends_from, encoded_names, greatest, fits, names_on_page, first_page, length_of_page, page_length_with_id, response_of_texts}
 use Rattle.bay_mms.proofs.ResponseLemmas.{page-is}
 
 -- ---- the greatest that passes
@@ -50,7 +50,7 @@ greatest-is test (suc most) n le some none =
 pub element-length-le : (a b : ℕ) → a ≤ b → element_length a ≤ element_length b
 element-length-le a b le = grind (arith, nat_tests)
 
-pub page-length-le : (id a b : ℕ) → a ≤ b → page_length id a ≤ page_length id b
+pub page-length-le : (id a b : ℕ) → a ≤ b → page_length_with_id id a ≤ page_length_with_id id b
 page-length-le id a b le =
     let inner = element-length-le a b le in
     let service = element-length-le (element_length a + 3) (element_length b + 3) (omega arith) in
@@ -145,13 +145,13 @@ texts-are names start count from to is_from is_to =
     ∙ take-append_seam some (names_text (drop count (drop start names))))
 
 -- a cut between two ends is the text of the names between them
-pub sliced : (names : List (List ℕ)) (n : NamesText) (start count from to : ℕ)
-    → n ≡ text_of_names names → start + count ≤ length n.ends → from ≡ begin_at n.ends start
+pub sliced : (names : List (List ℕ)) (n : NameTextsData) (start count from to : ℕ)
+    → n ≡ encoded_names names → start + count ≤ length n.ends → from ≡ begin_at n.ends start
     → to ≡ begin_at n.ends (start + count)
     → take (to - from) (drop from n.octets) ≡ names_text (take count (drop start names))
 sliced names n start count from to is few f t =
-    let e : n.ends ≡ ends_from 0 names = ap (λ (m : NamesText). m.ends) is in
-    let o : n.octets ≡ names_text names = ap (λ (m : NamesText). m.octets) is in
+    let e : n.ends ≡ ends_from 0 names = ap (λ (m : NameTextsData). m.ends) is in
+    let o : n.octets ≡ names_text names = ap (λ (m : NameTextsData). m.octets) is in
     let long : length n.ends ≡ length names = ap length e ∙ length-ends 0 names in
     rw o (texts-are names start count from to
     (f ∙ ap (λ (x : List ℕ). begin_at x start) e ∙ begin-is names start (omega arith))
@@ -176,14 +176,14 @@ are-ends names =
 
 -- ---- the page that is listed
 
-test-yes : (id size : ℕ) (names : List (List ℕ)) → page_length id (length (names_text names)) ≤ size
+test-yes : (id size : ℕ) (names : List (List ℕ)) → page_length_with_id id (length (names_text names)) ≤ size
     → fits id size names ≡ true
 test-yes id size names le =
     le-leb (length (page_text id names false)) size
     (subst (λ (n : ℕ). n ≤ size) (sym (page-is id names false)) le)
 
 test-no : (id size : ℕ) (names : List (List ℕ))
-    → (page_length id (length (names_text names)) ≤ size → ⊥) → fits id size names ≡ false
+    → (page_length_with_id id (length (names_text names)) ≤ size → ⊥) → fits id size names ≡ false
 test-no id size names over =
     elim (cases_lt size (length (page_text id names false))) [
       | inl long ↦ lt-leb (length (page_text id names false)) size long
@@ -191,7 +191,7 @@ test-no id size names over =
     ]
 
 passes : (names : List (List ℕ)) (id size count : ℕ)
-    → (count ≡ 0) ⊎ (page_length id (length (names_text (take count names))) ≤ size)
+    → (count ≡ 0) ⊎ (page_length_with_id id (length (names_text (take count names))) ≤ size)
     → (count ≡ 0) ⊎ (fits id size (take count names) ≡ true)
 passes names id size count (inl none) = inl none
 passes names id size count (inr le) = inr (test-yes id size (take count names) le)
@@ -231,17 +231,17 @@ counted-names names ends id head size start most count are head-is start-in max 
           omega arith)))
     ]))
 
-pub within-ends : (rows : List Row) (n : NamesText) (start : ℕ)
-    → n ≡ text_of_names (names_of rows) → start ≤ length rows → start ≤ length n.ends
+pub within-ends : (rows : List Row) (n : NameTextsData) (start : ℕ)
+    → n ≡ encoded_names (names_of rows) → start ≤ length rows → start ≤ length n.ends
 within-ends rows n start is within =
     let long : length n.ends ≡ length rows =
-    ap (λ (m : NamesText). length m.ends) is ∙ length-ends 0 (names_of rows)
+    ap (λ (m : NameTextsData). length m.ends) is ∙ length-ends 0 (names_of rows)
     ∙ length-map rows (λ (r : Row). r.name) in
     omega arith
 
 -- the response with the texts of the names that a page has is the page
-pub page-texts : (rows after : List Row) (n : NamesText) (id size start count : ℕ)
-    (texts : List ℕ) (more : Bool) → n ≡ text_of_names (names_of rows) → drop start rows ≡ after
+pub page-texts : (rows after : List Row) (n : NameTextsData) (id size start count : ℕ)
+    (texts : List ℕ) (more : Bool) → n ≡ encoded_names (names_of rows) → drop start rows ≡ after
     → count ≡ names_on_page id size (drop start (names_of rows))
     → texts ≡ names_text (take count (drop start (names_of rows)))
     → more ≡ ltb count (length n.ends - start)
@@ -251,7 +251,7 @@ page-texts rows after n id size start count texts more is begins many texts-is m
     let same : names ≡ names_of after =
     drop-map (λ (r : Row). r.name) start rows ∙ ap names_of begins in
     let long : length n.ends - start ≡ length names =
-    ap (λ (m : NamesText). length m.ends - start) is
+    ap (λ (m : NameTextsData). length m.ends - start) is
     ∙ ap (λ (k : ℕ). k - start) (length-ends 0 (names_of rows))
     ∙ sym (length-drop start (names_of rows)) in
     ap (λ (t : List ℕ). response_of_texts id t more) texts-is
@@ -281,7 +281,7 @@ greatest-passes test zero = inl (greatest-zero test)
 greatest-passes test (suc most) =
     passes-more test most (test (suc most)) refl (greatest-passes test most)
 
-empty-short : (id : ℕ) → page_length id 0 ≤ 19
+empty-short : (id : ℕ) → page_length_with_id id 0 ≤ 19
 empty-short id =
     let number : element_length (length (integer_octets (pos id))) ≤ 10 =
     element-length-le (length (integer_octets (pos id))) 8 (length-integer_octets (pos id)) in

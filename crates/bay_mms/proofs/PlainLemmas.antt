@@ -5,7 +5,7 @@ use Rattle.std.proofs.lemmas.Bool.{eq-eqb}
 use Rattle.std.proofs.Math.Nat.{le-max_left, le-max_right}
 use Rattle.bay_ber.specs.declared.tag.Tag.{Tag}
 use Rattle.bay_ber.specs.Content.{IsBits, BitString}
-use Rattle.bay_ber.specs.Forms.{AreEach}
+use Rattle.bay_ber.specs.Forms.{Pairwise}
 use Rattle.bay_ber.specs.Values.{Part, value, SpellAll}
 use Rattle.bay_ber.specs.Writing.{bit_string_octets}
 use Rattle.bay_ber.proofs.FormLemmas.{choice-later}
@@ -14,7 +14,7 @@ use Rattle.bay_ber.specs.Tags.{same_tag, context, constructed}
 use Rattle.bay_mms.specs.Data.{Datum, Data, structure, truth, bits, integer, unsigned, octets, text, utc, other, no_data, datum, datum_text, data_text}
 use Rattle.bay_mms.specs.Grammar.{string, simple, datum_at}
 use Rattle.bay_mms.specs.Views.{data_before}
-use Rattle.bay_mms.specs.Laws.{IsHeld, IsPlain, ArePlain, datum_tag, datum_content, depth_of, depth_in}
+use Rattle.bay_mms.specs.Laws.{IsMinimalBits, IsPlain, ArePlain, datum_tag, datum_content, depth_of, depth_in}
 use Rattle.bay_ber.proofs.SheetLemmas.{content-less}
 use Rattle.bay_mms.proofs.LawLemmas.{datum-spells}
 
@@ -23,7 +23,7 @@ tag-low : (d : Datum) → IsPlain d → (datum_tag d).number < 31
 tag-low (other tag content) plain = absurd plain
 tag-low d plain = omega arith
 
-held-is : (held : List ℕ) (count : ℕ) → IsHeld held count
+held-is : (held : List ℕ) (count : ℕ) → IsMinimalBits held count
     → IsBits (bit_string_octets held count) held count
 held-is held count h =
     subst (λ (xs : List ℕ). IsBits (bit_string_octets held count) xs count) h.whole
@@ -82,7 +82,7 @@ mutual
 
   plain-list : (ds : Data) (depth : ℕ) → ArePlain ds → length (data_text ds) < 4294967296
       → depth_in ds ≤ depth → (xs : List Datum) × (pieces : List Part)
-      × SpellAll (data_text ds) pieces × AreEach (datum_at depth).Spells pieces xs
+      × SpellAll (data_text ds) pieces × Pairwise (datum_at depth).Spells pieces xs
       × (data_before xs no_data ≡ ds)
   plain-list no_data depth plain short deep = ([], [], refl, tt, refl)
   plain-list (datum d ds) depth plain short deep =

@@ -4,25 +4,25 @@ use Rattle.std.proofs.lemmas.Option.{same_Some}
 use Rattle.std.specs.Option.{ok_or}
 use Rattle.std.proofs.lemmas.List.{length-map, map-append}
 use Rattle.std.proofs.lemmas.List.Folds.{list_any-append}
-use Rattle.bay_base.specs.Exact.{Gives}
+use Rattle.bay_base.specs.Exact.{ExactOr}
 use Rattle.bay_base.specs.Options.{◌>>=◌}
-use Rattle.bay_ber.specs.Forms.{answer, or_bad, map_form, each}
+use Rattle.bay_ber.specs.Forms.{form_result, or_bad, map_form, each}
 use Rattle.bay_ber.specs.Judged.{or_fault}
 use Rattle.bay_ber.specs.Tags.{same_tag, constructed}
-use Rattle.bay_ber.specs.Values.{Part, values_in, prepend_values, all_of, each_in}
+use Rattle.bay_ber.specs.Values.{Part, values_in, prepend_values, read_each, each_in}
 use Rattle.bay_ber.proofs.ListingLemmas.{Passed, passed-more, bind-some}
-use Rattle.bay_mms.specs.Answers.{names_none}
+use Rattle.bay_mms.specs.RequestResults.{has_no_names}
 use Rattle.bay_mms.specs.Data as mms
 use Rattle.bay_mms.specs.Data.{Datum}
 use Rattle.bay_mms.specs.Views.{data_before, datum_of, data_in}
 use Rattle.bay_mms.specs.declared.data.Data as given
-use Rattle.bay_mms.specs.Requests.{Naming, VariableSpecification, variables}
+use Rattle.bay_mms.specs.Requests.{MmsName, VariableSpecification, variables}
 use Rattle.bay_mms.specs.RequestViews.{object_name_view, variable_view as view}
 use Rattle.bay_mms.specs.declared.access.VariableSpecification as code
 use Rattle.bay_mms.specs.declared.request.ObjectName.{ObjectName}
 use Rattle.bay_mms.specs.declared.fault.Refusal.{Refusal}
 use Rattle.bay_mms.specs.declared.fault.Refusal.TheVariants.{Bad, Unknown, Many, OutOfMemory}
-use Rattle.bay_mms.specs.Grammar.{variable, any_alternate, are_as_many, counted_names, requested_names, simple, datum_at}
+use Rattle.bay_mms.specs.Grammar.{variable, any_alternate, has_count, counted_names, requested_names, simple, datum_at}
 
 -- ---- lists of variables
 
@@ -43,7 +43,7 @@ pub listing-more : (octets rest new : List ℕ) (names more : List ObjectName) (
 listing-more octets rest new names more alternate both part one l step is are any = record {
   vs = l.vs ++ view one ∷ [];
   passed = passed-more variable.reads octets rest new l.vs part (view one) l.passed step is;
-  are = are ∙ ap (λ (ns : List Naming). ns ++ object_name_view one.name ∷ []) l.are
+  are = are ∙ ap (λ (ns : List MmsName). ns ++ object_name_view one.name ∷ []) l.are
       ∙ sym (map-append (λ (v : VariableSpecification). v.name) l.vs (view one ∷ []));
   any = any ∙ ap (λ (b : Bool). b || one.is_alternate) l.any
       ∙ sym (list_any-append (λ (v : VariableSpecification). v.is_alternate) l.vs
@@ -56,28 +56,28 @@ listing-more octets rest new names more alternate both part one l step is are an
     one-any false false = refl
 
 pub listing-bad : (count : Option ℕ) (octets : List ℕ) → each_in variable.reads octets ≡ None
-    → answer Bad (map_form (λ vs. requested_names count (variables vs)) (each variable)) octets
+    → form_result Bad (map_form (λ vs. requested_names count (variables vs)) (each variable)) octets
     ≡ Err Bad
 listing-bad count octets bad = rw bad refl
 
 pub counted_is : (count : Option ℕ) (names : List ObjectName) (alternate : Bool)
     → counted_names count (map object_name_view names) alternate
-    ≡ cond (are_as_many count (length names)) (cond alternate (Err Unknown)
+    ≡ cond (has_count count (length names)) (cond alternate (Err Unknown)
     (cond (ltb 32 (length names)) (Err Many) (Ok (map object_name_view names)))) (Err Bad)
 counted_is count names alternate = rw (length-map names object_name_view) refl
 
 -- where a value stands, no list of them is read as empty
 not-nil : {B : Type 0} (f : Part → Option B) (front : List Part) (part : Part)
     (o : Option (List Part))
-    → (prepend_values front (prepend_values (part ∷ []) o) >>= all_of f) ≡ Some [] → ⊥
+    → (prepend_values front (prepend_values (part ∷ []) o) >>= read_each f) ≡ Some [] → ⊥
 not-nil f front part None e = cc
 not-nil f [] part (Some later) e =
     let x = bind-some (f part) _ [] e in
-    let y = bind-some (all_of f later) _ [] x.2 in
+    let y = bind-some (read_each f later) _ [] x.2 in
     let no : x.0 ∷ y.0 ≡ [] = same_Some _ _ y.2 in cc
 not-nil f (first ∷ front) part (Some later) e =
     let x = bind-some (f first) _ [] e in
-    let y = bind-some (all_of f (front ++ part ∷ later)) _ [] x.2 in
+    let y = bind-some (read_each f (front ++ part ∷ later)) _ [] x.2 in
     let no : x.0 ∷ y.0 ≡ [] = same_Some _ _ y.2 in cc
 
 pub some-value : {B : Type 0} (f : Part → Option B) (whole rest new : List ℕ) (done : List B)
@@ -86,16 +86,16 @@ pub some-value : {B : Type 0} (f : Part → Option B) (whole rest new : List ℕ
     → each_in f whole ≡ Some [] → ⊥
 some-value f whole rest new done part p step e =
     not-nil f p.front part (values_in new)
-    (sym (ap (λ (o : Option (List Part)). o >>= all_of f)
+    (sym (ap (λ (o : Option (List Part)). o >>= read_each f)
     (p.read ∙ ap (prepend_values p.front) step)) ∙ e)
 
 names-some : (vs : List VariableSpecification) (count : Option ℕ) → (vs ≡ [] → ⊥)
-    → names_none (requested_names count (variables vs)) ≡ false
+    → has_no_names (requested_names count (variables vs)) ≡ false
 names-some [] count some = absurd (some refl)
-names-some (v ∷ vs) count some = pick (are_as_many count (suc (length (map (λ w. w.name) vs))))
+names-some (v ∷ vs) count some = pick (has_count count (suc (length (map (λ w. w.name) vs))))
     (v.is_alternate || any_alternate vs) (ltb 32 (suc (length (map (λ w. w.name) vs))))
   where
-    pick : (fits alternate many : Bool) → names_none (cond fits (cond alternate (Err Unknown)
+    pick : (fits alternate many : Bool) → has_no_names (cond fits (cond alternate (Err Unknown)
         (cond many (Err Many) (Ok (v.name ∷ map (λ w. w.name) vs)))) (Err Bad)) ≡ false
     pick false alternate many = refl
     pick true true many = refl
@@ -104,12 +104,12 @@ names-some (v ∷ vs) count some = pick (are_as_many count (suc (length (map (λ
 
 pub listing-some : (count : Option ℕ) (octets : List ℕ)
     → (each_in variable.reads octets ≡ Some [] → ⊥)
-    → names_none (answer Bad (map_form (λ vs. requested_names count (variables vs)) (each variable))
+    → has_no_names (form_result Bad (map_form (λ vs. requested_names count (variables vs)) (each variable))
     octets) ≡ false
 listing-some count octets some = pick (each_in variable.reads octets) refl
   where
     pick : (o : Option (List VariableSpecification)) → each_in variable.reads octets ≡ o
-        → names_none (or_bad Bad (option_map (λ vs. requested_names count (variables vs)) o))
+        → has_no_names (or_bad Bad (option_map (λ vs. requested_names count (variables vs)) o))
         ≡ false
     pick None e = refl
     pick (Some vs) e = names-some vs count (λ none. some (e ∙ ap Some none))
@@ -117,7 +117,7 @@ listing-some count octets some = pick (each_in variable.reads octets) refl
 -- ---- where a list of values stops
 
 pub gives-option : {A B : Type 0} (view : A → B) (r : Option A) (o : Option B)
-    → option_map view r ≡ o → Gives OutOfMemory view (ok_or r Bad) (or_fault Bad o)
+    → option_map view r ≡ o → ExactOr OutOfMemory view (ok_or r Bad) (or_fault Bad o)
 gives-option view None o is = inr (ap (or_fault Bad) (sym is))
 gives-option view (Some x) o is = ap (or_fault Bad) (sym is)
 

@@ -4,7 +4,7 @@ use Rattle.std.proofs.lemmas.Bool.{cases_lt}
 use Rattle.std.proofs.lemmas.List.{drop_all, drop_more, length-append}
 use Rattle.std.specs.Option.{option_map}
 use Rattle.bay_base.specs.Options.{◌>>=◌}
-use Rattle.bay_ber.specs.EncoderBuffers.{EncoderBuffer, text_within_limit, text_with, sheet_with, message, value_around}
+use Rattle.bay_ber.specs.EncoderBuffers.{EncoderBuffer, text_within_limit, text_with, buffer_with, message, value_around}
 use Rattle.bay_ber.specs.Writing.{element, element_length, integer_octets, truth_octets}
 use Rattle.bay_ber.specs.declared.tag.Tag.{Tag}
 use Rattle.bay_ber.proofs.SheetLemmas.{no-room, room, put_nil, put-put, heads-put, limit-put, message-front, within-longer}
@@ -13,7 +13,7 @@ use Rattle.bay_mms.specs.declared.fault.EncodeFault.{EncodeFault}
 use Rattle.bay_mms.specs.declared.fault.EncodeFault.TheVariants.{TooLong, OutOfMemory}
 use Rattle.bay_ber.specs.Tags.{context, constructed, int_tag, visible_tag}
 use Rattle.bay_mms.specs.Responses.{names_text, page_text, read_text}
-use Rattle.bay_mms.specs.Writing.{Adds, Held, HoldsResults, octets_in}
+use Rattle.bay_mms.specs.Writing.{AppendsWithin, ChecksLimit, HoldsResults, octets_in}
 use Rattle.bay_ber.proofs.SheetLemmas.{content-less}
 
 -- ---- a page
@@ -50,33 +50,33 @@ page-is id texts more =
 pub names-next : (writer new whole : EncoderBuffer) (names : List (List ℕ)) (i : ℕ)
     (name d : List ℕ)
     → i < length names → name ≡ get_or names i d
-    → new ≡ sheet_with writer (element visible_tag name)
-    → sheet_with writer (names_text (drop i names)) ≡ whole
-    → sheet_with new (names_text (drop (i + 1) names)) ≡ whole
+    → new ≡ buffer_with writer (element visible_tag name)
+    → buffer_with writer (names_text (drop i names)) ≡ whole
+    → buffer_with new (names_text (drop (i + 1) names)) ≡ whole
 names-next writer new whole names i name d lt is added all =
     let rest = names_text (drop (i + 1) names) in
-    ap (λ (s : EncoderBuffer). sheet_with s rest) added
+    ap (λ (s : EncoderBuffer). buffer_with s rest) added
     ∙ put-put writer (element visible_tag name) rest
-    ∙ ap (λ (ys : List ℕ). sheet_with writer ys)
+    ∙ ap (λ (ys : List ℕ). buffer_with writer ys)
     (rw is (ap names_text (sym (drop_more names i d lt)))) ∙ all
 
 pub names-end : (writer whole : EncoderBuffer) (names : List (List ℕ)) (i : ℕ) → length names ≤ i
-    → sheet_with writer (names_text (drop i names)) ≡ whole → writer ≡ whole
+    → buffer_with writer (names_text (drop i names)) ≡ whole → writer ≡ whole
 names-end writer whole names i past all =
-    sym (put_nil writer) ∙ ap (λ (ns : List (List ℕ)). sheet_with writer (names_text ns))
+    sym (put_nil writer) ∙ ap (λ (ns : List (List ℕ)). buffer_with writer (names_text ns))
     (sym (drop_all i names past)) ∙ all
 
 -- ---- what a call adds to the results of a read
 
-text-is : (sheet : EncoderBuffer) (text : List ℕ)
-    → (sheet_with sheet text).text ≡ text_with sheet.limit sheet.text text
-unfolding sheet_with
-text-is sheet text = refl
+text-is : (buffer : EncoderBuffer) (text : List ℕ)
+    → (buffer_with buffer text).text ≡ text_with buffer.limit buffer.text text
+unfolding buffer_with
+text-is buffer text = refl
 
 adds-by : (r : Result (Unit {0}) EncodeFault) (limit : ℕ) (old : Option (List ℕ))
     (middle new : EncoderBuffer) (text : List ℕ) → is_none old ≡ false
-    → middle.text ≡ text_with limit old text → Held middle r new
-    → Adds limit (octets_in old) r (octets_in new.text) text
+    → middle.text ≡ text_with limit old text → ChecksLimit middle r new
+    → AppendsWithin limit (octets_in old) r (octets_in new.text) text
 adds-by r limit None middle new text some at h = absurd cc
 adds-by (Ok done) limit (Some old) middle new text some at h =
     elim (cases_lt (limit - length old) (length text)) [
@@ -97,29 +97,29 @@ adds-by (Err TooLong) limit (Some old) middle new text some at h =
 adds-by (Err OutOfMemory) limit (Some old) middle new text some at h = tt
 
 pub adds-held : (r : Result (Unit {0}) EncodeFault) (old middle new : EncoderBuffer) (text : List ℕ)
-    → HoldsResults old → middle ≡ sheet_with old text → Held middle r new
-    → Adds old.limit (octets_in old.text) r (octets_in new.text) text
+    → HoldsResults old → middle ≡ buffer_with old text → ChecksLimit middle r new
+    → AppendsWithin old.limit (octets_in old.text) r (octets_in new.text) text
 adds-held r old middle new text holds is h =
     adds-by r old.limit old.text middle new text holds.held
     (ap (λ (s : EncoderBuffer). s.text) is ∙ text-is old text) h
 
 pub holds-held : (r : Result (Unit {0}) EncodeFault) (old middle new : EncoderBuffer)
     (text : List ℕ)
-    → HoldsResults old → middle ≡ sheet_with old text → Held middle r new → HoldsResults new
+    → HoldsResults old → middle ≡ buffer_with old text → ChecksLimit middle r new → HoldsResults new
 holds-held (Ok done) old middle new text holds is h =
     record {
-      none = ap (λ (s : EncoderBuffer). s.heads) (h.1 ∙ is) ∙ heads-put old text ∙ holds.none;
+      none = ap (λ (s : EncoderBuffer). s.headers) (h.1 ∙ is) ∙ heads-put old text ∙ holds.none;
       held = ap (λ (s : EncoderBuffer). is_none s.text) h.1 ∙ h.0;
     }
 holds-held (Err TooLong) old middle new text holds is h =
     record {
-      none = ap (λ (s : EncoderBuffer). s.heads) h.1;
+      none = ap (λ (s : EncoderBuffer). s.headers) h.1;
       held = ap (λ (s : EncoderBuffer). is_none s.text) h.1;
     }
 holds-held (Err OutOfMemory) old middle new text holds is h = absurd h
 
 pub size-held : (r : Result (Unit {0}) EncodeFault) (old middle new : EncoderBuffer) (text : List ℕ)
-    → middle ≡ sheet_with old text → Held middle r new → new.limit ≡ old.limit
+    → middle ≡ buffer_with old text → ChecksLimit middle r new → new.limit ≡ old.limit
 size-held (Ok done) old middle new text is h =
     ap (λ (s : EncoderBuffer). s.limit) (h.1 ∙ is) ∙ limit-put old text
 size-held (Err TooLong) old middle new text is h =
@@ -129,16 +129,16 @@ size-held (Err OutOfMemory) old middle new text is h = absurd h
 
 -- ---- the response around them
 
-message-held : (heads : List ℕ) (text : Option (List ℕ)) (limit : ℕ) → heads ≡ []
+message-held : (headers : List ℕ) (text : Option (List ℕ)) (limit : ℕ) → headers ≡ []
     → is_none text ≡ false
-    → message (record { limit = limit; heads = heads; text = text }) ≡ Some (octets_in text)
+    → message (record { limit = limit; headers = headers; text = text }) ≡ Some (octets_in text)
 unfolding message
-message-held heads None limit none some = absurd cc
-message-held heads (Some text) limit none some = rw none refl
+message-held headers None limit none some = absurd cc
+message-held headers (Some text) limit none some = rw none refl
 
-pub is-held : (sheet : EncoderBuffer) → HoldsResults sheet
-    → message sheet ≡ Some (octets_in sheet.text)
-is-held sheet holds = message-held sheet.heads sheet.text sheet.limit holds.none holds.held
+pub is-held : (buffer : EncoderBuffer) → HoldsResults buffer
+    → message buffer ≡ Some (octets_in buffer.text)
+is-held buffer holds = message-held buffer.headers buffer.text buffer.limit holds.none holds.held
 
 map-then : (g : List ℕ → List ℕ) (f : List ℕ → Option (List ℕ)) (m : Option (List ℕ))
     → (option_map g m >>= f) ≡ (m >>= λ t. f (g t))
@@ -173,14 +173,14 @@ read-is id size octets first second third last f s t l =
 pub number-few : (old new : EncoderBuffer) (tag : Tag) (value : ℤ)
     → new ≡ record {
       limit = old.limit;
-      heads = element tag (integer_octets value) ++ old.heads;
+      headers = element tag (integer_octets value) ++ old.headers;
       text = old.text;
     }
-    → length new.heads ≤ length old.heads + 14
+    → length new.headers ≤ length old.headers + 14
 number-few old new tag value is =
     rw is (omega (
       arith,
-      length-append (element tag (integer_octets value)) old.heads,
+      length-append (element tag (integer_octets value)) old.headers,
       length-integer tag value,
     ))
 
@@ -189,7 +189,7 @@ pub response-is : (id : ℕ) (old one four numbered whole : EncoderBuffer) → H
     → four.limit ≡ one.limit → message four ≡ value_around (constructed 4) one.limit (message one)
     → numbered ≡ record {
       limit = four.limit;
-      heads = element int_tag (integer_octets (pos id)) ++ four.heads;
+      headers = element int_tag (integer_octets (pos id)) ++ four.headers;
       text = four.text;
     }
     → message whole ≡ value_around (constructed 1) numbered.limit (message numbered)

@@ -6,7 +6,7 @@ use Rattle.bay_ber.specs.EncoderBuffers.{text_within_limit}
 use Rattle.bay_ber.proofs.SheetLemmas.{fits}
 use Rattle.bay_ber.proofs.SizeLemmas.{length-element, length-integer}
 use Rattle.bay_ber.specs.Tags.{context, constructed}
-use Rattle.bay_mms.specs.Responses.{class_text, error_text, id_text, reason_text, reject_text, concluded_text}
+use Rattle.bay_mms.specs.Responses.{class_text, error_text, id_text, reason_text, reject_text, conclude_response_text}
 use Rattle.bay_mms.specs.declared.response.ErrorClass.{ErrorClass}
 use Rattle.bay_mms.specs.declared.response.ErrorClass.TheVariants.{NoSuchObject, Resource}
 use Rattle.bay_mms.specs.declared.response.RejectReason.{RejectReason}
@@ -59,6 +59,6 @@ pub reject_within : (id : Option ℕ) (reason : RejectReason)
     → text_within_limit 60 (reject_text id reason) ≡ Some (reject_text id reason)
 reject_within id reason = fits 60 (reject_text id reason) (reject_short id reason)
 
-pub concluded_within : text_within_limit 2 concluded_text ≡ Some concluded_text
+pub concluded_within : text_within_limit 2 conclude_response_text ≡ Some conclude_response_text
 unfolding element length_octets
 concluded_within = refl

@@ -68,29 +68,29 @@ pub record IsOperate (d : Datum) (o : Operate) : Type 0 where
 -- ---- own: how simple data are read
 
 -- the truth value, if the data are a boolean
-abbrev pub truth_as : Datum → Option Bool
-truth_as (truth value) = Some value
-truth_as d = None
+abbrev pub truth_from_data : Datum → Option Bool
+truth_from_data (truth value) = Some value
+truth_from_data d = None
 
 -- the number, if the data are an integer
-abbrev pub integer_as : Datum → Option ℤ
-integer_as (integer value) = Some value
-integer_as d = None
+abbrev pub integer_from_data : Datum → Option ℤ
+integer_from_data (integer value) = Some value
+integer_from_data d = None
 
 -- the number, if the data are an unsigned number
-abbrev pub unsigned_as : Datum → Option ℤ
-unsigned_as (unsigned value) = Some value
-unsigned_as d = None
+abbrev pub unsigned_from_data : Datum → Option ℤ
+unsigned_from_data (unsigned value) = Some value
+unsigned_from_data d = None
 
 -- the octets, if the data are an octet string
-abbrev pub octets_as : Datum → Option (List ℕ)
-octets_as (octets value) = Some value
-octets_as d = None
+abbrev pub octets_from_data : Datum → Option (List ℕ)
+octets_from_data (octets value) = Some value
+octets_from_data d = None
 
 -- the eight octets, if the data are a utc-time
-abbrev pub moment_as : Datum → Option (List ℕ)
-moment_as (utc value) = Some value
-moment_as d = None
+abbrev pub moment_from_data : Datum → Option (List ℕ)
+moment_from_data (utc value) = Some value
+moment_from_data d = None
 
 -- ---- IEC 61850-8-1 Oper, SBOw, Cancel: how data are read
 
@@ -99,8 +99,8 @@ abbrev pub checks : Bool → Bool → Check
 checks s i = record { synchrocheck = s; interlock_check = i }
 
 -- the checks of a number of two bits
-abbrev pub check_by : ℕ → Option Check
-check_by two =
+abbrev pub check_from_bits : ℕ → Option Check
+check_from_bits two =
     if two == 0 then Some (checks false false)
     else (if two == 1 then Some (checks false true)
     else (if two == 2 then Some (checks true false)
@@ -108,72 +108,72 @@ check_by two =
     else None)))
 
 -- the checks in the two highest bits of an octet
-abbrev pub check_of : ℕ → Option Check
-check_of octet = check_by (octet / 64)
+abbrev pub check_from_octet : ℕ → Option Check
+check_from_octet octet = check_from_bits (octet / 64)
 
 -- the checks in the first octet, if there is one
-abbrev pub first_check : List ℕ → Option Check
-first_check [] = None
-first_check (first ∷ later) = check_of first
+abbrev pub check_from_octets : List ℕ → Option Check
+check_from_octets [] = None
+check_from_octets (first ∷ later) = check_from_octet first
 
 -- the checks, if the data are two bits
-abbrev pub check_as : Datum → Option Check
-check_as (bits held count) = if count == 2 then first_check held else None
-check_as d = None
+abbrev pub check_from_data : Datum → Option Check
+check_from_data (bits held count) = if count == 2 then check_from_octets held else None
+check_from_data d = None
 
 -- consecutive data as a list (own)
-abbrev pub list_of : Data → List Datum
-list_of no_data = []
-list_of (datum first later) = first ∷ list_of later
+abbrev pub data_list : Data → List Datum
+data_list no_data = []
+data_list (datum first later) = first ∷ data_list later
 
 -- the parts, if the data are a structure (own)
-abbrev pub parts_as : Datum → Option (List Datum)
-parts_as (structure parts) = Some (list_of parts)
-parts_as d = None
+abbrev pub parts_from_data : Datum → Option (List Datum)
+parts_from_data (structure parts) = Some (data_list parts)
+parts_from_data d = None
 
 -- an originator from its parts (IEC 61850-7-3, Originator)
-abbrev pub origin_of : List Datum → Option Origin
-origin_of (category ∷ identity ∷ []) = do
-  cat ← integer_as category
-  ident ← octets_as identity
+abbrev pub origin_from_parts : List Datum → Option Origin
+origin_from_parts (category ∷ identity ∷ []) = do
+  cat ← integer_from_data category
+  ident ← octets_from_data identity
   Some (record { or_cat = cat; or_ident = ident })
-origin_of parts = None
+origin_from_parts parts = None
 
 -- the originator that data are read as (IEC 61850-7-3, Originator)
-unfoldable pub origin_as : Datum → Option Origin
-origin_as d = parts_as d >>= origin_of
+unfoldable pub origin_from_data : Datum → Option Origin
+origin_from_data d = parts_from_data d >>= origin_from_parts
 
 -- a control from its parts, without Check
-unfoldable pub control_of : Datum → Datum → Datum → Datum → Datum → Option Control
-control_of value origin number moment test = do
-  val ← truth_as value
-  by ← origin_as origin
-  num ← unsigned_as number
-  time ← moment_as moment
-  flag ← truth_as test
+unfoldable pub control_from_parts : Datum → Datum → Datum → Datum → Datum → Option Control
+control_from_parts value origin number moment test = do
+  val ← truth_from_data value
+  by ← origin_from_data origin
+  num ← unsigned_from_data number
+  time ← moment_from_data moment
+  flag ← truth_from_data test
   Some (record { ctl_val = val; origin = by; ctl_num = num; t = time; test = flag })
 
 -- a cancel from its five parts
-abbrev pub cancel_of : List Datum → Option Control
-cancel_of (value ∷ origin ∷ number ∷ moment ∷ test ∷ []) =
-    control_of value origin number moment test
-cancel_of parts = None
+abbrev pub cancel_from_parts : List Datum → Option Control
+cancel_from_parts (value ∷ origin ∷ number ∷ moment ∷ test ∷ []) =
+    control_from_parts value origin number moment test
+cancel_from_parts parts = None
 
 -- an operate from its six parts, the last of them Check
-abbrev pub operate_of : List Datum → Option Operate
-operate_of (value ∷ origin ∷ number ∷ moment ∷ test ∷ check ∷ []) = do
-  control ← control_of value origin number moment test
-  two ← check_as check
+abbrev pub operate_from_parts : List Datum → Option Operate
+operate_from_parts (value ∷ origin ∷ number ∷ moment ∷ test ∷ check ∷ []) = do
+  control ← control_from_parts value origin number moment test
+  two ← check_from_data check
   Some (record { control = control; check = two })
-operate_of parts = None
+operate_from_parts parts = None
 
 -- the cancel that data are read as, in any range
-unfoldable pub cancel_as : Datum → Option Control
-cancel_as d = parts_as d >>= cancel_of
+unfoldable pub cancel_from_data : Datum → Option Control
+cancel_from_data d = parts_from_data d >>= cancel_from_parts
 
 -- the operate that data are read as, in any range
-unfoldable pub operate_as : Datum → Option Operate
-operate_as d = parts_as d >>= operate_of
+unfoldable pub operate_from_data : Datum → Option Operate
+operate_from_data d = parts_from_data d >>= operate_from_parts
 
 -- ---- own: ranges of the parameters
 
@@ -199,9 +199,9 @@ in_range_or_error control (Some x) =
     if is_in_range (control x) then Ok x else Err ObjectValueInvalid
 
 -- the operate that data are read as, or why they are none
-abbrev pub operate_in : Datum → Result Operate DataAccessError
-operate_in d = in_range_or_error (λ o. o.control) (operate_as d)
+abbrev pub operate_or_error : Datum → Result Operate DataAccessError
+operate_or_error d = in_range_or_error (λ o. o.control) (operate_from_data d)
 
 -- the cancel that data are read as, or why they are none
-abbrev pub cancel_in : Datum → Result Control DataAccessError
-cancel_in d = in_range_or_error (λ c. c) (cancel_as d)
+abbrev pub cancel_or_error : Datum → Result Control DataAccessError
+cancel_or_error d = in_range_or_error (λ c. c) (cancel_from_data d)

@@ -12,7 +12,7 @@ use Rattle.bay_mms_initiate.specs.Initiate.{proposal}
 use Rattle.bay_mms.specs.Data as mms
 use Rattle.bay_mms.specs.Data.{Datum}
 use Rattle.bay_mms.specs.Views.{data_before}
-use Rattle.bay_mms.specs.Requests.{Naming, vmd, domain, association, Place, whole_vmd, in_domain, of_association, VariableSpecification, Access, variables, named_list, Asking, identify, names, attributes, read, write, Message, initiate, conclude, confirmed, Denial, unknown, many}
+use Rattle.bay_mms.specs.Requests.{MmsName, vmd, domain, association, ObjectScope, whole_vmd, in_domain, of_association, VariableSpecification, Access, variables, named_list, ServiceRequest, identify, names, attributes, read, write, MmsRequest, initiate, conclude, confirmed, Denial, unknown, many}
 use Rattle.bay_mms.specs.declared.fault.Refusal.{Refusal}
 use Rattle.bay_mms.specs.declared.fault.Refusal.TheVariants.{Bad, Unknown, Many}
 use Rattle.bay_mms.specs.declared.fault.MmsFault.{MmsFault}
@@ -25,7 +25,7 @@ unfoldable pub domain_parts : Form (List Part) (List ℕ × (List ℕ × Unit {0
 domain_parts = value_then (tagged visible_tag octets) (value_then (tagged visible_tag octets) done)
 
 -- ObjectName: vmd-specific, domain-specific or aa-specific
-unfoldable pub name : Form Part Naming
+unfoldable pub name : Form Part MmsName
 name =
     choice (context 0) (map_form vmd octets)
     (choice (constructed 1) (map_form (λ x. domain x.0 x.1.0) (fields domain_parts))
@@ -39,12 +39,12 @@ is_there (Some x) = true
 is_there None = false
 
 -- a variable, from the parts that were read
-abbrev pub specification_from_parts : Naming × (Option (Unit {0}) × Unit {0})
+abbrev pub specification_from_parts : MmsName × (Option (Unit {0}) × Unit {0})
     → VariableSpecification
 specification_from_parts x = record { name = x.0; is_alternate = is_there x.1.0 }
 
 -- variableSpecification, a name, and alternateAccess, which is optional and not read
-unfoldable pub variable_parts : Form (List Part) (Naming × (Option (Unit {0}) × Unit {0}))
+unfoldable pub variable_parts : Form (List Part) (MmsName × (Option (Unit {0}) × Unit {0}))
 variable_parts =
     value_then (tagged (constructed 0) (one name)) (maybe (constructed 5) any_octets done)
 
@@ -65,23 +65,23 @@ abbrev pub any_alternate : List VariableSpecification → Bool
 any_alternate vs = list_any (λ v. v.is_alternate) vs
 
 -- whether a number is the given count; true if no count is given
-abbrev pub are_as_many : Option ℕ → ℕ → Bool
-are_as_many None number = true
-are_as_many (Some count) number = number == count
+abbrev pub has_count : Option ℕ → ℕ → Bool
+has_count None number = true
+has_count (Some count) number = number == count
 
 -- The names, if they are served: only whole variables, and at most 32.
-abbrev pub served_names : List Naming → Bool → Result (List Naming) Refusal
+abbrev pub served_names : List MmsName → Bool → Result (List MmsName) Refusal
 served_names ns alternate =
     if alternate then Err Unknown else (if nat_lt 32 (length ns) then Err Many else Ok ns)
 
 -- The names, if they are served, and if there are `count` of them.
-abbrev pub counted_names : Option ℕ → List Naming → Bool → Result (List Naming) Refusal
+abbrev pub counted_names : Option ℕ → List MmsName → Bool → Result (List MmsName) Refusal
 counted_names count ns alternate =
-    if are_as_many count (length ns) then served_names ns alternate else Err Bad
+    if has_count count (length ns) then served_names ns alternate else Err Bad
 
 -- The requested names, `count` of them if a count is given; a named list of variables is not
 -- served.
-abbrev pub requested_names : Option ℕ → Access → Result (List Naming) Refusal
+abbrev pub requested_names : Option ℕ → Access → Result (List MmsName) Refusal
 requested_names count named_list = Err Unknown
 requested_names count (variables vs) = counted_names count (map (λ v. v.name) vs) (any_alternate vs)
 
@@ -118,7 +118,7 @@ datum_at (suc depth) =
 -- ---- ISO 9506-2 GetNameList-Request: the requested names
 
 -- objectScope: vmdSpecific, domainSpecific or aaSpecific
-unfoldable pub scope : Form Part Place
+unfoldable pub scope : Form Part ObjectScope
 scope =
     choice (context 0) (map_form (λ x. whole_vmd) empty)
     (choice (context 1) (map_form in_domain octets)
@@ -129,26 +129,26 @@ unfoldable pub class_part : Form Part ℤ
 class_part = tagged (constructed 0) (one (tagged (context 0) integer))
 
 -- objectScope with its tag
-unfoldable pub scope_part : Form Part Place
+unfoldable pub scope_part : Form Part ObjectScope
 scope_part = tagged (constructed 1) (one scope)
 
 -- the request for names, from the parts that were read
-abbrev pub names_from_parts : ℤ × (Place × (Option (List ℕ) × Unit {0})) → Asking
+abbrev pub names_from_parts : ℤ × (ObjectScope × (Option (List ℕ) × Unit {0})) → ServiceRequest
 names_from_parts x = names x.0 x.1.0 x.1.1.0
 
 -- objectClass, objectScope, and continueAfter, which is optional
-unfoldable pub get_name_list_parts : Form (List Part) (ℤ × (Place × (Option (List ℕ) × Unit {0})))
+unfoldable pub get_name_list_parts : Form (List Part) (ℤ × (ObjectScope × (Option (List ℕ) × Unit {0})))
 get_name_list_parts = value_then class_part (value_then scope_part (maybe (context 2) octets done))
 
 -- GetNameList-Request
-unfoldable pub get_name_list : Form (List ℕ) Asking
+unfoldable pub get_name_list : Form (List ℕ) ServiceRequest
 get_name_list = map_form names_from_parts (fields get_name_list_parts)
 
 -- ---- ISO 9506-2 GetVariableAccessAttributes-Request: the requested type
 
 -- GetVariableAccessAttributes-Request: by the name of a variable; by the name of a list it is not
 -- served
-unfoldable pub attributes_request : Form Part (Result Asking Refusal)
+unfoldable pub attributes_request : Form Part (Result ServiceRequest Refusal)
 attributes_request =
     choice (constructed 0) (map_form (λ n. Ok (attributes n)) (one name))
     (tagged (constructed 1) (map_form (λ n. Err Unknown) (one name)))
@@ -156,7 +156,7 @@ attributes_request =
 -- ---- ISO 9506-2 Read-Request: variables that are read
 
 -- the read of these variables
-unfoldable pub read_service : Access → Result Asking Refusal
+unfoldable pub read_service : Access → Result ServiceRequest Refusal
 read_service vs = requested_names None vs >> λ ns. Ok (read ns)
 
 -- Read-Request: specificationWithResult, which is optional and not read, and
@@ -167,7 +167,7 @@ read_parts = maybe (context 0) any_octets (value_then (tagged (constructed 1) (o
 -- ---- ISO 9506-2 Write-Request: variables that are written
 
 -- the write of these data, one for each variable
-unfoldable pub write_service : Access × (List Datum × Unit {0}) → Result Asking Refusal
+unfoldable pub write_service : Access × (List Datum × Unit {0}) → Result ServiceRequest Refusal
 write_service x = requested_names (Some (length x.1.0)) x.0 >> λ ns. Ok (write ns x.1.0)
 
 -- Write-Request: variableAccessSpecification and listOfData, each at most 10 deep
@@ -184,12 +184,12 @@ is_unlisted tag =
     || ((tag.number == 2) || ((tag.number == 4) || ((tag.number == 5) || (tag.number == 6)))))
 
 -- the refusal of a service that is not read here
-abbrev pub refuse_unlisted : Part → Option (Result Asking Refusal)
+abbrev pub refuse_unlisted : Part → Option (Result ServiceRequest Refusal)
 refuse_unlisted part = if is_unlisted part.tag then Some (Err Unknown) else None
 
 -- ConfirmedServiceRequest: getNameList, identify, read, write, getVariableAccessAttributes, and
 -- others
-unfoldable pub service_request : Form Part (Result Asking Refusal)
+unfoldable pub service_request : Form Part (Result ServiceRequest Refusal)
 service_request =
     choice (constructed 1) (map_form (λ x. Ok x) get_name_list)
     (choice (context 2) (map_form (λ x. Ok identify) empty)
@@ -209,26 +209,26 @@ unfoldable pub invoke_id : Form Part ℕ
 invoke_id = tagged int_tag (try_map_form id_of integer)
 
 -- invokeID and ConfirmedServiceRequest (ISO 9506-2, Confirmed-RequestPDU)
-unfoldable pub confirmed_parts : Form (List Part) (ℕ × (Result Asking Refusal × Unit {0}))
+unfoldable pub confirmed_parts : Form (List Part) (ℕ × (Result ServiceRequest Refusal × Unit {0}))
 confirmed_parts = value_then invoke_id (value_then service_request done)
 
 -- the request for a service with an invoke id, or why it is refused; None if the service is
 -- malformed (own)
-abbrev pub under_id : ℕ → Result Asking Refusal → Option (Result Message Denial)
-under_id id (Ok asking) = Some (Ok (confirmed id asking))
-under_id id (Err Unknown) = Some (Err (unknown id))
-under_id id (Err Many) = Some (Err (many id))
-under_id id (Err refusal) = None
+abbrev pub request_with_id : ℕ → Result ServiceRequest Refusal → Option (Result MmsRequest Denial)
+request_with_id id (Ok asking) = Some (Ok (confirmed id asking))
+request_with_id id (Err Unknown) = Some (Err (unknown id))
+request_with_id id (Err Many) = Some (Err (many id))
+request_with_id id (Err refusal) = None
 
 -- MMSpdu: confirmed-RequestPDU, initiate-RequestPDU or conclude-RequestPDU
-unfoldable pub pdu : Form Part (Result Message Denial)
+unfoldable pub pdu : Form Part (Result MmsRequest Denial)
 pdu =
-    choice (constructed 0) (try_map_form (λ x. under_id x.0 x.1.0) (fields confirmed_parts))
+    choice (constructed 0) (try_map_form (λ x. request_with_id x.0 x.1.0) (fields confirmed_parts))
     (choice (constructed 8) (map_form (λ p. Ok (initiate p)) proposal)
     (tagged (context 11) (map_form (λ x. Ok conclude) empty)))
 
 -- a request
-unfoldable pub request : Form (List ℕ) (Result Message Denial)
+unfoldable pub request : Form (List ℕ) (Result MmsRequest Denial)
 request = one pdu
 
 -- ---- own: the result of reading a request
@@ -240,12 +240,12 @@ leading_id = first_form (tagged (constructed 0) (first_form invoke_id))
 
 -- the result for a request that was read, or for none: then a bad PDU, with the invoke id if it can
 -- be read
-abbrev pub request_or_fault : Option ℕ → Option (Result Message Denial) → Result Message MmsFault
+abbrev pub request_or_fault : Option ℕ → Option (Result MmsRequest Denial) → Result MmsRequest MmsFault
 request_or_fault known (Some (Ok message)) = Ok message
 request_or_fault known (Some (Err (unknown id))) = Err (fault.UnknownService id)
 request_or_fault known (Some (Err (many id))) = Err (fault.TooMany id)
 request_or_fault known None = Err (fault.BadPdu known)
 
 -- the request that octets are read as, or their fault
-unfoldable pub answer_to : List ℕ → Result Message MmsFault
-answer_to octets = request_or_fault (leading_id.reads octets) (request.reads octets)
+unfoldable pub request_in : List ℕ → Result MmsRequest MmsFault
+request_in octets = request_or_fault (leading_id.reads octets) (request.reads octets)

@@ -41,7 +41,7 @@ pub record IsOneValue (list : List ℕ) (tag : Tag) : Type 0 where
   pub spelled : Spells list tag content
 
 -- A bit string has as many octets as it needs, and its unused bits are 0.
-pub record IsHeld (held : List ℕ) (count : ℕ) : Type 0 where
+pub record IsMinimalBits (held : List ℕ) (count : ℕ) : Type 0 where
   pub enough : count ≤ 8 * length held
   pub short : count < 2 ^ 35
   pub whole : bit_octets held count ≡ held
@@ -52,7 +52,7 @@ abbrev mutual
   pub IsPlain : Datum → Type 0
   IsPlain (structure parts) = ArePlain parts
   IsPlain (truth value) = Unit {0}
-  IsPlain (bits held count) = IsHeld held count
+  IsPlain (bits held count) = IsMinimalBits held count
   IsPlain (integer value) = FitsSigned w64 value
   IsPlain (unsigned value) = FitsSigned w64 value
   IsPlain (octets value) = Unit {0}

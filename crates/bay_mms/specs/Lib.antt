@@ -8,7 +8,7 @@
 -- octets encode a request, a request for a service that is not served, one with too many variables,
 -- or none of these, with the invoke id if they begin with one.
 --
--- `Answers`: the request that some octets encode, or their fault. An allocation can fail only for a
+-- `RequestResults`: the request that some octets encode, or their fault. An allocation can fail only for a
 -- read or a write that names a variable or has data.
 --
 -- `Data`, `Types` and `Utc`: data and types of named variables as trees with their canonical texts,
@@ -31,7 +31,7 @@ pub use Rattle.bay_ber.specs.Values
 pub use Rattle.bay_tree.specs.Page
 pub use Rattle.bay_tree.specs.Rows
 -- The definitions of this crate.
-pub mod Answers
+pub mod RequestResults
 pub mod RequestRelations
 pub mod Code
 pub mod ControlViews

@@ -9,4 +9,4 @@ use Rattle.bay_tree.specs.Rows.{with_leaf}
 -- the rows with TRUE at the marked row, if there is one
 abbrev pub rows_marked : Option ℕ → List Row → List Row
 rows_marked None rows = rows
-rows_marked (Some place) rows = with_leaf rows place (leaf.Truth true)
+rows_marked (Some index) rows = with_leaf rows index (leaf.Truth true)

@@ -38,8 +38,8 @@ nodes_in parent (row ∷ later) =
 
 -- the node of the row at an index
 abbrev pub node_at : List Row → ℕ → Node
-node_at rows place =
-    node_of (leaf_at rows place) (nodes_in (name_at rows place) (drop (place + 1) rows))
+node_at rows index =
+    node_of (leaf_at rows index) (nodes_in (name_at rows index) (drop (index + 1) rows))
 
 -- ---- own: the data and the type of a node
 
@@ -63,8 +63,8 @@ abbrev mutual
 
 -- the data of the row at an index
 abbrev pub data_at : List Row → ℕ → Datum
-data_at rows place = node_datum (node_at rows place)
+data_at rows index = node_datum (node_at rows index)
 
 -- the type of the row at an index
 abbrev pub type_at : List Row → ℕ → TypeSpec
-type_at rows place = node_type (node_at rows place)
+type_at rows index = node_type (node_at rows index)

@@ -38,28 +38,28 @@ ends_from start (name ∷ names) =
     ∷ ends_from (start + length (element visible_tag name)) names
 
 -- the text of names as a response lists them, one after another, and the offset at which each ends
-pub record NamesText : Type 0 where
+pub record NameTextsData : Type 0 where
   pub octets : List ℕ
   pub ends : List ℕ
 
 -- the text of these names
-abbrev pub text_of_names : List (List ℕ) → NamesText
-text_of_names names = record { octets = names_text names; ends = ends_from 0 names }
+abbrev pub encoded_names : List (List ℕ) → NameTextsData
+encoded_names names = record { octets = names_text names; ends = ends_from 0 names }
 
 -- the offset at which the name with this index begins, from the ends of all names
 abbrev pub begin_at : List ℕ → ℕ → ℕ
 begin_at ends zero = 0
-begin_at ends (suc place) = get_or ends place 0
+begin_at ends (suc index) = get_or ends index 0
 
 -- no name ends before the one before it, and none after the end of the text
 pub record AreEnds (ends : List ℕ) (count : ℕ) : Type 0 where
   pub rise : (a b : ℕ) → a ≤ b → b ≤ length ends → begin_at ends a ≤ begin_at ends b
-  pub within : (place : ℕ) → place ≤ length ends → begin_at ends place ≤ count
+  pub within : (index : ℕ) → index ≤ length ends → begin_at ends index ≤ count
 
 -- the names of the rows from an index on, if there is one
 abbrev pub names_from : List Row → Option ℕ → List (List ℕ)
 names_from rows None = []
-names_from rows (Some place) = names_of (drop place rows)
+names_from rows (Some index) = names_of (drop index rows)
 
 -- the response that lists the names with these texts (ISO 9506-2, GetNameList-Response)
 abbrev pub response_of_texts : ℕ → List ℕ → Bool → List ℕ
@@ -73,5 +73,5 @@ abbrev pub length_of_page : ℕ → ℕ → ℕ
 length_of_page id names = element_length (id + element_length (element_length names + 3))
 
 -- the number of octets of a response with this invoke id whose names take `names` octets
-abbrev pub page_length : ℕ → ℕ → ℕ
-page_length id names = length_of_page (element_length (length (integer_octets (pos id)))) names
+abbrev pub page_length_with_id : ℕ → ℕ → ℕ
+page_length_with_id id names = length_of_page (element_length (length (integer_octets (pos id)))) names

@@ -47,8 +47,8 @@ failure_datum e =
     (datum (unsigned (pos e.ctl_num)) (datum (integer (pos e.add_cause)) no_data)))))
 
 -- the report that a control was refused (IEC 61850-8-1, LastApplError)
-abbrev pub failure_text : LastApplError → List ℕ
-failure_text e = report_text (failure_name ∷ []) (datum (failure_datum e) no_data)
+abbrev pub last_appl_error_text : LastApplError → List ℕ
+last_appl_error_text e = report_text (failure_name ∷ []) (datum (failure_datum e) no_data)
 
 -- the report that a control has succeeded, which repeats the operate as it was written (IEC
 -- 61850-8-1, CommandTermination)
@@ -57,8 +57,8 @@ termination_text domain item o =
     report_text (item_name domain item ∷ []) (datum (operate_datum (operate_view o)) no_data)
 
 -- the report that a control has failed: why, and then the operate
-abbrev pub failed_text : LastApplError → List ℕ → List ℕ → OperateData → List ℕ
-failed_text e domain item o =
+abbrev pub failed_termination_text : LastApplError → List ℕ → List ℕ → OperateData → List ℕ
+failed_termination_text e domain item o =
     report_text (failure_name ∷ item_name domain item ∷ [])
     (datum (failure_datum e) (datum (operate_datum (operate_view o)) no_data))
 

@@ -4,21 +4,21 @@ use Rattle.bay_mms.specs.Data.{Datum}
 use Rattle.bay_mms_initiate.specs.declared.initiate.Proposal.{Proposal}
 
 -- the name of an object (ISO 9506-2, ObjectName): in the VMD, in a domain, or in the association
-pub data Naming : Type 0 where
-  vmd : List ℕ → Naming
-  domain : List ℕ → List ℕ → Naming
-  association : List ℕ → Naming
+pub data MmsName : Type 0 where
+  vmd : List ℕ → MmsName
+  domain : List ℕ → List ℕ → MmsName
+  association : List ℕ → MmsName
 
 -- the scope whose names are requested, objectScope (ISO 9506-2, GetNameList-Request)
-pub data Place : Type 0 where
-  whole_vmd : Place
-  in_domain : List ℕ → Place
-  of_association : Place
+pub data ObjectScope : Type 0 where
+  whole_vmd : ObjectScope
+  in_domain : List ℕ → ObjectScope
+  of_association : ObjectScope
 
 -- a named variable, and whether only a part of it is requested, by alternate access (ISO 9506-2,
 -- VariableAccessSpecification)
 pub record VariableSpecification : Type 0 where
-  pub name : Naming
+  pub name : MmsName
   pub is_alternate : Bool
 
 -- the variables of a read or a write: each by its name, or all by the name of a list (ISO 9506-2,
@@ -28,18 +28,18 @@ pub data Access : Type 0 where
   named_list : Access
 
 -- a confirmed service that is read here, with its arguments (ISO 9506-2, ConfirmedServiceRequest)
-pub data Asking : Type 0 where
-  identify : Asking
-  names : ℤ → Place → Option (List ℕ) → Asking
-  attributes : Naming → Asking
-  read : List Naming → Asking
-  write : List Naming → List Datum → Asking
+pub data ServiceRequest : Type 0 where
+  identify : ServiceRequest
+  names : ℤ → ObjectScope → Option (List ℕ) → ServiceRequest
+  attributes : MmsName → ServiceRequest
+  read : List MmsName → ServiceRequest
+  write : List MmsName → List Datum → ServiceRequest
 
 -- a request; a confirmed one has an invoke id (ISO 9506-2, MMSpdu)
-pub data Message : Type 0 where
-  initiate : Proposal → Message
-  conclude : Message
-  confirmed : ℕ → Asking → Message
+pub data MmsRequest : Type 0 where
+  initiate : Proposal → MmsRequest
+  conclude : MmsRequest
+  confirmed : ℕ → ServiceRequest → MmsRequest
 
 -- why a well encoded request is refused, with its invoke id: it requests what is not served, or has
 -- too many variables (own)

@@ -92,8 +92,8 @@ reject_text id reason = element (constructed 4) (id_text id ++ reason_text reaso
 -- ---- ISO 9506-2 Conclude-ResponsePDU: the answer to a conclude
 
 -- the answer to a conclude
-abbrev pub concluded_text : List ℕ
-concluded_text = element (context 12) []
+abbrev pub conclude_response_text : List ℕ
+conclude_response_text = element (context 12) []
 
 -- ---- ISO 9506-2 GetNameList-Response: pages of names
 

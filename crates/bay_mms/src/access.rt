@@ -1,11 +1,11 @@
 // Reading the names and the variables of requests (ISO 9506-2, ObjectName and
 // VariableAccessSpecification).
 ghost use Rattle.std.specs.Prelude.{◌≡◌, false, [], ◌∷◌, ◌++◌, map, option_map, IsErrOf, OnOk};
-ghost use Rattle.bay_base.specs.Exact.{Gives};
-ghost use Rattle.bay_base.specs.Results.{IsRead};
-ghost use Rattle.bay_ber.specs.Forms.{answer, map_form, one, each};
+ghost use Rattle.bay_base.specs.Exact.{ExactOr};
+ghost use Rattle.bay_base.specs.Results.{Exact};
+ghost use Rattle.bay_ber.specs.Forms.{form_result, map_form, one, each};
 ghost use Rattle.bay_ber.specs.Values.{part_of};
-ghost use Rattle.bay_mms.specs.Answers.{names_none};
+ghost use Rattle.bay_mms.specs.RequestResults.{has_no_names};
 ghost use Rattle.bay_mms.specs.Grammar as spec;
 ghost use Rattle.bay_mms.specs.Grammar.{domain_parts, name, specification_from_parts, variable_parts, variable, access, requested_names};
 ghost use Rattle.bay_mms.specs.Requests.{domain, variables};
@@ -108,8 +108,8 @@ fn push_name<'a>(names: &mut Vec<ObjectName<'a>>, name: ObjectName<'a>) -> Resul
 }
 
 // Returns whether a number is the given count; true if no count is given.
-fn are_as_many(count: Option<usize>, number: usize) -> bool
-    ensures { result ≡ spec.are_as_many count number }
+fn has_count(count: Option<usize>, number: usize) -> bool
+    ensures { result ≡ spec.has_count count number }
 {
     match count {
         None => true,
@@ -121,15 +121,15 @@ fn are_as_many(count: Option<usize>, number: usize) -> bool
 // count is given; with `Unknown` if only a part of a variable is requested; with `Many` if there
 // are more than the limit.
 #[tactic(auto, using(crate::proofs::RequestLemmas::counted_is))]
-fn counted<'a>(
+fn check_variables<'a>(
     count: Option<usize>,
     names: Vec<ObjectName<'a>>,
     is_alternate: bool,
 ) -> Result<Vec<ObjectName<'a>>, Refusal>
-    ensures { IsRead (λ v. map object_name_view v.items) result
+    ensures { Exact (λ v. map object_name_view v.items) result
         (spec.counted_names count (map object_name_view names.entry.items) is_alternate) }
 {
-    if !are_as_many(count, names.len()) {
+    if !has_count(count, names.len()) {
         Err(Refusal::Bad)
     } else if is_alternate {
         Err(Refusal::Unknown)
@@ -141,16 +141,16 @@ fn counted<'a>(
 }
 
 // Reads consecutive variables, and returns their names.
-fn listed<'a>(
+fn parse_variables<'a>(
     alloc: Global,
     count: Option<usize>,
     octets: &'a [u8],
 ) -> Result<Vec<ObjectName<'a>>, Refusal>
-    ensures asked { Gives Refusal.OutOfMemory (λ v. map object_name_view v.items) result
-        (answer Refusal.Bad (map_form (λ vs. requested_names count (variables vs)) (each variable))
+    ensures requested { ExactOr Refusal.OutOfMemory (λ v. map object_name_view v.items) result
+        (form_result Refusal.Bad (map_form (λ vs. requested_names count (variables vs)) (each variable))
         octets.now) }
     ensures memory { IsErrOf result Refusal.OutOfMemory
-        → names_none (answer Refusal.Bad
+        → has_no_names (form_result Refusal.Bad
         (map_form (λ vs. requested_names count (variables vs)) (each variable)) octets.now)
         ≡ false }
 {
@@ -166,7 +166,7 @@ fn listed<'a>(
                 is_alternate |= one.is_alternate;
                 push_name(&mut names, one.name)?;
             }
-            Ok(None) => return counted(count, names, is_alternate),
+            Ok(None) => return check_variables(count, names, is_alternate),
             Err(_) => return Err(Refusal::Bad),
         }
     }
@@ -180,15 +180,15 @@ pub(crate) fn names_from_value<'a>(
     count: Option<usize>,
     value: &Value<'a>,
 ) -> Result<Vec<ObjectName<'a>>, Refusal>
-    ensures asked { Gives Refusal.OutOfMemory (λ v. map object_name_view v.items) result
-        (answer Refusal.Bad (map_form (requested_names count) access) (part_of value.now)) }
+    ensures requested { ExactOr Refusal.OutOfMemory (λ v. map object_name_view v.items) result
+        (form_result Refusal.Bad (map_form (requested_names count) access) (part_of value.now)) }
     ensures memory { IsErrOf result Refusal.OutOfMemory
-        → names_none (answer Refusal.Bad (map_form (requested_names count) access)
+        → has_no_names (form_result Refusal.Bad (map_form (requested_names count) access)
         (part_of value.now))
         ≡ false }
 {
     if value.tag.is(Tag::context_constructed(0)) {
-        listed(alloc, count, value.content)
+        parse_variables(alloc, count, value.content)
     } else if value.tag.is(Tag::context_constructed(1)) {
         match parse_name(value.content) {
             Some(_) => Err(Refusal::Unknown),

@@ -1,7 +1,7 @@
 // Reading a control from the data that a client writes (IEC 61850-8-1, SBOw, Oper and Cancel).
 ghost use Rattle.std.specs.Prelude.{◌≡◌, option_map, Some, None, if◌then◌else◌};
 ghost use Rattle.bay_mms.specs.Views.{datum_of};
-ghost use Rattle.bay_mms.specs.Controls.{is_in_range, operate_in, cancel_in};
+ghost use Rattle.bay_mms.specs.Controls.{is_in_range, operate_or_error, cancel_or_error};
 ghost use Rattle.bay_mms.specs.ControlViews.{cancel_view, operate_view, shape_view, result_view};
 
 use crate::data::Data;
@@ -74,7 +74,7 @@ fn in_range<'a>(shape: &Shape<'a>) -> Option<CancelData<'a>>
 /// without two bits. Otherwise fails with `ObjectValueInvalid` if ctlNum is outside 0 to 255, orCat
 /// is outside -128 to 127, or orIdent is longer than 64 octets.
 pub fn operate_of<'a>(given: &Data<'a>) -> Result<OperateData<'a>, DataAccessError>
-    ensures { result_view operate_view result ≡ operate_in (datum_of given.now) }
+    ensures { result_view operate_view result ≡ operate_or_error (datum_of given.now) }
 {
     let (shape, check) = operate_from_data(given).ok_or(DataAccessError::TypeInconsistent)?;
     let control = in_range(&shape).ok_or(DataAccessError::ObjectValueInvalid)?;
@@ -84,7 +84,7 @@ pub fn operate_of<'a>(given: &Data<'a>) -> Result<OperateData<'a>, DataAccessErr
 /// Reads data as a cancel. Fails like `operate_of`. A cancel has five parts, because it has no
 /// Check.
 pub fn cancel_of<'a>(given: &Data<'a>) -> Result<CancelData<'a>, DataAccessError>
-    ensures { result_view cancel_view result ≡ cancel_in (datum_of given.now) }
+    ensures { result_view cancel_view result ≡ cancel_or_error (datum_of given.now) }
 {
     let shape = cancel_from_data(given).ok_or(DataAccessError::TypeInconsistent)?;
     in_range(&shape).ok_or(DataAccessError::ObjectValueInvalid)

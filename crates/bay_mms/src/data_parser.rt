@@ -1,6 +1,6 @@
 // Reading data (ISO 9506-2, Data).
 ghost use Rattle.std.specs.Prelude.{◌≡◌, ◌<◌, [], option_map, length, Some, None, IfSome, IfNone, IsErrOf};
-ghost use Rattle.bay_base.specs.Exact.{Gives};
+ghost use Rattle.bay_base.specs.Exact.{ExactOr};
 ghost use Rattle.bay_ber.specs.Forms.{each};
 ghost use Rattle.bay_ber.specs.Judged.{or_fault};
 ghost use Rattle.bay_ber.specs.Values.{part_of};
@@ -15,7 +15,7 @@ use bay_ber::values::{Value, Values};
 use std::alloc::Global;
 
 // Returns the octets as an array, if there are eight.
-fn eight(octets: &[u8]) -> Option<[u8; 8]>
+fn eight_octets(octets: &[u8]) -> Option<[u8; 8]>
     ensures some { IfSome result (λ found. found ≡ octets.now) }
     ensures none { IfNone result (length octets.now ≡ 8 → ⊥) }
 {
@@ -31,7 +31,7 @@ fn eight(octets: &[u8]) -> Option<[u8; 8]>
 fn moment_of<'a>(content: &'a [u8]) -> Data<'a>
     ensures { datum_of result ≡ moment content.now }
 {
-    match eight(content) {
+    match eight_octets(content) {
         Some(octets) => Data::Utc(octets),
         None => Data::Other(Value {
             tag: Tag::context(17),
@@ -81,7 +81,7 @@ fn simple_from_value<'a>(value: &Value<'a>) -> Option<Data<'a>>
 // Reads data nested at most `depth` deep.
 #[cycle(received)]
 fn read_datum<'a>(alloc: Global, value: &Value<'a>, depth: u8) -> Result<Data<'a>, Refusal>
-    ensures { Gives Refusal.OutOfMemory datum_of result
+    ensures { ExactOr Refusal.OutOfMemory datum_of result
         (or_fault Refusal.Bad ((datum_at depth).reads (part_of value.now))) }
 {
     if depth == 0 {
@@ -102,7 +102,7 @@ pub(crate) fn read_data<'a>(
     octets: &'a [u8],
     depth: u8,
 ) -> Result<Vec<Data<'a>>, Refusal>
-    ensures asked { Gives Refusal.OutOfMemory (λ v. data_in v.items) result
+    ensures requested { ExactOr Refusal.OutOfMemory (λ v. data_in v.items) result
         (or_fault Refusal.Bad ((each (datum_at depth)).reads octets.now)) }
     ensures memory { IsErrOf result Refusal.OutOfMemory
         → (each (datum_at depth)).reads octets.now ≡ Some [] → ⊥ }

@@ -1,6 +1,6 @@
 // Writing the data and the type of a leaf.
 ghost use Rattle.std.specs.Prelude.{[], ◌∷◌, ◌≡◌};
-ghost use Rattle.bay_ber.specs.EncoderBuffers.{sheet_with};
+ghost use Rattle.bay_ber.specs.EncoderBuffers.{buffer_with};
 ghost use Rattle.bay_mms.specs.Utc as spec;
 ghost use Rattle.bay_mms.specs.Data.{bits, utc, position_octet, quality_octet, datum_text, leaf_datum};
 ghost use Rattle.bay_mms.specs.Types.{type_text, leaf_type_spec};
@@ -80,7 +80,7 @@ fn utc_text(ms: u64) -> [u8; 10]
 
 /// Appends the data of a leaf.
 pub(crate) fn put_leaf(writer: &mut Writer, leaf: &Leaf)
-    ensures { writer.new ≡ sheet_with writer.old (datum_text (leaf_datum leaf.now)) }
+    ensures { writer.new ≡ buffer_with writer.old (datum_text (leaf_datum leaf.now)) }
 {
     match leaf {
         Leaf::Truth(value) => writer.boolean(Tag::context(3), *value),
@@ -100,7 +100,7 @@ pub(crate) fn put_leaf(writer: &mut Writer, leaf: &Leaf)
 /// Appends the type of a leaf.
 #[tactic(auto, unfolding(bay_ber::specs::Writing::element, bay_ber::specs::Writing::length_octets))]
 pub(crate) fn put_leaf_type(writer: &mut Writer, leaf: &Leaf)
-    ensures { writer.new ≡ sheet_with writer.old (type_text (leaf_type_spec leaf.now)) }
+    ensures { writer.new ≡ buffer_with writer.old (type_text (leaf_type_spec leaf.now)) }
 {
     match leaf {
         Leaf::Truth(_) => writer.append(&[0x83, 0]),

@@ -1,7 +1,7 @@
 // The names of a tree, encoded as responses list them (ISO 9506-2, GetNameList).
 ghost use Rattle.std.specs.Prelude.{◌≡◌, ◌+◌, ◌-◌, ◌≤◌, IfOk, List, ℕ, drop, length, take};
 ghost use Rattle.bay_tree.specs.Rows.{names_of};
-ghost use Rattle.bay_mms.specs.Pages.{begin_at, text_of_names};
+ghost use Rattle.bay_mms.specs.Pages.{begin_at, encoded_names};
 ghost use Rattle.bay_mms.specs.Responses.{names_text};
 
 use bay_ber::tag::Tag;
@@ -20,9 +20,9 @@ pub struct NameTexts {
 
 impl Model for NameTexts {
     ghost use Rattle.std.specs.Prelude.{length};
-    ghost use Rattle.bay_mms.specs.Pages.{AreEnds, NamesText};
+    ghost use Rattle.bay_mms.specs.Pages.{AreEnds, NameTextsData};
 
-    ghost Value = { NamesText };
+    ghost Value = { NameTextsData };
 
     ghost view = { λ n. record { octets = n.octets.items; ends = n.ends.items } };
 
@@ -30,17 +30,17 @@ impl Model for NameTexts {
 }
 
 // Returns the offset at which the name with this index begins, from the ends of all names.
-fn begin(ends: &[usize], place: usize) -> usize
-    requires { place ≤ length ends.now }
-    ensures { result ≡ begin_at ends.now place }
+fn begin_of_name(ends: &[usize], index: usize) -> usize
+    requires { index ≤ length ends.now }
+    ensures { result ≡ begin_at ends.now index }
 {
-    if place == 0 { 0 } else { ends[place - 1] }
+    if index == 0 { 0 } else { ends[index - 1] }
 }
 
 impl NameTexts {
     /// Encodes the names of a tree, in the order of its rows. Fails only if an allocation fails.
     pub fn of_tree(alloc: Global, tree: &Tree) -> Result<Self, AllocError>
-        ensures { IfOk result (λ names. names ≡ text_of_names (names_of tree.now)) }
+        ensures { IfOk result (λ names. names ≡ encoded_names (names_of tree.now)) }
     {
         let mut octets = Vec::new(alloc);
         let mut ends = Vec::new(alloc);
@@ -65,15 +65,15 @@ impl NameTexts {
         requires { start + count ≤ length self.now.ends }
         ensures { result ≡ begin_at self.now.ends (start + count) - begin_at self.now.ends start }
     {
-        begin(&self.ends, start + count) - begin(&self.ends, start)
+        begin_of_name(&self.ends, start + count) - begin_of_name(&self.ends, start)
     }
 
     /// Returns the texts of `count` names from index `start` on.
     pub(crate) fn texts(&self, start: usize, count: usize) -> &[u8]
         requires { start + count ≤ length self.now.ends }
-        ensures { (names : List (List ℕ)) → self.now ≡ text_of_names names
+        ensures { (names : List (List ℕ)) → self.now ≡ encoded_names names
             → result.now ≡ names_text (take count (drop start names)) }
     {
-        &self.octets[begin(&self.ends, start)..begin(&self.ends, start + count)]
+        &self.octets[begin_of_name(&self.ends, start)..begin(&self.ends, start + count)]
     }
 }

@@ -1,12 +1,12 @@
 // Pages of names (ISO 9506-2, GetNameList).
 ghost use Rattle.std.specs.Prelude.{Err, ◌≡◌, ◌^◌, ◌+◌, ◌<◌, ◌≤◌, ◌↔◌, List, ℕ, drop, pos, IsTrue, IfOk, length, take, nat_lt};
 ghost use Rattle.std.specs.Option.{option_copied};
-ghost use Rattle.bay_ber.specs.EncoderBuffers.{sheet_with};
+ghost use Rattle.bay_ber.specs.EncoderBuffers.{buffer_with};
 ghost use Rattle.bay_ber.specs.Writing.{integer_octets};
 ghost use Rattle.bay_ber.specs.Writing as ber;
 ghost use Rattle.bay_tree.specs.Page.{rows_after, IsUnknown};
 ghost use Rattle.bay_tree.specs.Rows.{names_of};
-ghost use Rattle.bay_mms.specs.Pages.{names_on_page, first_page, text_of_names};
+ghost use Rattle.bay_mms.specs.Pages.{names_on_page, first_page, encoded_names};
 ghost use Rattle.bay_mms.specs.Pages as spec;
 
 use crate::names::NameTexts;
@@ -52,11 +52,11 @@ fn has_room(id: u32, names: usize, size: u32) -> bool
 }
 
 // Returns how many of the names from index `start` on a page has.
-fn fitting(names: &NameTexts, start: usize, id: u32, size: u32) -> usize
+fn count_fitting(names: &NameTexts, start: usize, id: u32, size: u32) -> usize
     requires size { size < 2 ^ 31 }
     requires within { start ≤ length names.now.ends }
     ensures within { start + result ≤ length names.now.ends }
-    ensures count { (texts : List (List ℕ)) → names.now ≡ text_of_names texts
+    ensures count { (texts : List (List ℕ)) → names.now ≡ encoded_names texts
         → result ≡ names_on_page id size (drop start texts) }
 {
     let head = id_length(id);
@@ -77,7 +77,7 @@ fn fitting(names: &NameTexts, start: usize, id: u32, size: u32) -> usize
 // Appends the response that lists the names with these texts.
 #[tactic(auto, using(bay_ber::proofs::SheetLemmas::sheet_rules))]
 fn put_page(writer: &mut Writer, id: u32, texts: &[u8], more: bool)
-    ensures { writer.new ≡ sheet_with writer.old (spec.response_of_texts id texts.now more) }
+    ensures { writer.new ≡ buffer_with writer.old (spec.response_of_texts id texts.now more) }
 {
     let start = writer.open(Tag::context_constructed(1));
     put_id(writer, id);
@@ -104,7 +104,7 @@ pub fn write_page(
 ) -> Result<Outgoing, NamesFault>
     requires some { 256 ≤ size }
     requires size { size < 2 ^ 31 }
-    requires texts { names.now ≡ text_of_names (names_of tree.now) }
+    requires texts { names.now ≡ encoded_names (names_of tree.now) }
     ensures page { IfOk result
         (λ octets. octets
         ≡ first_page id size (names_of (rows_after tree.now (option_copied after.entry)))) }
@@ -114,7 +114,7 @@ pub fn write_page(
 {
     let start = tree.index_after(after)?;
     let mut writer = Writer::new(alloc, size)?;
-    let count = fitting(names, start, id, size);
+    let count = count_fitting(names, start, id, size);
     let more = count < names.count() - start;
     put_page(&mut writer, id, names.texts(start, count), more);
     Ok(writer.finish_untruncated())

@@ -1,12 +1,12 @@
 // Writing the reports of controls (IEC 61850-8-1, LastApplError and CommandTermination).
 ghost use Rattle.std.specs.Prelude.{◌≡◌, ◌++◌, codes};
-ghost use Rattle.bay_ber.specs.EncoderBuffers.{sheet_with};
+ghost use Rattle.bay_ber.specs.EncoderBuffers.{buffer_with};
 ghost use Rattle.bay_ber.specs.Writing.{element};
 ghost use Rattle.bay_mms.specs.Controls as spec;
 ghost use Rattle.bay_ber.specs.Tags.{constructed};
-ghost use Rattle.bay_mms.specs.Reports.{variable_text, origin_text, operate_head, operate_tail, operate_text, failure_head, failure_tail, failure_data, failure_name, item_name, failure_text, termination_text, failed_text};
+ghost use Rattle.bay_mms.specs.Reports.{variable_text, origin_text, operate_head, operate_tail, operate_text, failure_head, failure_tail, failure_data, failure_name, item_name, last_appl_error_text, termination_text, failed_termination_text};
 ghost use Rattle.bay_mms.specs.Writing.{text_within};
-ghost use Rattle.bay_base.specs.Exact.{Gives};
+ghost use Rattle.bay_base.specs.Exact.{ExactOr};
 
 use crate::control::{Check, OperateData, Origin};
 use crate::fault::EncodeFault;
@@ -32,7 +32,7 @@ pub struct LastApplError<'a> {
 // Appends an originator, a structure of its category and its identity.
 #[tactic(auto, using(bay_ber::proofs::SheetLemmas::sheet_rules))]
 fn put_origin(writer: &mut Writer, origin: &Origin<'_>)
-    ensures { writer.new ≡ sheet_with writer.old (origin_text origin.now) }
+    ensures { writer.new ≡ buffer_with writer.old (origin_text origin.now) }
 {
     let start = writer.open(Tag::context_constructed(2));
     writer.int(Tag::context(5), i64::from(origin.or_cat));
@@ -43,7 +43,7 @@ fn put_origin(writer: &mut Writer, origin: &Origin<'_>)
 // Appends the requested position (ctlVal), the originator and the control number.
 #[tactic(auto, using(bay_ber::proofs::SheetLemmas::sheet_rules))]
 fn put_operate_head(writer: &mut Writer, operate: &OperateData<'_>)
-    ensures { writer.new ≡ sheet_with writer.old (operate_head operate.now) }
+    ensures { writer.new ≡ buffer_with writer.old (operate_head operate.now) }
 {
     writer.boolean(Tag::context(3), operate.control.ctl_val);
     put_origin(writer, &operate.control.origin);
@@ -60,7 +60,7 @@ fn check_octet(check: Check) -> u8
 // Appends the moment, whether it is a test, and the checks.
 #[tactic(auto, using(bay_ber::proofs::SheetLemmas::sheet_rules))]
 fn put_operate_tail(writer: &mut Writer, operate: &OperateData<'_>)
-    ensures { writer.new ≡ sheet_with writer.old (operate_tail operate.now) }
+    ensures { writer.new ≡ buffer_with writer.old (operate_tail operate.now) }
 {
     writer.octets(Tag::context(17), &operate.control.t);
     writer.boolean(Tag::context(3), operate.control.test);
@@ -77,7 +77,7 @@ fn put_operate_tail(writer: &mut Writer, operate: &OperateData<'_>)
 // Appends the data of an operate.
 #[tactic(auto, using(bay_ber::proofs::SheetLemmas::sheet_rules))]
 fn put_operate(writer: &mut Writer, operate: &OperateData<'_>)
-    ensures { writer.new ≡ sheet_with writer.old (operate_text operate.now) }
+    ensures { writer.new ≡ buffer_with writer.old (operate_text operate.now) }
 {
     let start = writer.open(Tag::context_constructed(2));
     put_operate_head(writer, operate);
@@ -88,7 +88,7 @@ fn put_operate(writer: &mut Writer, operate: &OperateData<'_>)
 // Appends the control object, and the error, which is 0.
 #[tactic(auto, using(bay_ber::proofs::SheetLemmas::sheet_rules))]
 fn put_failure_head(writer: &mut Writer, failure: &LastApplError<'_>)
-    ensures { writer.new ≡ sheet_with writer.old (failure_head failure.now) }
+    ensures { writer.new ≡ buffer_with writer.old (failure_head failure.now) }
 {
     writer.text(Tag::context(10), failure.object);
     writer.int(Tag::context(5), 0);
@@ -97,7 +97,7 @@ fn put_failure_head(writer: &mut Writer, failure: &LastApplError<'_>)
 // Appends the originator, the control number and the cause (IEC 61850-7-2, AddCause).
 #[tactic(auto, using(bay_ber::proofs::SheetLemmas::sheet_rules))]
 fn put_failure_tail(writer: &mut Writer, failure: &LastApplError<'_>)
-    ensures { writer.new ≡ sheet_with writer.old (failure_tail failure.now) }
+    ensures { writer.new ≡ buffer_with writer.old (failure_tail failure.now) }
 {
     put_origin(writer, &failure.origin);
     writer.int(Tag::context(6), i64::from(failure.ctl_num));
@@ -107,7 +107,7 @@ fn put_failure_tail(writer: &mut Writer, failure: &LastApplError<'_>)
 // Appends the data of a LastApplError.
 #[tactic(auto, using(bay_ber::proofs::SheetLemmas::sheet_rules))]
 fn put_failure(writer: &mut Writer, failure: &LastApplError<'_>)
-    ensures { writer.new ≡ sheet_with writer.old (failure_data failure.now) }
+    ensures { writer.new ≡ buffer_with writer.old (failure_data failure.now) }
 {
     let start = writer.open(Tag::context_constructed(2));
     put_failure_head(writer, failure);
@@ -125,7 +125,7 @@ fn failure_object() -> &'static str
 // Appends the variable with this name, which is in no domain.
 #[tactic(auto, using(bay_ber::proofs::SheetLemmas::sheet_rules))]
 fn put_failure_name(writer: &mut Writer)
-    ensures { writer.new ≡ sheet_with writer.old (variable_text failure_name) }
+    ensures { writer.new ≡ buffer_with writer.old (variable_text failure_name) }
 {
     let start = writer.open(Tag::sequence());
     let inner = writer.open(Tag::context_constructed(0));
@@ -137,7 +137,7 @@ fn put_failure_name(writer: &mut Writer)
 // Appends a name in a domain.
 #[tactic(auto, using(bay_ber::proofs::SheetLemmas::sheet_rules))]
 fn put_item(writer: &mut Writer, domain: &str, item: &str)
-    ensures { writer.new ≡ sheet_with writer.old (item_name domain.now item.now) }
+    ensures { writer.new ≡ buffer_with writer.old (item_name domain.now item.now) }
 {
     let start = writer.open(Tag::context_constructed(1));
     writer.text(Tag::universal(26), domain);
@@ -148,7 +148,7 @@ fn put_item(writer: &mut Writer, domain: &str, item: &str)
 // Appends the variable with a name in a domain.
 #[tactic(auto, using(bay_ber::proofs::SheetLemmas::sheet_rules))]
 fn put_item_name(writer: &mut Writer, domain: &str, item: &str)
-    ensures { writer.new ≡ sheet_with writer.old (variable_text (item_name domain.now item.now)) }
+    ensures { writer.new ≡ buffer_with writer.old (variable_text (item_name domain.now item.now)) }
 {
     let start = writer.open(Tag::sequence());
     let inner = writer.open(Tag::context_constructed(0));
@@ -160,7 +160,7 @@ fn put_item_name(writer: &mut Writer, domain: &str, item: &str)
 // Appends the list with the variable that reports a failure.
 #[tactic(auto, using(bay_ber::proofs::SheetLemmas::sheet_rules))]
 fn put_failure_list(writer: &mut Writer)
-    ensures { writer.new ≡ sheet_with writer.old
+    ensures { writer.new ≡ buffer_with writer.old
         (element (constructed 0) (variable_text failure_name)) }
 {
     let start = writer.open(Tag::context_constructed(0));
@@ -171,7 +171,7 @@ fn put_failure_list(writer: &mut Writer)
 // Appends the list with the variable of a control.
 #[tactic(auto, using(bay_ber::proofs::SheetLemmas::sheet_rules))]
 fn put_item_list(writer: &mut Writer, domain: &str, item: &str)
-    ensures { writer.new ≡ sheet_with writer.old
+    ensures { writer.new ≡ buffer_with writer.old
         (element (constructed 0) (variable_text (item_name domain.now item.now))) }
 {
     let start = writer.open(Tag::context_constructed(0));
@@ -182,7 +182,7 @@ fn put_item_list(writer: &mut Writer, domain: &str, item: &str)
 // Appends the list with both variables.
 #[tactic(auto, using(bay_ber::proofs::SheetLemmas::sheet_rules))]
 fn put_both_list(writer: &mut Writer, domain: &str, item: &str)
-    ensures { writer.new ≡ sheet_with writer.old
+    ensures { writer.new ≡ buffer_with writer.old
         (element (constructed 0)
         (variable_text failure_name ++ variable_text (item_name domain.now item.now))) }
 {
@@ -194,8 +194,8 @@ fn put_both_list(writer: &mut Writer, domain: &str, item: &str)
 
 // Appends the report of a refused control.
 #[tactic(auto, using(bay_ber::proofs::SheetLemmas::sheet_rules))]
-fn put_refused(writer: &mut Writer, failure: &LastApplError<'_>)
-    ensures { writer.new ≡ sheet_with writer.old (failure_text failure.now) }
+fn put_last_appl_error(writer: &mut Writer, failure: &LastApplError<'_>)
+    ensures { writer.new ≡ buffer_with writer.old (last_appl_error_text failure.now) }
 {
     let report = writer.open(Tag::context_constructed(3));
     let information = writer.open(Tag::context_constructed(0));
@@ -209,8 +209,8 @@ fn put_refused(writer: &mut Writer, failure: &LastApplError<'_>)
 
 // Appends the report of a control that succeeded.
 #[tactic(auto, using(bay_ber::proofs::SheetLemmas::sheet_rules))]
-fn put_ended(writer: &mut Writer, domain: &str, item: &str, operate: &OperateData<'_>)
-    ensures { writer.new ≡ sheet_with writer.old
+fn put_termination(writer: &mut Writer, domain: &str, item: &str, operate: &OperateData<'_>)
+    ensures { writer.new ≡ buffer_with writer.old
         (termination_text domain.now item.now operate.now) }
 {
     let report = writer.open(Tag::context_constructed(3));
@@ -225,15 +225,15 @@ fn put_ended(writer: &mut Writer, domain: &str, item: &str, operate: &OperateDat
 
 // Appends the report of a control that failed.
 #[tactic(auto, using(bay_ber::proofs::SheetLemmas::sheet_rules))]
-fn put_failed(
+fn put_failed_termination(
     writer: &mut Writer,
     failure: &LastApplError<'_>,
     domain: &str,
     item: &str,
     operate: &OperateData<'_>,
 )
-    ensures { writer.new ≡ sheet_with writer.old
-        (failed_text failure.now domain.now item.now operate.now) }
+    ensures { writer.new ≡ buffer_with writer.old
+        (failed_termination_text failure.now domain.now item.now operate.now) }
 {
     let report = writer.open(Tag::context_constructed(3));
     let information = writer.open(Tag::context_constructed(0));
@@ -254,11 +254,11 @@ pub fn write_last_appl_error(
     failure: &LastApplError<'_>,
     size: u32,
 ) -> Result<Outgoing, EncodeFault>
-    ensures { Gives EncodeFault.OutOfMemory (λ octets. octets) result
-        (text_within size (failure_text failure.now)) }
+    ensures { ExactOr EncodeFault.OutOfMemory (λ octets. octets) result
+        (text_within size (last_appl_error_text failure.now)) }
 {
     let mut writer = Writer::new(alloc, size)?;
-    put_refused(&mut writer, failure);
+    put_last_appl_error(&mut writer, failure);
     finish(writer)
 }
 
@@ -273,11 +273,11 @@ pub fn write_termination(
     operate: &OperateData<'_>,
     size: u32,
 ) -> Result<Outgoing, EncodeFault>
-    ensures { Gives EncodeFault.OutOfMemory (λ octets. octets) result
+    ensures { ExactOr EncodeFault.OutOfMemory (λ octets. octets) result
         (text_within size (termination_text domain.now item.now operate.now)) }
 {
     let mut writer = Writer::new(alloc, size)?;
-    put_ended(&mut writer, domain, item, operate);
+    put_termination(&mut writer, domain, item, operate);
     finish(writer)
 }
 
@@ -293,10 +293,10 @@ pub fn write_failed_termination(
     operate: &OperateData<'_>,
     size: u32,
 ) -> Result<Outgoing, EncodeFault>
-    ensures { Gives EncodeFault.OutOfMemory (λ octets. octets) result
-        (text_within size (failed_text failure.now domain.now item.now operate.now)) }
+    ensures { ExactOr EncodeFault.OutOfMemory (λ octets. octets) result
+        (text_within size (failed_termination_text failure.now domain.now item.now operate.now)) }
 {
     let mut writer = Writer::new(alloc, size)?;
-    put_failed(&mut writer, failure, domain, item, operate);
+    put_failed_termination(&mut writer, failure, domain, item, operate);
     finish(writer)
 }

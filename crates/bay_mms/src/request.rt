@@ -1,12 +1,12 @@
 // Reading requests of clients.
 ghost use Rattle.std.specs.Prelude.{◌≡◌, IsSome, IsErrOf, map, option_map};
-ghost use Rattle.bay_base.specs.Exact.{Gives};
+ghost use Rattle.bay_base.specs.Exact.{ExactOr};
 ghost use Rattle.bay_ber.specs.Forms.{try_map_form, one};
 ghost use Rattle.bay_ber.specs.Forms as forms;
 ghost use Rattle.bay_ber.specs.Reading.{tlv_at};
 ghost use Rattle.bay_ber.specs.Values.{part_of};
-ghost use Rattle.bay_mms.specs.Answers.{IsAnswer, list_of, list_parts, list_pdu};
-ghost use Rattle.bay_mms.specs.Grammar.{service_request, invoke_id, confirmed_parts, under_id, pdu, leading_id, request_or_fault};
+ghost use Rattle.bay_mms.specs.RequestResults.{IsRequestOrFault, needs_list, list_service_parts, list_service_pdu};
+ghost use Rattle.bay_mms.specs.Grammar.{service_request, invoke_id, confirmed_parts, request_with_id, pdu, leading_id, request_or_fault};
 ghost use Rattle.bay_mms.specs.Grammar as spec;
 ghost use Rattle.bay_mms.specs.RequestViews.{request_view};
 
@@ -117,16 +117,16 @@ fn bad_pdu(octets: &[u8]) -> MmsFault
 }
 
 // Reads the request for a service with this invoke id.
-fn with_id<'a>(
+fn service_with_id<'a>(
     alloc: Global,
     octets: &[u8],
     id: u32,
     service: &Value<'a>,
 ) -> Result<Request<'a>, MmsFault>
-    ensures asked { Gives MmsFault.OutOfMemory request_view result
+    ensures requested { ExactOr MmsFault.OutOfMemory request_view result
         (request_or_fault (leading_id.reads octets.now)
-        ((try_map_form (under_id id) service_request).reads (part_of service.now))) }
-    ensures memory { IsErrOf result MmsFault.OutOfMemory → IsSome (list_of (part_of service.now)) }
+        ((try_map_form (request_with_id id) service_request).reads (part_of service.now))) }
+    ensures memory { IsErrOf result MmsFault.OutOfMemory → IsSome (needs_list (part_of service.now)) }
 {
     match service_from_value(alloc, service) {
         Ok(call) => Ok(Request::Confirmed { id, call }),
@@ -138,38 +138,38 @@ fn with_id<'a>(
 }
 
 // Reads the parts of a confirmed request.
-#[tactic(auto, unfolding(crate::specs::Grammar::confirmed_parts, crate::specs::Answers::list_parts))]
+#[tactic(auto, unfolding(crate::specs::Grammar::confirmed_parts, crate::specs::RequestResults::list_service_parts))]
 fn confirmed_from_parts<'a>(
     alloc: Global,
     octets: &[u8],
     parts: &[Value<'a>],
 ) -> Result<Request<'a>, MmsFault>
-    ensures asked { Gives MmsFault.OutOfMemory request_view result
+    ensures requested { ExactOr MmsFault.OutOfMemory request_view result
         (request_or_fault (leading_id.reads octets.now)
-        ((try_map_form (λ x. under_id x.0 x.1.0) confirmed_parts).reads (map part_of parts.now))) }
+        ((try_map_form (λ x. request_with_id x.0 x.1.0) confirmed_parts).reads (map part_of parts.now))) }
     ensures memory { IsErrOf result MmsFault.OutOfMemory
-        → IsSome (list_parts.reads (map part_of parts.now)) }
+        → IsSome (list_service_parts.reads (map part_of parts.now)) }
 {
     match parts {
         [id, service] => {
             let id = id_from_value(id).ok_or_else(|| bad_pdu(octets))?;
-            with_id(alloc, octets, id, service)
+            service_with_id(alloc, octets, id, service)
         }
         _ => Err(bad_pdu(octets)),
     }
 }
 
 // Reads a PDU as a request, by its tag: confirmed, initiate or conclude.
-#[tactic(auto, unfolding(crate::specs::Grammar::pdu, crate::specs::Answers::list_pdu))]
+#[tactic(auto, unfolding(crate::specs::Grammar::pdu, crate::specs::RequestResults::list_service_pdu))]
 fn pdu_from_value<'a>(
     alloc: Global,
     octets: &[u8],
     value: &Value<'a>,
 ) -> Result<Request<'a>, MmsFault>
-    ensures asked { Gives MmsFault.OutOfMemory request_view result
+    ensures requested { ExactOr MmsFault.OutOfMemory request_view result
         (request_or_fault (leading_id.reads octets.now) (pdu.reads (part_of value.now))) }
     ensures memory { IsErrOf result MmsFault.OutOfMemory
-        → IsSome (list_pdu.reads (part_of value.now)) }
+        → IsSome (list_service_pdu.reads (part_of value.now)) }
 {
     if value.tag.is(Tag::context_constructed(0)) {
         let parts = few_values(value.content).ok_or_else(|| bad_pdu(octets))?;
@@ -187,11 +187,11 @@ fn pdu_from_value<'a>(
 }
 
 // Reads octets as a request.
-#[tactic(auto, unfolding(crate::specs::Grammar::request, crate::specs::Grammar::answer_to))]
-fn answer_to<'a>(alloc: Global, octets: &'a [u8]) -> Result<Request<'a>, MmsFault>
-    ensures asked { Gives MmsFault.OutOfMemory request_view result (spec.answer_to octets.now) }
+#[tactic(auto, unfolding(crate::specs::Grammar::request, crate::specs::Grammar::request_in))]
+fn parse_request<'a>(alloc: Global, octets: &'a [u8]) -> Result<Request<'a>, MmsFault>
+    ensures requested { ExactOr MmsFault.OutOfMemory request_view result (spec.request_in octets.now) }
     ensures memory { IsErrOf result MmsFault.OutOfMemory
-        → IsSome ((one list_pdu).reads octets.now) }
+        → IsSome ((one list_service_pdu).reads octets.now) }
 {
     let value = whole_value(octets).ok_or_else(|| bad_pdu(octets))?;
     pdu_from_value(alloc, octets, &value)
@@ -205,7 +205,7 @@ fn answer_to<'a>(alloc: Global, octets: &'a [u8]) -> Result<Request<'a>, MmsFaul
 /// list; with `TooMany` for more than 32 variables in a request that is otherwise well formed; and
 /// with `OutOfMemory`. Allocates only for a read or a write, and not for one of no variables.
 pub fn read_request<'a>(alloc: Global, octets: &'a [u8]) -> Result<Request<'a>, MmsFault>
-    ensures { IsAnswer octets.now result }
+    ensures { IsRequestOrFault octets.now result }
 {
-    answer_to(alloc, octets)
+    parse_request(alloc, octets)
 }

@@ -1,13 +1,13 @@
 // Writing responses in their canonical texts.
 ghost use Rattle.std.specs.Prelude.{◌≡◌, ◌≤◌, ◌<◌, ◌++◌, false, length, pos, IfOk, IfSome};
-ghost use Rattle.bay_base.specs.Exact.{Gives};
-ghost use Rattle.bay_ber.specs.EncoderBuffers.{sheet_with};
+ghost use Rattle.bay_base.specs.Exact.{ExactOr};
+ghost use Rattle.bay_ber.specs.EncoderBuffers.{buffer_with};
 ghost use Rattle.bay_ber.specs.Writing.{element, integer_octets, truth_octets};
 ghost use Rattle.bay_tree.specs.Rows.{IsHandle};
 ghost use Rattle.bay_ber.specs.Tags.{context, constructed, int_tag};
 ghost use Rattle.bay_mms.specs.Types.{type_text};
 ghost use Rattle.bay_mms.specs.Nodes.{type_at};
-ghost use Rattle.bay_mms.specs.Responses.{confirmed_response, error_text, identity_text, names_text, listing_text, class_text, id_text, reason_text, reject_text, concluded_text, service_text, IsOfTree};
+ghost use Rattle.bay_mms.specs.Responses.{confirmed_response, error_text, identity_text, names_text, listing_text, class_text, id_text, reason_text, reject_text, conclude_response_text, service_text, IsOfTree};
 ghost use Rattle.bay_mms.specs.Writing.{text_within};
 
 use crate::fault::EncodeFault;
@@ -71,7 +71,7 @@ pub struct Response<'a> {
 // Appends the vendor, the model and the revision of the device (ISO 9506-2, Identify).
 #[tactic(auto, using(bay_ber::proofs::SheetLemmas::sheet_rules))]
 fn put_identity(writer: &mut Writer, vendor: &str, model: &str, revision: &str)
-    ensures { writer.new ≡ sheet_with writer.old
+    ensures { writer.new ≡ buffer_with writer.old
         (element (constructed 2) (identity_text vendor.now model.now revision.now)) }
 {
     let start = writer.open(Tag::context_constructed(2));
@@ -83,7 +83,7 @@ fn put_identity(writer: &mut Writer, vendor: &str, model: &str, revision: &str)
 
 // Appends names, one after another.
 fn put_names(writer: &mut Writer, names: &[Text])
-    ensures { writer.new ≡ sheet_with writer.old (names_text names.now) }
+    ensures { writer.new ≡ buffer_with writer.old (names_text names.now) }
 {
     for name in names {
         writer.text(Tag::universal(26), name.as_str());
@@ -93,7 +93,7 @@ fn put_names(writer: &mut Writer, names: &[Text])
 // Appends names, and whether more follow (ISO 9506-2, GetNameList).
 #[tactic(auto, using(bay_ber::proofs::SheetLemmas::sheet_rules))]
 fn put_listing(writer: &mut Writer, names: &[Text], more: bool)
-    ensures { writer.new ≡ sheet_with writer.old
+    ensures { writer.new ≡ buffer_with writer.old
         (element (constructed 1) (listing_text names.now more)) }
 {
     let start = writer.open(Tag::context_constructed(1));
@@ -108,7 +108,7 @@ fn put_listing(writer: &mut Writer, names: &[Text], more: bool)
 #[tactic(auto, using(bay_ber::proofs::SheetLemmas::sheet_rules))]
 fn put_attributes(writer: &mut Writer, tree: &Tree, handle: &Handle)
     requires { IsHandle tree.now handle.now }
-    ensures { writer.new ≡ sheet_with writer.old
+    ensures { writer.new ≡ buffer_with writer.old
         (element (constructed 6)
         (element (context 0) (truth_octets false)
         ++ element (constructed 2) (type_text (type_at tree.now handle.now)))) }
@@ -123,7 +123,7 @@ fn put_attributes(writer: &mut Writer, tree: &Tree, handle: &Handle)
 
 /// Appends an invoke id.
 pub(crate) fn put_id(writer: &mut Writer, id: u32)
-    ensures { writer.new ≡ sheet_with writer.old (element int_tag (integer_octets (pos id))) }
+    ensures { writer.new ≡ buffer_with writer.old (element int_tag (integer_octets (pos id))) }
 {
     writer.int(Tag::universal(2), i64::from(id));
 }
@@ -131,7 +131,7 @@ pub(crate) fn put_id(writer: &mut Writer, id: u32)
 // Appends the answer to a confirmed request.
 fn put_service(writer: &mut Writer, service: &Service<'_>)
     requires { IsOfTree service.now }
-    ensures { writer.new ≡ sheet_with writer.old (service_text service.now) }
+    ensures { writer.new ≡ buffer_with writer.old (service_text service.now) }
 {
     match service {
         Service::Identify {
@@ -148,7 +148,7 @@ fn put_service(writer: &mut Writer, service: &Service<'_>)
 #[tactic(auto, using(bay_ber::proofs::SheetLemmas::sheet_rules))]
 fn put_confirmed(writer: &mut Writer, id: u32, service: &Service<'_>)
     requires { IsOfTree service.now }
-    ensures { writer.new ≡ sheet_with writer.old
+    ensures { writer.new ≡ buffer_with writer.old
         (confirmed_response id (service_text service.now)) }
 {
     let start = writer.open(Tag::context_constructed(1));
@@ -171,7 +171,7 @@ fn error_octets(class: ErrorClass) -> &'static [u8]
 // Appends the PDU of an error.
 #[tactic(auto, using(bay_ber::proofs::SheetLemmas::sheet_rules))]
 fn put_error(writer: &mut Writer, id: u32, class: ErrorClass)
-    ensures { writer.new ≡ sheet_with writer.old (error_text id class) }
+    ensures { writer.new ≡ buffer_with writer.old (error_text id class) }
 {
     let start = writer.open(Tag::context_constructed(2));
     put_number(writer, 0, id);
@@ -182,7 +182,7 @@ fn put_error(writer: &mut Writer, id: u32, class: ErrorClass)
 // Appends an invoke id, if it is known.
 #[tactic(auto, using(bay_ber::proofs::SheetLemmas::put_nil))]
 fn put_known(writer: &mut Writer, id: Option<u32>)
-    ensures { writer.new ≡ sheet_with writer.old (id_text id) }
+    ensures { writer.new ≡ buffer_with writer.old (id_text id) }
 {
     if let Some(id) = id {
         put_number(writer, 0, id);
@@ -192,7 +192,7 @@ fn put_known(writer: &mut Writer, id: Option<u32>)
 // Appends the reason of a reject.
 #[tactic(auto, unfolding(bay_ber::specs::Writing::element, bay_ber::specs::Writing::length_octets))]
 fn put_reason(writer: &mut Writer, reason: RejectReason)
-    ensures { writer.new ≡ sheet_with writer.old (reason_text reason) }
+    ensures { writer.new ≡ buffer_with writer.old (reason_text reason) }
 {
     match reason {
         RejectReason::UnrecognizedService => writer.append(&[0x81, 1, 1]),
@@ -203,7 +203,7 @@ fn put_reason(writer: &mut Writer, reason: RejectReason)
 // Appends the PDU of a reject, with the invoke id if it is known.
 #[tactic(auto, using(bay_ber::proofs::SheetLemmas::sheet_rules))]
 fn put_reject(writer: &mut Writer, id: Option<u32>, reason: RejectReason)
-    ensures { writer.new ≡ sheet_with writer.old (reject_text id reason) }
+    ensures { writer.new ≡ buffer_with writer.old (reject_text id reason) }
 {
     let start = writer.open(Tag::context_constructed(4));
     put_known(writer, id);
@@ -213,8 +213,8 @@ fn put_reject(writer: &mut Writer, id: Option<u32>, reason: RejectReason)
 
 // Appends the PDU that answers a conclude.
 #[tactic(auto, unfolding(bay_ber::specs::Writing::element, bay_ber::specs::Writing::length_octets))]
-fn put_concluded(writer: &mut Writer)
-    ensures { writer.new ≡ sheet_with writer.old concluded_text }
+fn put_conclude_response(writer: &mut Writer)
+    ensures { writer.new ≡ buffer_with writer.old conclude_response_text }
 {
     writer.append(&[0x8C, 0]);
 }
@@ -228,7 +228,7 @@ pub fn write_response(
     size: u32,
 ) -> Result<Outgoing, EncodeFault>
     requires { IsOfTree response.now.service }
-    ensures { Gives EncodeFault.OutOfMemory (λ octets. octets) result (text_within size
+    ensures { ExactOr EncodeFault.OutOfMemory (λ octets. octets) result (text_within size
         (confirmed_response response.now.id (service_text response.now.service))) }
 {
     let mut writer = Writer::new(alloc, size)?;
@@ -268,9 +268,9 @@ pub fn write_reject(
 /// the allocation fails.
 #[tactic(auto, using(bay_ber::proofs::SheetLemmas::message_put, crate::proofs::ShortLemmas::concluded_within))]
 pub fn write_conclude(alloc: Global) -> Result<Outgoing, AllocError>
-    ensures { IfOk result (λ octets. octets ≡ concluded_text) }
+    ensures { IfOk result (λ octets. octets ≡ conclude_response_text) }
 {
     let mut writer = Writer::new(alloc, 2)?;
-    put_concluded(&mut writer);
+    put_conclude_response(&mut writer);
     Ok(writer.finish_untruncated())
 }

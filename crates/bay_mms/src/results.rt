@@ -2,15 +2,15 @@
 // Write-Response).
 ghost use Rattle.std.specs.Prelude.{◌≡◌, ◌+◌, ◌≤◌, ◌++◌, [], pos, length, IfOk, OnOk};
 ghost use Rattle.std.specs.List.{flat_map};
-ghost use Rattle.bay_base.specs.Exact.{Gives};
+ghost use Rattle.bay_base.specs.Exact.{ExactOr};
 ghost use Rattle.bay_tree.specs.Rows.{IsHandle};
-ghost use Rattle.bay_ber.specs.EncoderBuffers.{sheet_with};
+ghost use Rattle.bay_ber.specs.EncoderBuffers.{buffer_with};
 ghost use Rattle.bay_ber.specs.Writing.{element, integer_octets};
 ghost use Rattle.bay_ber.specs.Tags.{constructed, int_tag};
 ghost use Rattle.bay_mms.specs.Data.{datum_text};
 ghost use Rattle.bay_mms.specs.Nodes.{data_at};
 ghost use Rattle.bay_mms.specs.Responses.{text_result, failure_result, success_result, result_text, read_text, write_text};
-ghost use Rattle.bay_mms.specs.Writing.{Adds, Held, no_results, text_within};
+ghost use Rattle.bay_mms.specs.Writing.{AppendsWithin, ChecksLimit, no_results, text_within};
 
 use crate::client_view::ClientView;
 use crate::fault::{DataAccessError, EncodeFault};
@@ -56,38 +56,38 @@ impl ReadResponse {
     /// Appends the data of a row of the client view.
     pub fn value(&mut self, seen: &ClientView<'_>, handle: Handle) -> Result<(), EncodeFault>
         requires { IsHandle seen.now handle }
-        ensures added { Adds self.old.size self.old.octets result self.new.octets
+        ensures added { AppendsWithin self.old.size self.old.octets result self.new.octets
             (datum_text (data_at seen.now handle)) }
         ensures size { self.new.size ≡ self.old.size }
     {
         write_value(&mut self.results, seen, handle);
-        held(&mut self.results)
+        check_limit(&mut self.results)
     }
 
     /// Appends a text instead of the data of a row.
     pub fn text(&mut self, text: &str) -> Result<(), EncodeFault>
-        ensures added { Adds self.old.size self.old.octets result self.new.octets
+        ensures added { AppendsWithin self.old.size self.old.octets result self.new.octets
             (text_result text.now) }
         ensures size { self.new.size ≡ self.old.size }
     {
         self.results.text(Tag::context(10), text);
-        held(&mut self.results)
+        check_limit(&mut self.results)
     }
 
     /// Appends an error.
     pub fn failure(&mut self, error: DataAccessError) -> Result<(), EncodeFault>
-        ensures added { Adds self.old.size self.old.octets result self.new.octets
+        ensures added { AppendsWithin self.old.size self.old.octets result self.new.octets
             (failure_result error) }
         ensures size { self.new.size ≡ self.old.size }
     {
         put_result(&mut self.results, Some(error));
-        held(&mut self.results)
+        check_limit(&mut self.results)
     }
 
     /// Returns the response with an invoke id. Fails with `TooLong` if it has more octets than the
     /// size.
     pub fn finish(self, id: u32) -> Result<Outgoing, EncodeFault>
-        ensures { Gives EncodeFault.OutOfMemory (λ octets. octets) result
+        ensures { ExactOr EncodeFault.OutOfMemory (λ octets. octets) result
             (text_within self.size (read_text id self.octets)) }
     {
         let ReadResponse { mut results } = self;
@@ -101,16 +101,16 @@ impl ReadResponse {
 
 // Writes an invoke id before the message.
 fn prepend_id(writer: &mut Writer, id: u32)
-    requires { length writer.old.heads + 14 ≤ 64 }
+    requires { length writer.old.headers + 14 ≤ 64 }
     ensures { writer.new ≡ record writer.old
-        { heads = element int_tag (integer_octets (pos id)) ++ writer.old.heads } }
+        { headers = element int_tag (integer_octets (pos id)) ++ writer.old.headers } }
 {
     writer.prepend_int(Tag::universal(2), i64::from(id));
 }
 
 // Fails with `TooLong` if the results are over the limit, and then drops them.
-fn held(results: &mut Writer) -> Result<(), EncodeFault>
-    ensures { Held results.old result results.new }
+fn check_limit(results: &mut Writer) -> Result<(), EncodeFault>
+    ensures { ChecksLimit results.old result results.new }
 {
     if results.is_over() {
         results.clear();
@@ -121,7 +121,7 @@ fn held(results: &mut Writer) -> Result<(), EncodeFault>
 
 // Appends the result of one variable.
 fn put_result(writer: &mut Writer, outcome: Option<DataAccessError>)
-    ensures { writer.new ≡ sheet_with writer.old (result_text outcome) }
+    ensures { writer.new ≡ buffer_with writer.old (result_text outcome) }
 {
     match outcome {
         Some(error) => writer.int(Tag::context(0), i64::from(error.code())),
@@ -132,7 +132,7 @@ fn put_result(writer: &mut Writer, outcome: Option<DataAccessError>)
 // Appends the results of all variables.
 #[tactic(auto, using(bay_ber::proofs::SheetLemmas::sheet_rules))]
 fn put_results(writer: &mut Writer, results: &[Option<DataAccessError>])
-    ensures { writer.new ≡ sheet_with writer.old
+    ensures { writer.new ≡ buffer_with writer.old
         (element (constructed 5) (flat_map result_text results.now)) }
 {
     let start = writer.open(Tag::context_constructed(5));
@@ -192,7 +192,7 @@ impl WriteResponse {
     /// octets.
     #[tactic(auto, using(bay_ber::proofs::SheetLemmas::sheet_rules, bay_ber::proofs::SheetLemmas::message_put))]
     pub fn finish(self, id: u32, size: u32) -> Result<Outgoing, EncodeFault>
-        ensures { Gives EncodeFault.OutOfMemory (λ octets. octets) result
+        ensures { ExactOr EncodeFault.OutOfMemory (λ octets. octets) result
             (text_within size (write_text id self)) }
     {
         let WriteResponse { alloc, results } = self;

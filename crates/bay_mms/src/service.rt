@@ -1,11 +1,11 @@
 // Reading the requested service (ISO 9506-2, ConfirmedServiceRequest).
 ghost use Rattle.std.specs.Prelude.{◌≡◌, false, [], ◌∷◌, IsSome, IsErrOf, map, option_map};
-ghost use Rattle.bay_base.specs.Exact.{Gives};
-ghost use Rattle.bay_ber.specs.Forms.{answer, map_form, try_map_form, empty, one, whole, tagged};
+ghost use Rattle.bay_base.specs.Exact.{ExactOr};
+ghost use Rattle.bay_ber.specs.Forms.{form_result, map_form, try_map_form, empty, one, whole, tagged};
 ghost use Rattle.bay_ber.specs.Tags.{constructed};
 ghost use Rattle.bay_ber.specs.Values.{part_of};
-ghost use Rattle.bay_mms.specs.Answers.{is_empty, list_of};
-ghost use Rattle.bay_mms.specs.Requests as asked;
+ghost use Rattle.bay_mms.specs.RequestResults.{has_no_variables, needs_list};
+ghost use Rattle.bay_mms.specs.Requests as requested;
 ghost use Rattle.bay_mms.specs.Grammar.{access, scope, class_part, scope_part, names_from_parts, get_name_list_parts, attributes_request, read_service, read_parts, write_service, write_parts, service_request};
 ghost use Rattle.bay_mms.specs.Grammar as spec;
 ghost use Rattle.bay_mms.specs.RequestViews.{scope_view, call_view};
@@ -54,7 +54,7 @@ fn scope_from_value<'a>(value: &Value<'a>) -> Option<Scope<'a>>
 
 // Reads the number of the class of objects whose names are requested.
 #[tactic(auto, unfolding(crate::specs::Grammar::class_part, bay_ber::specs::Values::integer_under))]
-fn class_of(value: &Value<'_>) -> Option<i64>
+fn class_from_part(value: &Value<'_>) -> Option<i64>
     ensures { result ≡ class_part.reads (part_of value.now) }
 {
     let class = inner_value(Tag::context_constructed(0), value)?;
@@ -63,7 +63,7 @@ fn class_of(value: &Value<'_>) -> Option<i64>
 
 // Reads the scope of names, inside its outer tag.
 #[tactic(auto, unfolding(crate::specs::Grammar::scope_part))]
-fn scope_of<'a>(value: &Value<'a>) -> Option<Scope<'a>>
+fn scope_from_part<'a>(value: &Value<'a>) -> Option<Scope<'a>>
     ensures { option_map scope_view result ≡ scope_part.reads (part_of value.now) }
 {
     let scope = inner_value(Tag::context_constructed(1), value)?;
@@ -81,8 +81,8 @@ fn name_list_from_parts<'a>(parts: &[Value<'a>]) -> Option<Call<'a>>
         [class, scope, after] => (class, scope, Some(after.content_with_tag(Tag::context(2))?)),
         _ => return None,
     };
-    let class = class_of(class)?;
-    let scope = scope_of(scope)?;
+    let class = class_from_part(class)?;
+    let scope = scope_from_part(scope)?;
     Some(Call::Names {
         class,
         scope,
@@ -93,8 +93,8 @@ fn name_list_from_parts<'a>(parts: &[Value<'a>]) -> Option<Call<'a>>
 // Reads the name of the variable whose type is requested (ISO 9506-2, GetVariableAccessAttributes).
 #[tactic(auto, unfolding(crate::specs::Grammar::attributes_request))]
 fn attributes_from_value<'a>(value: &Value<'a>) -> Result<Call<'a>, Refusal>
-    ensures asked { Gives Refusal.OutOfMemory call_view result
-        (answer Refusal.Bad attributes_request (part_of value.now)) }
+    ensures requested { ExactOr Refusal.OutOfMemory call_view result
+        (form_result Refusal.Bad attributes_request (part_of value.now)) }
     ensures memory { IsErrOf result Refusal.OutOfMemory → ⊥ }
 {
     match parse_name(value.content) {
@@ -107,11 +107,11 @@ fn attributes_from_value<'a>(value: &Value<'a>) -> Result<Call<'a>, Refusal>
 // Reads the access specification of a read.
 #[tactic(auto, unfolding(crate::specs::Grammar::read_service))]
 fn read_from_value<'a>(alloc: Global, value: &Value<'a>) -> Result<Call<'a>, Refusal>
-    ensures asked { Gives Refusal.OutOfMemory call_view result
-        (answer Refusal.Bad (map_form read_service (tagged (constructed 1) (one access)))
+    ensures requested { ExactOr Refusal.OutOfMemory call_view result
+        (form_result Refusal.Bad (map_form read_service (tagged (constructed 1) (one access)))
         (part_of value.now)) }
     ensures memory { IsErrOf result Refusal.OutOfMemory
-        → is_empty (answer Refusal.Bad (map_form read_service (tagged (constructed 1) (one access)))
+        → has_no_variables (form_result Refusal.Bad (map_form read_service (tagged (constructed 1) (one access)))
         (part_of value.now)) ≡ false }
 {
     let spec = inner_value(Tag::context_constructed(1), value).ok_or(Refusal::Bad)?;
@@ -122,10 +122,10 @@ fn read_from_value<'a>(alloc: Global, value: &Value<'a>) -> Result<Call<'a>, Ref
 // Reads the parts of a read.
 #[tactic(auto, unfolding(crate::specs::Grammar::read_parts))]
 fn read_from_parts<'a>(alloc: Global, parts: &[Value<'a>]) -> Result<Call<'a>, Refusal>
-    ensures asked { Gives Refusal.OutOfMemory call_view result
-        (answer Refusal.Bad (map_form (λ x. read_service x.1.0) read_parts) (map part_of parts.now)) }
+    ensures requested { ExactOr Refusal.OutOfMemory call_view result
+        (form_result Refusal.Bad (map_form (λ x. read_service x.1.0) read_parts) (map part_of parts.now)) }
     ensures memory { IsErrOf result Refusal.OutOfMemory
-        → is_empty (answer Refusal.Bad (map_form (λ x. read_service x.1.0) read_parts)
+        → has_no_variables (form_result Refusal.Bad (map_form (λ x. read_service x.1.0) read_parts)
         (map part_of parts.now)) ≡ false }
 {
     match parts {
@@ -142,9 +142,9 @@ fn write_from_values<'a>(
     spec: &Value<'a>,
     list: &Value<'a>,
 ) -> Result<Call<'a>, Refusal>
-    ensures asked { Gives Refusal.OutOfMemory call_view result (answer Refusal.Bad
+    ensures requested { ExactOr Refusal.OutOfMemory call_view result (form_result Refusal.Bad
         (map_form write_service write_parts) (part_of spec.now ∷ part_of list.now ∷ [])) }
-    ensures memory { IsErrOf result Refusal.OutOfMemory → is_empty (answer Refusal.Bad
+    ensures memory { IsErrOf result Refusal.OutOfMemory → has_no_variables (form_result Refusal.Bad
         (map_form write_service write_parts) (part_of spec.now ∷ part_of list.now ∷ [])) ≡ false }
 {
     let octets = list
@@ -158,10 +158,10 @@ fn write_from_values<'a>(
 // Reads the parts of a write.
 #[tactic(auto, unfolding(crate::specs::Grammar::write_parts))]
 fn write_from_parts<'a>(alloc: Global, parts: &[Value<'a>]) -> Result<Call<'a>, Refusal>
-    ensures asked { Gives Refusal.OutOfMemory call_view result
-        (answer Refusal.Bad (map_form write_service write_parts) (map part_of parts.now)) }
+    ensures requested { ExactOr Refusal.OutOfMemory call_view result
+        (form_result Refusal.Bad (map_form write_service write_parts) (map part_of parts.now)) }
     ensures memory { IsErrOf result Refusal.OutOfMemory
-        → is_empty (answer Refusal.Bad (map_form write_service write_parts) (map part_of parts.now))
+        → has_no_variables (form_result Refusal.Bad (map_form write_service write_parts) (map part_of parts.now))
         ≡ false }
 {
     match parts {
@@ -183,8 +183,8 @@ fn is_unlisted(tag: Tag) -> bool
 // Refuses a value that is none of the services read here: as `Unknown` if it has the tag of another
 // service, and else as `Bad`.
 fn other_from_value<'a>(value: &Value<'a>) -> Result<Call<'a>, Refusal>
-    ensures asked { Gives Refusal.OutOfMemory call_view result
-        (answer Refusal.Bad (try_map_form spec.refuse_unlisted whole) (part_of value.now)) }
+    ensures requested { ExactOr Refusal.OutOfMemory call_view result
+        (form_result Refusal.Bad (try_map_form spec.refuse_unlisted whole) (part_of value.now)) }
     ensures memory { IsErrOf result Refusal.OutOfMemory → ⊥ }
 {
     if is_unlisted(value.tag) {
@@ -195,9 +195,9 @@ fn other_from_value<'a>(value: &Value<'a>) -> Result<Call<'a>, Refusal>
 }
 
 // Reads an identify, which has no content.
-fn identify(content: &[u8]) -> Option<Call<'_>>
+fn parse_identify(content: &[u8]) -> Option<Call<'_>>
     ensures { option_map call_view result
-        ≡ (map_form (λ x. asked.identify) empty).reads content.now }
+        ≡ (map_form (λ x. requested.identify) empty).reads content.now }
 {
     if content.is_empty() {
         Some(Call::Identify)
@@ -208,7 +208,7 @@ fn identify(content: &[u8]) -> Option<Call<'_>>
 
 // Reads the content of a request for names.
 #[tactic(auto, unfolding(crate::specs::Grammar::get_name_list))]
-fn get_name_list(content: &[u8]) -> Option<Call<'_>>
+fn parse_get_name_list(content: &[u8]) -> Option<Call<'_>>
     ensures { option_map call_view result ≡ spec.get_name_list.reads content.now }
 {
     let parts = few_values(content)?;
@@ -219,14 +219,14 @@ fn get_name_list(content: &[u8]) -> Option<Call<'_>>
 /// of no variables.
 #[tactic(auto, unfolding(crate::specs::Grammar::service_request))]
 pub(crate) fn service_from_value<'a>(alloc: Global, value: &Value<'a>) -> Result<Call<'a>, Refusal>
-    ensures asked { Gives Refusal.OutOfMemory call_view result
-        (answer Refusal.Bad service_request (part_of value.now)) }
-    ensures memory { IsErrOf result Refusal.OutOfMemory → IsSome (list_of (part_of value.now)) }
+    ensures requested { ExactOr Refusal.OutOfMemory call_view result
+        (form_result Refusal.Bad service_request (part_of value.now)) }
+    ensures memory { IsErrOf result Refusal.OutOfMemory → IsSome (needs_list (part_of value.now)) }
 {
     if value.tag.is(Tag::context_constructed(1)) {
-        get_name_list(value.content).ok_or(Refusal::Bad)
+        parse_get_name_list(value.content).ok_or(Refusal::Bad)
     } else if value.tag.is(Tag::context(2)) {
-        identify(value.content).ok_or(Refusal::Bad)
+        parse_identify(value.content).ok_or(Refusal::Bad)
     } else if value.tag.is(Tag::context_constructed(4)) {
         let parts = few_values(value.content).ok_or(Refusal::Bad)?;
         read_from_parts(alloc, parts.as_slice())

@@ -21,7 +21,7 @@ pub struct Shape<'a> {
 
 // Returns the value if the data are a boolean.
 fn truth_from_data(given: &Data<'_>) -> Option<bool>
-    ensures { result ≡ spec.truth_as (datum_of given.now) }
+    ensures { result ≡ spec.truth_from_data (datum_of given.now) }
 {
     match given {
         Data::Truth(value) => Some(*value),
@@ -31,7 +31,7 @@ fn truth_from_data(given: &Data<'_>) -> Option<bool>
 
 // Returns the number if the data are an integer.
 fn integer_from_data(given: &Data<'_>) -> Option<i64>
-    ensures { result ≡ spec.integer_as (datum_of given.now) }
+    ensures { result ≡ spec.integer_from_data (datum_of given.now) }
 {
     match given {
         Data::Integer(value) => Some(*value),
@@ -41,7 +41,7 @@ fn integer_from_data(given: &Data<'_>) -> Option<i64>
 
 // Returns the number if the data are an unsigned number.
 fn unsigned_from_data(given: &Data<'_>) -> Option<i64>
-    ensures { result ≡ spec.unsigned_as (datum_of given.now) }
+    ensures { result ≡ spec.unsigned_from_data (datum_of given.now) }
 {
     match given {
         Data::Unsigned(value) => Some(*value),
@@ -51,7 +51,7 @@ fn unsigned_from_data(given: &Data<'_>) -> Option<i64>
 
 // Returns the octets if the data are an octet string.
 fn octets_from_data<'a>(given: &Data<'a>) -> Option<&'a [u8]>
-    ensures { option_map (λ octets. octets.now) result ≡ spec.octets_as (datum_of given.now) }
+    ensures { option_map (λ octets. octets.now) result ≡ spec.octets_from_data (datum_of given.now) }
 {
     match given {
         Data::Octets(value) => Some(value),
@@ -61,7 +61,7 @@ fn octets_from_data<'a>(given: &Data<'a>) -> Option<&'a [u8]>
 
 // Returns the eight octets if the data are a utc-time.
 fn moment_from_data(given: &Data<'_>) -> Option<[u8; 8]>
-    ensures { result ≡ spec.moment_as (datum_of given.now) }
+    ensures { result ≡ spec.moment_from_data (datum_of given.now) }
 {
     match given {
         Data::Utc(value) => Some(*value),
@@ -71,7 +71,7 @@ fn moment_from_data(given: &Data<'_>) -> Option<[u8; 8]>
 
 // Returns the checks in the two highest bits of an octet.
 fn check_from_octet(octet: u8) -> Check
-    ensures { Some result ≡ spec.check_of octet }
+    ensures { Some result ≡ spec.check_from_octet octet }
 {
     Check {
         synchrocheck: octet >= 0x80,
@@ -81,7 +81,7 @@ fn check_from_octet(octet: u8) -> Check
 
 // Returns the checks if the data are two bits (IEC 61850-8-1, Check).
 fn check_from_data(given: &Data<'_>) -> Option<Check>
-    ensures { result ≡ spec.check_as (datum_of given.now) }
+    ensures { result ≡ spec.check_from_data (datum_of given.now) }
 {
     match given {
         Data::Bits(bits) if bits.count == 2 => Some(check_from_octet(*bits.octets.first()?)),
@@ -91,7 +91,7 @@ fn check_from_data(given: &Data<'_>) -> Option<Check>
 
 // Returns the components if the data are a structure.
 fn parts_from_data<'b, 'a>(given: &'b Data<'a>) -> Option<&'b [Data<'a>]>
-    ensures { option_map (λ parts. data_in parts.now) result ≡ spec.parts_as (datum_of given.now) }
+    ensures { option_map (λ parts. data_in parts.now) result ≡ spec.parts_from_data (datum_of given.now) }
 {
     match given {
         Data::Structure(parts) => Some(parts.as_slice()),
@@ -102,7 +102,7 @@ fn parts_from_data<'b, 'a>(given: &'b Data<'a>) -> Option<&'b [Data<'a>]>
 // Returns the category and the identity of an originator from its components.
 fn origin_from_parts<'a>(parts: &[Data<'a>]) -> Option<(i64, &'a [u8])>
     ensures { option_map (λ origin. record { or_cat = origin.0; or_ident = origin.1.now }) result
-        ≡ spec.origin_of (data_in parts.now) }
+        ≡ spec.origin_from_parts (data_in parts.now) }
 {
     match parts {
         [category, identity] => {
@@ -115,18 +115,18 @@ fn origin_from_parts<'a>(parts: &[Data<'a>]) -> Option<(i64, &'a [u8])>
 }
 
 // Returns the category and the identity of an originator if the data are a structure of the two.
-#[tactic(auto, unfolding(crate::specs::Controls::origin_as))]
+#[tactic(auto, unfolding(crate::specs::Controls::origin_from_data))]
 fn origin_from_data<'a>(given: &Data<'a>) -> Option<(i64, &'a [u8])>
     ensures { option_map (λ origin. record { or_cat = origin.0; or_ident = origin.1.now }) result
-        ≡ spec.origin_as (datum_of given.now) }
+        ≡ spec.origin_from_data (datum_of given.now) }
 {
     origin_from_parts(parts_from_data(given)?)
 }
 
 // Returns a control from its value, its originator, its number, its moment and whether it is a
 // test.
-#[tactic(auto, unfolding(crate::specs::Controls::control_of))]
-fn control_of<'a>(
+#[tactic(auto, unfolding(crate::specs::Controls::control_from_parts))]
+fn control_from_parts<'a>(
     value: &Data<'a>,
     origin: &Data<'a>,
     number: &Data<'a>,
@@ -134,7 +134,7 @@ fn control_of<'a>(
     test: &Data<'a>,
 ) -> Option<Shape<'a>>
     ensures { option_map shape_view result
-        ≡ spec.control_of (datum_of value.now) (datum_of origin.now) (datum_of number.now)
+        ≡ spec.control_from_parts (datum_of value.now) (datum_of origin.now) (datum_of number.now)
         (datum_of moment.now) (datum_of test.now) }
 {
     let ctl_val = truth_from_data(value)?;
@@ -154,10 +154,10 @@ fn control_of<'a>(
 
 // Returns the control of a Cancel, which has these five components in this order.
 fn cancel_from_parts<'a>(parts: &[Data<'a>]) -> Option<Shape<'a>>
-    ensures { option_map shape_view result ≡ spec.cancel_of (data_in parts.now) }
+    ensures { option_map shape_view result ≡ spec.cancel_from_parts (data_in parts.now) }
 {
     match parts {
-        [value, origin, number, moment, test] => control_of(value, origin, number, moment, test),
+        [value, origin, number, moment, test] => control_from_parts(value, origin, number, moment, test),
         _ => None,
     }
 }
@@ -166,11 +166,11 @@ fn cancel_from_parts<'a>(parts: &[Data<'a>]) -> Option<Shape<'a>>
 // checks.
 fn operate_from_parts<'a>(parts: &[Data<'a>]) -> Option<(Shape<'a>, Check)>
     ensures { option_map (λ found. record { control = shape_view found.0; check = found.1 }) result
-        ≡ spec.operate_of (data_in parts.now) }
+        ≡ spec.operate_from_parts (data_in parts.now) }
 {
     match parts {
         [value, origin, number, moment, test, check] => {
-            let control = control_of(value, origin, number, moment, test)?;
+            let control = control_from_parts(value, origin, number, moment, test)?;
             let check = check_from_data(check)?;
             Some((control, check))
         }
@@ -179,18 +179,18 @@ fn operate_from_parts<'a>(parts: &[Data<'a>]) -> Option<(Shape<'a>, Check)>
 }
 
 /// Reads the control in data with the shape of a Cancel.
-#[tactic(auto, unfolding(crate::specs::Controls::cancel_as))]
+#[tactic(auto, unfolding(crate::specs::Controls::cancel_from_data))]
 pub(crate) fn cancel_from_data<'a>(given: &Data<'a>) -> Option<Shape<'a>>
-    ensures { option_map shape_view result ≡ spec.cancel_as (datum_of given.now) }
+    ensures { option_map shape_view result ≡ spec.cancel_from_data (datum_of given.now) }
 {
     cancel_from_parts(parts_from_data(given)?)
 }
 
 /// Reads the control and its checks in data with the shape of an Oper.
-#[tactic(auto, unfolding(crate::specs::Controls::operate_as))]
+#[tactic(auto, unfolding(crate::specs::Controls::operate_from_data))]
 pub(crate) fn operate_from_data<'a>(given: &Data<'a>) -> Option<(Shape<'a>, Check)>
     ensures { option_map (λ found. record { control = shape_view found.0; check = found.1 }) result
-        ≡ spec.operate_as (datum_of given.now) }
+        ≡ spec.operate_from_data (datum_of given.now) }
 {
     operate_from_parts(parts_from_data(given)?)
 }

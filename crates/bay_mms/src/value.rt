@@ -1,6 +1,6 @@
 // Writing the data and the type of a row of the tree.
 ghost use Rattle.std.specs.Prelude.{◌≡◌};
-ghost use Rattle.bay_ber.specs.EncoderBuffers.{sheet_with};
+ghost use Rattle.bay_ber.specs.EncoderBuffers.{buffer_with};
 ghost use Rattle.bay_tree.specs.Rows.{IsHandle};
 ghost use Rattle.bay_mms.specs.Data.{datum_text};
 ghost use Rattle.bay_mms.specs.Types.{type_text};
@@ -15,7 +15,7 @@ use bay_tree::tree::{Handle, Tree};
 /// Appends the data of a row (IEC 61850-8-1, the mapping of values to MMS data).
 pub fn write_value(writer: &mut Writer, seen: &ClientView<'_>, handle: Handle)
     requires { IsHandle seen.now handle }
-    ensures { writer.new ≡ sheet_with writer.old (datum_text (data_at seen.now handle)) }
+    ensures { writer.new ≡ buffer_with writer.old (datum_text (data_at seen.now handle)) }
 {
     match seen.get(handle) {
         Some(leaf) => put_leaf(writer, leaf),
@@ -34,7 +34,7 @@ pub fn write_value(writer: &mut Writer, seen: &ClientView<'_>, handle: Handle)
 /// Appends the type of a row (ISO 9506-2, TypeSpecification).
 pub fn write_type(writer: &mut Writer, tree: &Tree, handle: Handle)
     requires { IsHandle tree.now handle }
-    ensures { writer.new ≡ sheet_with writer.old (type_text (type_at tree.now handle)) }
+    ensures { writer.new ≡ buffer_with writer.old (type_text (type_at tree.now handle)) }
 {
     match tree.get(handle) {
         Some(leaf) => put_leaf_type(writer, leaf),

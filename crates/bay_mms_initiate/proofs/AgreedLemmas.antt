@@ -6,9 +6,9 @@ use Rattle.bay_ber.specs.Writing.{element, integer_octets, bit_string_octets}
 use Rattle.bay_ber.specs.EncoderBuffers.{text_within_limit}
 use Rattle.bay_ber.proofs.SheetLemmas.{fits}
 use Rattle.bay_ber.proofs.SizeLemmas.{length-element, length-integer, length-bit_octets}
-use Rattle.bay_mms_initiate.specs.declared.initiate.Agreed.{Agreed}
+use Rattle.bay_mms_initiate.specs.declared.initiate.AgreedLimits.{AgreedLimits}
 use Rattle.bay_ber.specs.Tags.{context, constructed}
-use Rattle.bay_mms_initiate.specs.Agreed.{nesting_text, limits_text, parameters_text, services_text, detail_text, agreed_text}
+use Rattle.bay_mms_initiate.specs.InitiateResponse.{nesting_text, limits_text, parameters_text, services_text, detail_text, initiate_response_text}
 
 bits-short : (tag : Tag) (octets : List ℕ) (count most : ℕ) → count ≤ 8 * length octets
     → count ≤ 100 → count ≤ 8 * most
@@ -24,7 +24,7 @@ nesting-short : (nesting : Option ℤ) → length (nesting_text nesting) ≤ 14
 nesting-short None = omega arith
 nesting-short (Some nesting) = length-integer (context 3) nesting
 
-limits-short : (a : Agreed) → length (limits_text a) ≤ 56
+limits-short : (a : AgreedLimits) → length (limits_text a) ≤ 56
 limits-short a =
     let size = element (context 0) (integer_octets (pos a.size)) in
     let calling = element (context 1) (integer_octets (pos a.calling)) in
@@ -61,7 +61,7 @@ detail-short n =
       services-short,
     )
 
-pub agreed_short : (a : Agreed) → length (agreed_text a) ≤ 200
+pub agreed_short : (a : AgreedLimits) → length (initiate_response_text a) ≤ 200
 agreed_short a =
     let detail = element (constructed 4) (detail_text a.parameters) in
     omega (
@@ -73,5 +73,5 @@ agreed_short a =
       detail-short a.parameters,
     )
 
-pub agreed_within : (a : Agreed) → text_within_limit 200 (agreed_text a) ≡ Some (agreed_text a)
-agreed_within a = fits 200 (agreed_text a) (agreed_short a)
+pub agreed_within : (a : AgreedLimits) → text_within_limit 200 (initiate_response_text a) ≡ Some (initiate_response_text a)
+agreed_within a = fits 200 (initiate_response_text a) (agreed_short a)

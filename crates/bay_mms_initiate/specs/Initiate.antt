@@ -38,14 +38,14 @@ detail =
 -- ---- the request
 
 -- a number that is 1 or more
-abbrev pub some_of : ℤ → Option ℤ
-some_of (pos zero) = None
-some_of (pos (suc n)) = Some (pos (suc n))
-some_of (negsuc n) = None
+abbrev pub at_least_one : ℤ → Option ℤ
+at_least_one (pos zero) = None
+at_least_one (pos (suc n)) = Some (pos (suc n))
+at_least_one (negsuc n) = None
 
 -- a number of outstanding requests, 1 or more, with this tag
 unfoldable pub outstanding : ℕ → Form Part ℤ
-outstanding number = tagged (context number) (try_map_form some_of integer)
+outstanding number = tagged (context number) (try_map_form at_least_one integer)
 
 -- the deepest nesting of data, if proposed, and the parameters of the detail
 abbrev pub Nested : Type 0
@@ -64,8 +64,8 @@ unfoldable pub proposal_parts : Form (List Part) (Option ℤ × (ℤ × (ℤ × 
 proposal_parts = maybe (context 0) integer outstanding_parts
 
 -- the proposal with these values
-abbrev pub proposal_by : Option ℤ × (ℤ × (ℤ × Nested)) → Proposal
-proposal_by x = record {
+abbrev pub proposal_from_fields : Option ℤ × (ℤ × (ℤ × Nested)) → Proposal
+proposal_from_fields x = record {
   size = x.0;
   calling = x.1.0;
   called = x.1.1.0;
@@ -75,7 +75,7 @@ proposal_by x = record {
 
 -- the proposal in the content of an initiate
 unfoldable pub proposal : Form (List ℕ) Proposal
-proposal = map_form proposal_by (fields proposal_parts)
+proposal = map_form proposal_from_fields (fields proposal_parts)
 
 -- InitiateRequestPDU
 unfoldable pub initiate : Form (List ℕ) Proposal

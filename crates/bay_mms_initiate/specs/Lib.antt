@@ -9,6 +9,6 @@ pub use Rattle.bay_ber.specs.Forms
 pub use Rattle.bay_ber.specs.EncoderBuffers
 pub use Rattle.bay_ber.specs.Values
 -- The definitions of this crate.
-pub mod Agreed
+pub mod InitiateResponse
 pub mod Initiate
 pub mod Sizes

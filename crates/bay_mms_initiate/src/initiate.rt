@@ -1,14 +1,14 @@
 // The request that opens an association, and its answer (ISO 9506-2, InitiateRequestPDU and
 // InitiateResponsePDU).
 ghost use Rattle.std.specs.Prelude.{◌≡◌, ◌≤◌, ◌<◌, length, map, option_map, pos, IfOk, IfSome};
-ghost use Rattle.bay_ber.specs.Content.{bits_of};
-ghost use Rattle.bay_ber.specs.EncoderBuffers.{sheet_with};
+ghost use Rattle.bay_ber.specs.Content.{bit_string_view};
+ghost use Rattle.bay_ber.specs.EncoderBuffers.{buffer_with};
 ghost use Rattle.bay_ber.specs.Forms.{tagged, value_then, done};
 ghost use Rattle.bay_ber.specs.Tags.{context, constructed};
 ghost use Rattle.bay_ber.specs.Values.{part_of};
 ghost use Rattle.bay_ber.specs.Writing.{element, integer_octets};
-ghost use Rattle.bay_mms_initiate.specs.Agreed.{agreed_text, detail_text, limits_text, nesting_text, parameters_text, services_text};
-ghost use Rattle.bay_mms_initiate.specs.Initiate.{parameters, services, detail_parts, detail, outstanding, nested_parts, outstanding_parts, proposal_parts, proposal_by, initiate_in};
+ghost use Rattle.bay_mms_initiate.specs.InitiateResponse.{initiate_response_text, detail_text, limits_text, nesting_text, parameters_text, services_text};
+ghost use Rattle.bay_mms_initiate.specs.Initiate.{parameters, services, detail_parts, detail, outstanding, nested_parts, outstanding_parts, proposal_parts, proposal_from_fields, initiate_in};
 ghost use Rattle.bay_mms_initiate.specs.Initiate as spec;
 ghost use Rattle.bay_mms_initiate.specs.Sizes.{IsPduSize};
 ghost use Rattle.bay_mms_initiate.specs.Sizes as sizes;
@@ -39,8 +39,8 @@ pub struct Proposal {
 }
 
 // Returns the number if it is 1 or more.
-fn some_of(number: i64) -> Option<i64>
-    ensures { result ≡ spec.some_of number }
+fn at_least_one(number: i64) -> Option<i64>
+    ensures { result ≡ spec.at_least_one number }
 {
     if number > 0 { Some(number) } else { None }
 }
@@ -50,12 +50,12 @@ fn some_of(number: i64) -> Option<i64>
 fn outstanding_from_value(number: u8, value: &Value<'_>) -> Option<i64>
     ensures { result ≡ (outstanding number).reads (part_of value.now) }
 {
-    some_of(value.integer_with_tag(Tag::context(number))?)
+    at_least_one(value.integer_with_tag(Tag::context(number))?)
 }
 
 // Returns the first three bits, if there are that many.
 fn parameters_from_bits(bits: Bits<'_>) -> Option<u8>
-    ensures { result ≡ spec.parameters_of (bits_of bits.entry) }
+    ensures { result ≡ spec.parameters_of (bit_string_view bits.entry) }
 {
     if bits.count < 3 {
         return None;
@@ -71,16 +71,16 @@ fn parameters_from_bits(bits: Bits<'_>) -> Option<u8>
 fn parameters_from_value(value: &Value<'_>) -> Option<u8>
     ensures { result ≡ parameters.reads (part_of value.now) }
 {
-    let bits = bits_of(value.content_with_tag(Tag::context(1))?).ok()?;
+    let bits = bit_string_view(value.content_with_tag(Tag::context(1))?).ok()?;
     parameters_from_bits(bits)
 }
 
 // Reads the services that the calling side supports.
 #[tactic(auto, unfolding(crate::specs::Initiate::services))]
 fn services_from_value<'a>(value: &Value<'a>) -> Option<Bits<'a>>
-    ensures { option_map bits_of result ≡ services.reads (part_of value.now) }
+    ensures { option_map bit_string_view result ≡ services.reads (part_of value.now) }
 {
-    bits_of(value.content_with_tag(Tag::context(2))?).ok()
+    bit_string_view(value.content_with_tag(Tag::context(2))?).ok()
 }
 
 // Reads the three parts of an InitRequestDetail, and returns the parameters.
@@ -111,7 +111,7 @@ fn parse_detail(octets: &[u8]) -> Option<u8>
 }
 
 // Reads the detail, which must be the last value, and returns its parameters.
-fn last_of(parts: &[Value<'_>]) -> Option<u8>
+fn last_detail(parts: &[Value<'_>]) -> Option<u8>
     ensures { result ≡ option_map (λ x. x.0)
         ((value_then (tagged (constructed 4) detail) done).reads (map part_of parts.now)) }
 {
@@ -123,29 +123,29 @@ fn last_of(parts: &[Value<'_>]) -> Option<u8>
 
 // Reads the nesting, if it is proposed, and the parameters.
 #[tactic(auto, unfolding(crate::specs::Initiate::nested_parts))]
-fn nested_of(parts: &[Value<'_>]) -> Option<(Option<i64>, u8)>
+fn nested_from_parts(parts: &[Value<'_>]) -> Option<(Option<i64>, u8)>
     ensures { result ≡ option_map (λ x. (x.0, x.1.0)) (nested_parts.reads (map part_of parts.now)) }
 {
     match parts {
         [nesting, parts @ ..] if nesting.tag.is(Tag::context(3)) => {
             let nesting = int_of(nesting.content).ok()?;
-            Some((Some(nesting), last_of(parts)?))
+            Some((Some(nesting), last_detail(parts)?))
         }
-        _ => Some((None, last_of(parts)?)),
+        _ => Some((None, last_detail(parts)?)),
     }
 }
 
 // Reads the values after the size of a PDU as a proposal.
 #[tactic(auto, unfolding(crate::specs::Initiate::outstanding_parts))]
 fn proposal_from_parts(size: Option<i64>, parts: &[Value<'_>]) -> Option<Proposal>
-    ensures { result ≡ option_map (λ x. proposal_by (size, x))
+    ensures { result ≡ option_map (λ x. proposal_from_fields (size, x))
         (outstanding_parts.reads (map part_of parts.now)) }
 {
     match parts {
         [calling, called, parts @ ..] => {
             let calling = outstanding_from_value(1, calling)?;
             let called = outstanding_from_value(2, called)?;
-            let (nesting, parameters) = nested_of(parts)?;
+            let (nesting, parameters) = nested_from_parts(parts)?;
             Some(Proposal {
                 size,
                 calling,
@@ -161,7 +161,7 @@ fn proposal_from_parts(size: Option<i64>, parts: &[Value<'_>]) -> Option<Proposa
 // Reads the values of an initiate as a proposal.
 #[tactic(auto, unfolding(crate::specs::Initiate::proposal_parts))]
 fn initiate_from_parts(parts: &[Value<'_>]) -> Option<Proposal>
-    ensures { result ≡ option_map proposal_by (proposal_parts.reads (map part_of parts.now)) }
+    ensures { result ≡ option_map proposal_from_fields (proposal_parts.reads (map part_of parts.now)) }
 {
     match parts {
         [size, parts @ ..] if size.tag.is(Tag::context(0)) => {
@@ -209,7 +209,7 @@ pub fn agreed_size(proposed: Option<i64>) -> Option<u32>
 /// The agreed limits of an association (ISO 9506-2, InitiateResponsePDU), in version 1 of the
 /// protocol.
 #[derive(Clone, Copy)]
-pub struct Agreed {
+pub struct AgreedLimits {
     /// The size of the largest PDU in octets.
     pub size: u32,
     /// The most outstanding requests of the calling side; `called` is that of the called side.
@@ -225,7 +225,7 @@ pub struct Agreed {
 /// Appends a number with a context-specific tag.
 pub fn put_number(writer: &mut Writer, number: u8, value: u32)
     requires { number < 31 }
-    ensures { writer.new ≡ sheet_with writer.old
+    ensures { writer.new ≡ buffer_with writer.old
         (element (context number) (integer_octets (pos value))) }
 {
     writer.int(Tag::context(number), i64::from(value));
@@ -234,7 +234,7 @@ pub fn put_number(writer: &mut Writer, number: u8, value: u32)
 // Appends the agreed nesting, if one was proposed.
 #[tactic(auto, using(bay_ber::proofs::SheetLemmas::put_nil))]
 fn put_nesting(writer: &mut Writer, nesting: Option<i64>)
-    ensures { writer.new ≡ sheet_with writer.old (nesting_text nesting) }
+    ensures { writer.new ≡ buffer_with writer.old (nesting_text nesting) }
 {
     if let Some(nesting) = nesting {
         writer.int(Tag::context(3), nesting);
@@ -244,7 +244,7 @@ fn put_nesting(writer: &mut Writer, nesting: Option<i64>)
 // Appends the first three parameter conformance blocks, of eleven.
 #[tactic(auto, unfolding(bay_ber::specs::Writing::element, bay_ber::specs::Writing::length_octets))]
 fn put_parameters(writer: &mut Writer, parameters: u8)
-    ensures { writer.new ≡ sheet_with writer.old (parameters_text parameters) }
+    ensures { writer.new ≡ buffer_with writer.old (parameters_text parameters) }
 {
     writer.append(&[0x81, 3, 5, parameters / 32 * 32, 0]);
 }
@@ -252,15 +252,15 @@ fn put_parameters(writer: &mut Writer, parameters: u8)
 // Appends the supported services.
 #[tactic(auto, unfolding(bay_ber::specs::Writing::element, bay_ber::specs::Writing::length_octets))]
 fn put_services(writer: &mut Writer)
-    ensures { writer.new ≡ sheet_with writer.old services_text }
+    ensures { writer.new ≡ buffer_with writer.old services_text }
 {
     writer.append(&[0x82, 12, 3, 0x6E, 0, 0, 0, 0, 0, 0, 0, 0, 0x01, 0x10]);
 }
 
 // Appends the agreed size, the most outstanding requests of both sides, and the nesting.
 #[tactic(auto, using(bay_ber::proofs::SheetLemmas::sheet_rules))]
-fn put_limits(writer: &mut Writer, agreed: Agreed)
-    ensures { writer.new ≡ sheet_with writer.old (limits_text agreed) }
+fn put_limits(writer: &mut Writer, agreed: AgreedLimits)
+    ensures { writer.new ≡ buffer_with writer.old (limits_text agreed) }
 {
     put_number(writer, 0, agreed.size);
     put_number(writer, 1, agreed.calling);
@@ -271,7 +271,7 @@ fn put_limits(writer: &mut Writer, agreed: Agreed)
 // Appends the version, the parameters and the services (ISO 9506-2, InitResponseDetail).
 #[tactic(auto, using(bay_ber::proofs::SheetLemmas::sheet_rules))]
 fn put_detail(writer: &mut Writer, parameters: u8)
-    ensures { writer.new ≡ sheet_with writer.old (detail_text parameters) }
+    ensures { writer.new ≡ buffer_with writer.old (detail_text parameters) }
 {
     put_number(writer, 0, 1);
     put_parameters(writer, parameters);
@@ -280,8 +280,8 @@ fn put_detail(writer: &mut Writer, parameters: u8)
 
 /// Appends the answer to an initiate (ISO 9506-2, InitiateResponsePDU).
 #[tactic(auto, using(bay_ber::proofs::SheetLemmas::sheet_rules))]
-pub fn put_agreed(writer: &mut Writer, agreed: Agreed)
-    ensures { writer.new ≡ sheet_with writer.old (agreed_text agreed) }
+pub fn put_initiate_response(writer: &mut Writer, agreed: AgreedLimits)
+    ensures { writer.new ≡ buffer_with writer.old (initiate_response_text agreed) }
 {
     let start = writer.open(Tag::context_constructed(9));
     put_limits(writer, agreed);
@@ -294,11 +294,11 @@ pub fn put_agreed(writer: &mut Writer, agreed: Agreed)
 /// Returns the answer to an initiate (ISO 9506-2, InitiateResponsePDU) in its one canonical
 /// encoding, at most 200 octets. Fails only if the allocation fails.
 #[tactic(auto, using(bay_ber::proofs::SheetLemmas::message_put, crate::proofs::AgreedLemmas::agreed_short, crate::proofs::AgreedLemmas::agreed_within))]
-pub fn write_agreed(alloc: Global, agreed: Agreed) -> Result<Outgoing, AllocError>
-    ensures text { IfOk result (λ octets. octets ≡ agreed_text agreed) }
+pub fn write_initiate_response(alloc: Global, agreed: AgreedLimits) -> Result<Outgoing, AllocError>
+    ensures text { IfOk result (λ octets. octets ≡ initiate_response_text agreed) }
     ensures few { IfOk result (λ octets. length octets ≤ 200) }
 {
     let mut writer = Writer::new(alloc, 200)?;
-    put_agreed(&mut writer, agreed);
+    put_initiate_response(&mut writer, agreed);
     Ok(writer.finish_untruncated())
 }

@@ -15,22 +15,22 @@ use Rattle.bay_control.specs.Decisions.{Outcome, State, cancel_outcome, operate_
 use Rattle.bay_control.specs.declared.cause.AddCause.{AddCause}
 use Rattle.bay_mms.specs.Controls.{Control}
 use Rattle.bay_mms.specs.Data.{Datum}
-use Rattle.bay_mms.specs.Grammar.{answer_to}
-use Rattle.bay_mms.specs.Requests.{Naming, Asking, identify, names, attributes, read, write, Message, initiate, conclude, confirmed}
+use Rattle.bay_mms.specs.Grammar.{request_in}
+use Rattle.bay_mms.specs.Requests.{MmsName, ServiceRequest, identify, names, attributes, read, write, MmsRequest, initiate, conclude, confirmed}
 use Rattle.bay_mms.specs.Responses as response
 use Rattle.bay_mms.specs.Responses.{class_text, error_text, read_text, write_text}
 use Rattle.bay_mms.specs.declared.fault.MmsFault.{MmsFault}
 use Rattle.bay_mms.specs.declared.fault.MmsFault.TheVariants.{BadPdu, UnknownService, TooMany, OutOfMemory}
 use Rattle.bay_mms.specs.declared.response.ErrorClass.TheVariants.{NoSuchObject, Resource}
-use Rattle.bay_mms_services.specs.Accepted.{AreNamedAlike, accepted_in, part_after_id, first_response, is_report, may_be_reported, message_accepted, read_accepted, read_results, service_in, write_accepted, write_results}
+use Rattle.bay_mms_services.specs.ObservedEntries.{AreNamedAlike, observed_in_pdu, part_after_id, first_response, is_report, request_may_report, observed_in_request, observed_in_read, read_results, service_in, observed_in_write, write_results}
 use Rattle.bay_mms_services.specs.Answers.{answer_of, pdu_answer, attributes_answer, plain_answer, service_answer}
 use Rattle.bay_mms_services.specs.Bay.{Bay, with_controls}
-use Rattle.bay_mms_services.specs.Controls.{control_request_of, has_reports, object_of, refusal_report, refusal_reports, view_of}
-use Rattle.bay_mms_services.specs.Entries.{entries_in, message_entries, read_entries, service_entries, write_entries}
-use Rattle.bay_mms_services.specs.Reads.{nothing_read, read_all}
+use Rattle.bay_mms_services.specs.Controls.{control_request_of, has_reports, object_of, refusal_report, refusal_reports, decision_view}
+use Rattle.bay_mms_services.specs.Entries.{entries_on_pdu, message_entries, read_entries, service_entries, write_entries}
+use Rattle.bay_mms_services.specs.Reads.{initial_read, read_all}
 use Rattle.bay_mms_services.specs.Replies.{pdu_within_size}
 use Rattle.bay_mms_services.specs.Rows.{row_named}
-use Rattle.bay_mms_services.specs.Writes.{Writing, after_decision, nothing_written, write_all, write_one, write_row}
+use Rattle.bay_mms_services.specs.Writes.{WriteState, after_decision, initial_write, write_all, write_one, write_row}
 use Rattle.bay_mms_services.specs.declared.client.ClientContext.{ClientContext}
 use Rattle.bay_mms_services.specs.declared.target.ControlPart.{ControlPart}
 use Rattle.bay_mms_services.specs.declared.target.ControlPart.TheVariants.{SelectWith, Operate, Cancel}
@@ -147,12 +147,12 @@ no-read id =
 no-write : (id : ℕ) → write_results (error_text id Resource) ≡ None
 no-write id = ap (λ (o : Option (List ℕ)). o >>= values_in) (no-service 5 id)
 
-pub none-read : (now a : ℕ) (b : Bay) (ns : List Naming) → read_accepted now a b ns [] ≡ []
+pub none-read : (now a : ℕ) (b : Bay) (ns : List MmsName) → observed_in_read now a b ns [] ≡ []
 none-read now a b [] = refl
 none-read now a b (name ∷ ns) = refl
 
-pub none-written : (now a : ℕ) (b : Bay) (ns : List Naming) (values : List Datum)
-    → write_accepted now a b ns values [] ≡ []
+pub none-written : (now a : ℕ) (b : Bay) (ns : List MmsName) (values : List Datum)
+    → observed_in_write now a b ns values [] ≡ []
 none-written now a b [] values = refl
 none-written now a b (name ∷ ns) [] = refl
 none-written now a b (name ∷ ns) (given ∷ values) = refl
@@ -213,26 +213,26 @@ module _ (c : ClientContext) (b : Bay) (small : c.size ≤ 65000) where
       (λ is. let n = leb-true (length report) c.size is in a-report _ (omega (arith, n, small)))
 
   decided-are : (k : ℕ) (part : ControlPart) (item : List ℕ) (control : Control) (o : Outcome)
-      (w : Writing) → AreReports w.reports
+      (w : WriteState) → AreReports w.reports
       → AreReports (after_decision c b k part item control o w).reports
   decided-are k part item control o w all =
       both-reports w.reports (refusal_reports c k item control b o.answer) all
       (refusals-are k item control o.answer)
 
-  write-row-are : (given : Datum) (w : Writing) (row : Option ℕ) → AreReports w.reports
+  write-row-are : (given : Datum) (w : WriteState) (row : Option ℕ) → AreReports w.reports
       → AreReports (write_row c b given w row).reports
   write-row-are given w row all =
       write-by c b w (λ asks asked next. AreReports next.reports) (λ error. all)
       (λ k item o. decided-are k SelectWith item o.control
       (select_with_outcome c.association k (control_request_of o) c.now w.controls) w all)
       (λ k item o. decided-are k Operate item o.control
-      (operate_outcome c.association k (control_request_of o) (view_of c k b) c.now w.controls) w
+      (operate_outcome c.association k (control_request_of o) (decision_view c k b) c.now w.controls) w
       all)
       (λ k item control. decided-are k Cancel item control
       (cancel_outcome c.association k c.now w.controls) w all)
       given row
 
-  writes-are : (ns : List Naming) (values : List Datum) (w : Writing) → AreReports w.reports
+  writes-are : (ns : List MmsName) (values : List Datum) (w : WriteState) → AreReports w.reports
       → AreReports (write_all c b ns values w).reports
   writes-are [] values w all = all
   writes-are (name ∷ ns) [] w all = all
@@ -247,13 +247,13 @@ Stands false reports response = reports ≡ []
 Stands true reports response = AreReports reports × (is_report response ≡ false)
 
 -- An answer is a response behind reports, and tells what is seen.
-record IsTold (now a : ℕ) (n : Bay) (m : Result Message MmsFault) (sent : List (List ℕ))
+record IsTold (now a : ℕ) (n : Bay) (m : Result MmsRequest MmsFault) (sent : List (List ℕ))
     (entries : List Entry) : Type 0 where
   reports : List (List ℕ)
   response : List ℕ
   is : sent ≡ reports ++ response ∷ []
-  stands : Stands (may_be_reported m) reports response
-  told : message_accepted now a n m response ≡ entries
+  stands : Stands (request_may_report m) reports response
+  told : observed_in_request now a n m response ≡ entries
 
 first-is : (may : Bool) (reports later : List (List ℕ)) (response : List ℕ)
     → Stands may reports response
@@ -264,18 +264,18 @@ first-is true reports later response stands =
     behind-reports reports later response stands.0 stands.1
 
 module _ (c : ClientContext) (small : c.size ≤ 65000) (n b : Bay) (alike : AreNamedAlike n b) where
-  abbrev Told : Result Message MmsFault → List (List ℕ) → List Entry → Type 0
+  abbrev Told : Result MmsRequest MmsFault → List (List ℕ) → List Entry → Type 0
   Told m sent entries = IsTold c.now c.association n m sent entries
 
-  read-told : (id : ℕ) (ns : List Naming) (within : Bool)
-      → nat_le (length (read_text id (read_all c b ns (nothing_read b)).results)) c.size ≡ within
+  read-told : (id : ℕ) (ns : List MmsName) (within : Bool)
+      → nat_le (length (read_text id (read_all c b ns (initial_read b)).results)) c.size ≡ within
       → Told (Ok (confirmed id (read ns)))
-      (cond within (read_sent id b (read_all c b ns (nothing_read b)))
+      (cond within (read_sent id b (read_all c b ns (initial_read b)))
       (plain_answer (error_text id Resource) b)).sent
-      (cond within (read_entries c b ns (nothing_read b)) [])
+      (cond within (read_entries c b ns (initial_read b)) [])
   read-told id ns true is =
-      let all : AllRead c n b ns (nothing_read b) = all-read c n b ns (nothing_read b) alike in
-      let results : List ℕ = (read_all c b ns (nothing_read b)).results in
+      let all : AllRead c n b ns (initial_read b) = all-read c n b ns (initial_read b) alike in
+      let results : List ℕ = (read_all c b ns (initial_read b)).results in
       let size : length (read_text id results) ≤ c.size = leb-true _ _ is in
       let short : length (read_text id results) < 4294967296 = omega (arith, size, small) in
       let more : length all.more < 4294967296 =
@@ -288,7 +288,7 @@ module _ (c : ClientContext) (small : c.size ≤ 65000) (n b : Bay) (alike : Are
         response = read_text id results;
         is = refl;
         stands = refl;
-        told = ap (λ (o : Option (List Part)). read_accepted c.now c.association n ns
+        told = ap (λ (o : Option (List Part)). observed_in_read c.now c.association n ns
             (unwrap_or o [])) (read-back id results all.parts short spelled) ∙ all.told;
       }
   read-told id ns false is = record {
@@ -296,21 +296,21 @@ module _ (c : ClientContext) (small : c.size ≤ 65000) (n b : Bay) (alike : Are
     response = error_text id Resource;
     is = refl;
     stands = refl;
-    told = ap (λ (o : Option (List Part)). read_accepted c.now c.association n ns (unwrap_or o []))
+    told = ap (λ (o : Option (List Part)). observed_in_read c.now c.association n ns (unwrap_or o []))
         (no-read id) ∙ none-read c.now c.association n ns;
   }
 
-  write-told : (id : ℕ) (ns : List Naming) (values : List Datum) (within : Bool)
-      → nat_le (length (write_text id (write_all c b ns values (nothing_written b)).results)) c.size
+  write-told : (id : ℕ) (ns : List MmsName) (values : List Datum) (within : Bool)
+      → nat_le (length (write_text id (write_all c b ns values (initial_write b)).results)) c.size
       ≡ within
       → Told (Ok (confirmed id (write ns values)))
-      (cond within (write_sent id b (write_all c b ns values (nothing_written b)))
+      (cond within (write_sent id b (write_all c b ns values (initial_write b)))
       (plain_answer (error_text id Resource) b)).sent
-      (cond within (write_entries c b ns values (nothing_written b)) [])
+      (cond within (write_entries c b ns values (initial_write b)) [])
   write-told id ns values true is =
-      let all : AllWritten c n b ns values (nothing_written b) =
-      all-written c n b ns values (nothing_written b) alike in
-      let w : Writing = write_all c b ns values (nothing_written b) in
+      let all : AllWritten c n b ns values (initial_write b) =
+      all-written c n b ns values (initial_write b) alike in
+      let w : WriteState = write_all c b ns values (initial_write b) in
       let size : length (write_text id w.results) ≤ c.size = leb-true _ _ is in
       let short : length (write_text id w.results) < 4294967296 = omega (arith, size, small) in
       let more : length all.more < 4294967296 =
@@ -323,10 +323,10 @@ module _ (c : ClientContext) (small : c.size ≤ 65000) (n b : Bay) (alike : Are
         response = write_text id w.results;
         is = refl;
         stands = (
-          writes-are c b small ns values (nothing_written b) tt,
+          writes-are c b small ns values (initial_write b) tt,
           not-report (constructed 1) _ (omega arith) refl short,
         );
-        told = ap (λ (o : Option (List Part)). write_accepted c.now c.association n ns values
+        told = ap (λ (o : Option (List Part)). observed_in_write c.now c.association n ns values
             (unwrap_or o [])) (write-back id w.results all.parts short spelled) ∙ all.told;
       }
   write-told id ns values false is = record {
@@ -334,21 +334,21 @@ module _ (c : ClientContext) (small : c.size ≤ 65000) (n b : Bay) (alike : Are
     response = error_text id Resource;
     is = refl;
     stands = (tt, not-report (constructed 2) _ (omega arith) refl (error-short id));
-    told = ap (λ (o : Option (List Part)). write_accepted c.now c.association n ns values
+    told = ap (λ (o : Option (List Part)). observed_in_write c.now c.association n ns values
         (unwrap_or o [])) (no-write id) ∙ none-written c.now c.association n ns values;
   }
 
   -- what answers with one PDU, and tells of nothing
-  quiet-told : (m : Result Message MmsFault) (within : Bool) (x y : List ℕ)
-      → may_be_reported m ≡ false
-      → ((pdu : List ℕ) → message_accepted c.now c.association n m pdu ≡ [])
+  quiet-told : (m : Result MmsRequest MmsFault) (within : Bool) (x y : List ℕ)
+      → request_may_report m ≡ false
+      → ((pdu : List ℕ) → observed_in_request c.now c.association n m pdu ≡ [])
       → Told m (cond within (plain_answer x b) (plain_answer y b)).sent []
   quiet-told m true x y mute none =
       record { reports = []; response = x; is = refl; stands = rw mute refl; told = none x }
   quiet-told m false x y mute none =
       record { reports = []; response = y; is = refl; stands = rw mute refl; told = none y }
 
-  attributes-told : (id : ℕ) (name : Naming) (row : Option ℕ)
+  attributes-told : (id : ℕ) (name : MmsName) (row : Option ℕ)
       → Told (Ok (confirmed id (attributes name))) (attributes_answer c id b row).sent []
   attributes-told id name None =
       record {
@@ -361,7 +361,7 @@ module _ (c : ClientContext) (small : c.size ≤ 65000) (n b : Bay) (alike : Are
   attributes-told id name (Some place) =
       quiet-told (Ok (confirmed id (attributes name))) _ _ _ refl (λ pdu. refl)
 
-  service-told : (id : ℕ) (asking : Asking)
+  service-told : (id : ℕ) (asking : ServiceRequest)
       → Told (Ok (confirmed id asking)) (service_answer c id b asking).sent
       (service_entries c id b asking)
   service-told id identify = quiet-told (Ok (confirmed id identify)) _ _ _ refl (λ pdu. refl)
@@ -371,7 +371,7 @@ module _ (c : ClientContext) (small : c.size ≤ 65000) (n b : Bay) (alike : Are
   service-told id (read ns) = read-told id ns _ refl
   service-told id (write ns values) = write-told id ns values _ refl
 
-  message-told : (m : Result Message MmsFault)
+  message-told : (m : Result MmsRequest MmsFault)
       → Told m (answer_of c b m).sent (message_entries c b m)
   message-told (Ok (initiate proposal)) =
       record { reports = []; response = _; is = refl; stands = refl; told = refl }
@@ -391,21 +391,21 @@ module _ (c : ClientContext) (small : c.size ≤ 65000) (n b : Bay) (alike : Are
 -- leaves those behind them.
 pub response-tells : (c : ClientContext) (pdu : List ℕ) (n b : Bay) (later : List (List ℕ))
     → c.size ≤ 65000 → AreNamedAlike n b
-    → (accepted_in c.now c.association pdu n
-    (first_response (may_be_reported (answer_to pdu)) ((pdu_answer c pdu b).sent ++ later)).0
-    ≡ entries_in c pdu b)
-    × ((first_response (may_be_reported (answer_to pdu)) ((pdu_answer c pdu b).sent ++ later)).1
+    → (observed_in_pdu c.now c.association pdu n
+    (first_response (request_may_report (request_in pdu)) ((pdu_answer c pdu b).sent ++ later)).0
+    ≡ entries_on_pdu c pdu b)
+    × ((first_response (request_may_report (request_in pdu)) ((pdu_answer c pdu b).sent ++ later)).1
     ≡ later)
 response-tells c pdu n b later small alike =
-    let t : IsTold c.now c.association n (answer_to pdu) (pdu_answer c pdu b).sent
-    (entries_in c pdu b) = message-told c small n b alike (answer_to pdu) in
-    let first : first_response (may_be_reported (answer_to pdu))
+    let t : IsTold c.now c.association n (request_in pdu) (pdu_answer c pdu b).sent
+    (entries_on_pdu c pdu b) = message-told c small n b alike (request_in pdu) in
+    let first : first_response (request_may_report (request_in pdu))
     ((pdu_answer c pdu b).sent ++ later)
     ≡ (t.response, later) =
-    ap (λ (sent : List (List ℕ)). first_response (may_be_reported (answer_to pdu)) (sent ++ later))
+    ap (λ (sent : List (List ℕ)). first_response (request_may_report (request_in pdu)) (sent ++ later))
     t.is
-    ∙ first-is (may_be_reported (answer_to pdu)) t.reports later t.response t.stands in (
-      ap (λ (r : (List ℕ) × List (List ℕ)). accepted_in c.now c.association pdu n r.0) first
+    ∙ first-is (request_may_report (request_in pdu)) t.reports later t.response t.stands in (
+      ap (λ (r : (List ℕ) × List (List ℕ)). observed_in_pdu c.now c.association pdu n r.0) first
           ∙ t.told,
       ap (λ (r : (List ℕ) × List (List ℕ)). r.1) first,
     )
@@ -423,4 +423,4 @@ pub alike-after : (n : Bay) (c : ClientContext) (pdu : List ℕ) (b : Bay) → A
 alike-after n c pdu b alike =
     answer-by c b (λ entries x. AreNamedAlike n x.after) (λ pdu few. alike)
     (λ id ns is. alike-still n b _ alike) (λ id ns values is. alike-still n b _ alike)
-    (answer_to pdu)
+    (request_in pdu)

@@ -8,13 +8,13 @@ use Rattle.bay_tree.specs.Rows.{name_at, names_of, row_index}
 use Rattle.bay_tree.specs.declared.row.Row.{Row}
 use Rattle.bay_tree.proofs.SearchLemmas.{place_of-found}
 use Rattle.bay_nodes.specs.Names.{control_names}
-use Rattle.bay_mms.specs.Pages.{NamesText, text_of_names}
+use Rattle.bay_mms.specs.Pages.{NameTextsData, encoded_names}
 use Rattle.bay_process.proofs.NodeLemmas.{control-rows-stay}
 use Rattle.bay_process.specs.Controls.{AreAllControlRows, AreControlRows}
 use Rattle.bay_process.specs.declared.controls.ControlRows.{ControlRows}
-use Rattle.bay_process.specs.Layout.{Layout, layout_of, name_in}
-use Rattle.bay_mms_services.specs.Places.{IsFound, is_row, part_by}
-use Rattle.bay_mms_services.specs.Targets.{control_name, or_later, part_at, target_from, target_of}
+use Rattle.bay_process.specs.Layout.{Layout, layout_of, row_name_in}
+use Rattle.bay_mms_services.specs.RowParts.{IsFirstNamed, is_row, part_of_row}
+use Rattle.bay_mms_services.specs.Targets.{control_name, or_later, part_named, target_from, target_of}
 use Rattle.bay_mms_services.specs.declared.target.ControlPart.{ControlPart}
 use Rattle.bay_mms_services.specs.declared.target.ControlPart.TheVariants.{Select, SelectWith, Operate, Cancel}
 
@@ -57,7 +57,7 @@ place-test rows row name handle at first =
 
 pub part-named : (rows : List Row) (k : ℕ) (control : ControlRows) (handle : ℕ)
     → AreControlRows rows (control_names k) control → IsFirst rows handle
-    → part_by control handle ≡ part_at k (name_at rows handle)
+    → part_of_row control handle ≡ part_named k (name_at rows handle)
 part-named rows k control handle names first =
     let t = place-test rows control.select (control_name k Select) handle names.select first in
     let u = place-test rows control.select_with_value (control_name k SelectWith) handle
@@ -68,13 +68,13 @@ part-named rows k control handle names first =
 
 -- the first of the targets from a place on
 pub target-here : (k count : ℕ) (name : List ℕ) (part : ControlPart) → 0 < count
-    → part_at k name ≡ Some part
+    → part_named k name ≡ Some part
     → target_from k count name ≡ Some (record { switch = k; part = part })
 target-here k zero name part some is = absurd (omega arith)
 target-here k (suc count) name part some is =
     ap (λ p. or_later k p (target_from (k + 1) count name)) is
 
-pub target-later : (k count less : ℕ) (name : List ℕ) → count ≡ suc less → part_at k name ≡ None
+pub target-later : (k count less : ℕ) (name : List ℕ) → count ≡ suc less → part_named k name ≡ None
     → target_from k count name ≡ target_from (k + 1) less name
 target-later k count less name one is =
     ap (λ n. target_from k n name) one ∙ ap (λ p. or_later k p (target_from (k + 1) less name)) is
@@ -82,12 +82,12 @@ target-later k count less name one is =
 -- ---- rows and their layout
 
 pub found-named : (rows : List Row) (name : List ℕ) (row : ℕ) → row_index rows name ≡ Some row
-    → IsFound rows row
+    → IsFirstNamed rows row
 found-named rows name row at =
     let found = place_of-found rows name row at in
     record { there = found.0; first = ap (row_index rows) found.1 ∙ at }
 
-pub name-here : (rows : List Row) (row : ℕ) → name_in (layout_of rows) row ≡ name_at rows row
+pub name-here : (rows : List Row) (row : ℕ) → row_name_in (layout_of rows) row ≡ name_at rows row
 name-here rows row = get_or-map (λ (r : Row). r.name) rows row (record { name = []; leaf = None })
 
 pub target-there : (count total : ℕ) (name : List ℕ) → count ≡ total
@@ -98,13 +98,13 @@ target-there count total name is = ap (λ n. target_of n name) is
 
 -- the row of a name has it
 pub selected-named : (rows : List Row) (row : ℕ) (name : List ℕ) → row_index rows name ≡ Some row
-    → name_in (layout_of rows) row ≡ name
+    → row_name_in (layout_of rows) row ≡ name
 selected-named rows row name at = name-here rows row ∙ (place_of-found rows name row at).1
 
 -- the texts of the names of a tree are those of a tree of the same layout
-pub names-kept : (rows old : List Row) (names : NamesText) → layout_of old ≡ layout_of rows
-    → names ≡ text_of_names (names_of old) → names ≡ text_of_names (names_of rows)
-names-kept rows old names same is = is ∙ ap (λ (l : Layout). text_of_names l.names) same
+pub names-kept : (rows old : List Row) (names : NameTextsData) → layout_of old ≡ layout_of rows
+    → names ≡ encoded_names (names_of old) → names ≡ encoded_names (names_of rows)
+names-kept rows old names same is = is ∙ ap (λ (l : Layout). encoded_names l.names) same
 
 -- a control's rows stay where they are in a tree of the same layout
 pub rows-kept : (rows old : List Row) (controls : List ControlRows) → layout_of old ≡ layout_of rows

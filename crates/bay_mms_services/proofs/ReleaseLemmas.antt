@@ -3,11 +3,11 @@ use Rattle.std.proofs.Common.{◌≡◌, ◌≢◌, ◌≤◌, ℕ, zero, suc, �
 use Rattle.std.proofs.lemmas.Bool.{not-false}
 use Rattle.std.specs.List.{AllByRecursion}
 use Rattle.std.proofs.lemmas.Bool.Decides.{nat_tests}
-use Rattle.bay_tree.specs.Rows.{leaf_of}
+use Rattle.bay_tree.specs.Rows.{leaf_named}
 use Rattle.bay_base.specs.declared.switch.Operation.{Operation}
 use Rattle.bay_base.specs.declared.switch.Operation.TheVariants.{Open, Close}
 use Rattle.bay_process.specs.Values.{is_truth}
-use Rattle.bay_control.specs.Decisions.{Outcome, State, controls_at, answer_of, cancel_outcome, execution_at, is_executing, is_over_at, operate_outcome, other_is_executing, rows_of_operate, select_with_outcome}
+use Rattle.bay_control.specs.Decisions.{Outcome, State, controls_at, answer_of, cancel_outcome, execution_at, is_executing, is_expired_at, operate_outcome, other_is_executing, rows_of_operate, select_with_outcome}
 use Rattle.bay_control.specs.Decisions.{Row as DecisionRow}
 use Rattle.bay_control.specs.Requests.{control_of, is_controlled, is_released}
 use Rattle.bay_control.specs.declared.cause.AddCause.{AddCause}
@@ -18,16 +18,16 @@ use Rattle.bay_control.specs.declared.selection.Execution.{Execution}
 use Rattle.bay_mms.specs.Controls as asked
 use Rattle.bay_mms.specs.Controls.{Control}
 use Rattle.bay_mms.specs.Data.{Datum}
-use Rattle.bay_mms.specs.Grammar.{answer_to}
-use Rattle.bay_mms.specs.Requests.{Naming, Message}
+use Rattle.bay_mms.specs.Grammar.{request_in}
+use Rattle.bay_mms.specs.Requests.{MmsName, MmsRequest}
 use Rattle.bay_mms.specs.declared.fault.MmsFault.{MmsFault}
-use Rattle.bay_mms_services.specs.Answers.{Answered, answer_of as answer-of, pdu_answer}
+use Rattle.bay_mms_services.specs.Answers.{AnswerData, answer_of as answer-of, pdu_answer}
 use Rattle.bay_mms_services.specs.Bay.{Bay, with_controls}
-use Rattle.bay_mms_services.specs.Controls.{control_request_of, operation_of, view_of}
-use Rattle.bay_mms_services.specs.Reads.{Reading, nothing_read, read_all, read_one, read_row}
-use Rattle.bay_mms_services.specs.Released.{AreTimed, IsReleased, Leaves, enable_name}
+use Rattle.bay_mms_services.specs.Controls.{control_request_of, operation_of, decision_view}
+use Rattle.bay_mms_services.specs.Reads.{ReadState, initial_read, read_all, read_one, read_row}
+use Rattle.bay_mms_services.specs.Released.{HaveTravelTime, IsReleased, ChangesNoValue, enable_name}
 use Rattle.bay_mms_services.specs.Rows.{row_named}
-use Rattle.bay_mms_services.specs.Writes.{Writing, nothing_written, commands_for, after_decision, write_operate, write_all, write_one, write_row}
+use Rattle.bay_mms_services.specs.Writes.{WriteState, initial_write, operate_commands, after_decision, write_operate, write_all, write_one, write_row}
 use Rattle.bay_mms_services.specs.declared.answer.Command.{Command}
 use Rattle.bay_mms_services.specs.declared.client.ClientContext.{ClientContext}
 use Rattle.bay_mms_services.proofs.WalkLemmas.{answer-by, read-by, write-by}
@@ -37,7 +37,7 @@ use Rattle.bay_mms_services.specs.declared.target.ControlPart.TheVariants.{Selec
 -- ---- an execution that lasts
 
 lasting-if : (now : ℕ) (controls : List SwitchControl) (x e : Execution) (over : Bool)
-    → is_over_at now controls x ≡ over → cond over None (Some x) ≡ Some e
+    → is_expired_at now controls x ≡ over → cond over None (Some x) ≡ Some e
     → execution_at now controls (Some e) ≡ Some e
 lasting-if now controls x e true is h = absurd (cc)
 lasting-if now controls x e false is h =
@@ -48,7 +48,7 @@ lasting-if now controls x e false is h =
 pub lasting : (now : ℕ) (controls : List SwitchControl) (o : Option Execution) (e : Execution)
     → execution_at now controls o ≡ Some e → execution_at now controls (Some e) ≡ Some e
 lasting now controls None e h = absurd (cc)
-lasting now controls (Some x) e h = lasting-if now controls x e (is_over_at now controls x) refl h
+lasting now controls (Some x) e h = lasting-if now controls x e (is_expired_at now controls x) refl h
 
 -- no row of an answer that accepts refuses
 row-passed : (refuses : Bool) (cause : AddCause) (rest : Result (Unit {0}) AddCause)
@@ -162,7 +162,7 @@ at-most-one now (x ∷ y ∷ more) s single = absurd single
 
 -- where each switch takes some time
 pub record Sole (now : ℕ) (commands : List Command) (s : State) : Type 0 where
-  pub timed : AreTimed s.controls
+  pub timed : HaveTravelTime s.controls
   pub single : Single now commands s
 
 sole-still : (now : ℕ) (commands : List Command) (s t : State) → s.controls ≡ t.controls
@@ -174,7 +174,7 @@ sole-still now commands s t same busy sole =
     }
 
 -- an operate lasts beyond its moment
-starting : (now k : ℕ) (operation : Operation) (controls : List SwitchControl) → AreTimed controls
+starting : (now k : ℕ) (operation : Operation) (controls : List SwitchControl) → HaveTravelTime controls
     → is_controlled (control_of controls k).model ≡ true
     → execution_at now controls (Some (record { switch = k; start = now; operation = operation }))
     ≡ Some (record { switch = k; start = now; operation = operation })
@@ -187,14 +187,14 @@ starting now k operation controls timed controlled =
 
 -- ---- bays
 
-pub leaves-none : (now : ℕ) (b : Bay) → Leaves now b b
+pub leaves-none : (now : ℕ) (b : Bay) → ChangesNoValue now b b
 leaves-none now b = record { rows = refl; busy = λ e h. h }
 
 pub leaves-with : (now : ℕ) (b : Bay) (x : State) → Busies now b.controls x
-    → Leaves now b (with_controls x b)
+    → ChangesNoValue now b (with_controls x b)
 leaves-with now b x busy = record { rows = refl; busy = busy }
 
-pub leaves-then : (now : ℕ) (b d e : Bay) → Leaves now b d → Leaves now d e → Leaves now b e
+pub leaves-then : (now : ℕ) (b d e : Bay) → ChangesNoValue now b d → ChangesNoValue now d e → ChangesNoValue now b e
 leaves-then now b d e p q =
     record { rows = q.rows ∙ p.rows; busy = λ x h. q.busy x (p.busy x h) }
 
@@ -209,7 +209,7 @@ selects-none : (now : ℕ) (s : State) → Selects now s s
 selects-none now s = record { same = refl; busy = λ e h. h }
 
 module _ (c : ClientContext) (b : Bay) where
-  read-row-selects : (s : State) (r : Reading) (row : Option ℕ) → Selects c.now s r.controls
+  read-row-selects : (s : State) (r : ReadState) (row : Option ℕ) → Selects c.now s r.controls
       → Selects c.now s (read_row c b r row).controls
   read-row-selects s r row p =
       read-by c b r (λ asks asked next. Selects c.now s next.controls) (λ place. p) p
@@ -218,7 +218,7 @@ module _ (c : ClientContext) (b : Bay) where
         busy = λ e h. busy-still c.now r.controls e (p.busy e h);
       }) row
 
-  read-all-selects : (s : State) (ns : List Naming) (r : Reading) → Selects c.now s r.controls
+  read-all-selects : (s : State) (ns : List MmsName) (r : ReadState) → Selects c.now s r.controls
       → Selects c.now s (read_all c b ns r).controls
   read-all-selects s [] r p = p
   read-all-selects s (name ∷ ns) r p =
@@ -226,10 +226,10 @@ module _ (c : ClientContext) (b : Bay) where
 
 -- ---- a write
 
-record Kept (c : ClientContext) (b : Bay) (w : Writing) : Type 0 where
+record Kept (c : ClientContext) (b : Bay) (w : WriteState) : Type 0 where
   busy : Busies c.now b.controls w.controls
   released : AllByRecursion (IsReleased c b) w.commands
-  sole : AreTimed b.controls.controls → Sole c.now w.commands w.controls
+  sole : HaveTravelTime b.controls.controls → Sole c.now w.commands w.controls
 
 both : (c : ClientContext) (b : Bay) (first more : List Command)
     → AllByRecursion (IsReleased c b) first
@@ -239,8 +239,8 @@ both c b (x ∷ first) more p q = (p.0, both c b first more p.1 q)
 
 -- what a decision saw released stands in the tree
 enabled-now : (c : ClientContext) (b : Bay) (k : ℕ) (operation : Operation)
-    → is_released operation (view_of c k b) ≡ true
-    → is_truth true (leaf_of (enable_name k operation) b.rows) ≡ true
+    → is_released operation (decision_view c k b) ≡ true
+    → is_truth true (leaf_named (enable_name k operation) b.rows) ≡ true
 enabled-now c b k Open h = h
 enabled-now c b k Close h = h
 
@@ -253,47 +253,47 @@ idle-now now s t (Some e) busy none is =
 
 module _ (c : ClientContext) (b : Bay) (s : State) (k : ℕ) (o : asked.Operate) where
   outcome : Outcome
-  outcome = operate_outcome c.association k (control_request_of o) (view_of c k b) c.now s
+  outcome = operate_outcome c.association k (control_request_of o) (decision_view c k b) c.now s
 
   released-by : Busies c.now b.controls s → is_ok outcome.answer ≡ true
       → IsReleased c b (record { switch = k; operation = operation_of o.control.ctl_val })
   unfolding outcome
   released-by busy ok =
       let seen =
-      saw c.association k (control_request_of o) (view_of c k b) (controls_at c.now s) ok in
+      saw c.association k (control_request_of o) (decision_view c k b) (controls_at c.now s) ok in
       record {
         heard = seen.heard;
         remote = seen.remote;
         fresh = not-false c.fresh seen.fresh;
         enabled =
             enabled-now c b k (operation_of o.control.ctl_val)
-            (not-false (is_released (operation_of o.control.ctl_val) (view_of c k b))
+            (not-false (is_released (operation_of o.control.ctl_val) (decision_view c k b))
             seen.released);
         idle = idle-now c.now b.controls s (controls_at c.now b.controls).execution busy seen.idle
             refl;
       }
 
   commands-released : (answer : Result (Unit {0}) AddCause) → Busies c.now b.controls s
-      → outcome.answer ≡ answer → AllByRecursion (IsReleased c b) (commands_for k o answer)
+      → outcome.answer ≡ answer → AllByRecursion (IsReleased c b) (operate_commands k o answer)
   commands-released (Ok done) busy is = (released-by busy (ap is_ok is), tt)
   commands-released (Err why) busy is = tt
 
   idle-operated : (answer : Result (Unit {0}) AddCause) → outcome.answer ≡ answer
-      → AllByRecursion (λ (x : Command). IsIdle c.now s) (commands_for k o answer)
+      → AllByRecursion (λ (x : Command). IsIdle c.now s) (operate_commands k o answer)
   unfolding outcome
   idle-operated (Ok done) is = (
-    (saw c.association k (control_request_of o) (view_of c k b) (controls_at c.now s)
+    (saw c.association k (control_request_of o) (decision_view c k b) (controls_at c.now s)
         (ap is_ok is)).idle,
     tt,
   )
   idle-operated (Err why) is = tt
 
-  single-operated : (answer : Result (Unit {0}) AddCause) → AreTimed s.controls
-      → outcome.answer ≡ answer → Single c.now (commands_for k o answer) outcome.after
+  single-operated : (answer : Result (Unit {0}) AddCause) → HaveTravelTime s.controls
+      → outcome.answer ≡ answer → Single c.now (operate_commands k o answer) outcome.after
   unfolding outcome
   single-operated (Ok done) timed is =
       let seen =
-      saw c.association k (control_request_of o) (view_of c k b) (controls_at c.now s) (ap is_ok is)
+      saw c.association k (control_request_of o) (decision_view c k b) (controls_at c.now s) (ap is_ok is)
       in
       let e : Execution =
       record { switch = k; start = c.now; operation = operation_of o.control.ctl_val } in
@@ -307,7 +307,7 @@ module _ (c : ClientContext) (b : Bay) (s : State) (k : ℕ) (o : asked.Operate)
       )
   single-operated (Err why) timed is = tt
 
-kept-nothing : (c : ClientContext) (b : Bay) → Kept c b (nothing_written b)
+kept-nothing : (c : ClientContext) (b : Bay) → Kept c b (initial_write b)
 kept-nothing c b =
     record {
       busy = λ e h. h;
@@ -316,7 +316,7 @@ kept-nothing c b =
     }
 
 kept-decided : (c : ClientContext) (b : Bay) (k : ℕ) (part : ControlPart) (item : List ℕ)
-    (control : Control) (o : Outcome) (w : Writing) → w.controls.controls ≡ o.after.controls
+    (control : Control) (o : Outcome) (w : WriteState) → w.controls.controls ≡ o.after.controls
     → Kept c b w → Busies c.now w.controls o.after
     → Kept c b (after_decision c b k part item control o w)
 kept-decided c b k part item control o w same kept busy = record {
@@ -325,33 +325,33 @@ kept-decided c b k part item control o w same kept busy = record {
   sole = λ timed. sole-still c.now w.commands w.controls o.after same busy (kept.sole timed);
 }
 
-kept-operate : (c : ClientContext) (b : Bay) (k : ℕ) (item : List ℕ) (w : Writing)
+kept-operate : (c : ClientContext) (b : Bay) (k : ℕ) (item : List ℕ) (w : WriteState)
     (o : asked.Operate)
     → Kept c b w → Kept c b (write_operate c b k item w (Ok o))
 unfolding outcome
 kept-operate c b k item w o kept =
     let out =
-    operate_outcome c.association k (control_request_of o) (view_of c k b) c.now w.controls in
+    operate_outcome c.association k (control_request_of o) (decision_view c k b) c.now w.controls in
     let busy : Busies c.now w.controls out.after =
-    busy-operated c.now k c.association (control_request_of o) (view_of c k b) w.controls
+    busy-operated c.now k c.association (control_request_of o) (decision_view c k b) w.controls
     (is_ok out.answer) refl in
     record {
       busy = λ e h. busy e (kept.busy e h);
       released =
-          both c b w.commands (commands_for k o out.answer) kept.released
+          both c b w.commands (operate_commands k o out.answer) kept.released
           (commands-released c b w.controls k o out.answer kept.busy refl);
       sole = λ timed.
           let before = kept.sole timed in
           record {
             timed = before.timed;
             single =
-                single-joined c.now w.commands (commands_for k o out.answer) w.controls
+                single-joined c.now w.commands (operate_commands k o out.answer) w.controls
                 out.after busy (idle-operated c b w.controls k o out.answer refl) before.single
                 (single-operated c b w.controls k o out.answer before.timed refl);
           };
     }
 
-kept-row : (c : ClientContext) (b : Bay) (given : Datum) (w : Writing) (row : Option ℕ) → Kept c b w
+kept-row : (c : ClientContext) (b : Bay) (given : Datum) (w : WriteState) (row : Option ℕ) → Kept c b w
     → Kept c b (write_row c b given w row)
 kept-row c b given w row kept =
     write-by c b w (λ asks asked next. Kept c b next)
@@ -364,7 +364,7 @@ kept-row c b given w row kept =
     (cancel_outcome c.association k c.now w.controls) w refl kept (busy-still c.now w.controls))
     given row
 
-kept-all : (c : ClientContext) (b : Bay) (ns : List Naming) (values : List Datum) (w : Writing)
+kept-all : (c : ClientContext) (b : Bay) (ns : List MmsName) (values : List Datum) (w : WriteState)
     → Kept c b w → Kept c b (write_all c b ns values w)
 kept-all c b [] values w kept = kept
 kept-all c b (name ∷ ns) [] w kept = kept
@@ -374,12 +374,12 @@ kept-all c b (name ∷ ns) (given ∷ values) w kept =
 
 -- ---- an answer
 
-record Does (c : ClientContext) (b : Bay) (x : Answered) : Type 0 where
-  leaves : Leaves c.now b x.after
+record Does (c : ClientContext) (b : Bay) (x : AnswerData) : Type 0 where
+  leaves : ChangesNoValue c.now b x.after
   released : AllByRecursion (IsReleased c b) x.commands
-  sole : AreTimed b.controls.controls → Sole c.now x.commands x.after.controls
+  sole : HaveTravelTime b.controls.controls → Sole c.now x.commands x.after.controls
 
-does-answer : (c : ClientContext) (b : Bay) (m : Result Message MmsFault)
+does-answer : (c : ClientContext) (b : Bay) (m : Result MmsRequest MmsFault)
     → Does c b (answer-of c b m)
 does-answer c b m =
     answer-by c b (λ entries x. Does c b x)
@@ -389,14 +389,14 @@ does-answer c b m =
       sole = λ timed. record { timed = timed; single = tt };
     })
     (λ id ns is. let kept =
-    read-all-selects c b b.controls ns (nothing_read b) (selects-none c.now b.controls) in
+    read-all-selects c b b.controls ns (initial_read b) (selects-none c.now b.controls) in
     record {
       leaves = leaves-with c.now b _ kept.busy;
       released = tt;
       sole = λ timed. record { timed = rw (← kept.same) timed; single = tt };
     })
     (λ id ns values is. let kept =
-    kept-all c b ns values (nothing_written b) (kept-nothing c b) in
+    kept-all c b ns values (initial_write b) (kept-nothing c b) in
     record {
       leaves = leaves-with c.now b _ kept.busy;
       released = kept.released;
@@ -409,16 +409,16 @@ all-of P (x ∷ xs) h zero d lt = h.0
 all-of P (x ∷ xs) h (suc k) d lt = all-of P xs h.1 k d (omega (arith, lt))
 
 pub request-leaves : (c : ClientContext) (pdu : List ℕ) (b : Bay)
-    → Leaves c.now b (pdu_answer c pdu b).after
-request-leaves c pdu b = (does-answer c b (answer_to pdu)).leaves
+    → ChangesNoValue c.now b (pdu_answer c pdu b).after
+request-leaves c pdu b = (does-answer c b (request_in pdu)).leaves
 
 pub commands-each : (c : ClientContext) (pdu : List ℕ) (b : Bay)
     → AllByRecursion (IsReleased c b) (pdu_answer c pdu b).commands
-commands-each c pdu b = (does-answer c b (answer_to pdu)).released
+commands-each c pdu b = (does-answer c b (request_in pdu)).released
 
-pub commands-sole : (c : ClientContext) (pdu : List ℕ) (b : Bay) → AreTimed b.controls.controls
+pub commands-sole : (c : ClientContext) (pdu : List ℕ) (b : Bay) → HaveTravelTime b.controls.controls
     → Sole c.now (pdu_answer c pdu b).commands (pdu_answer c pdu b).after.controls
-commands-sole c pdu b timed = (does-answer c b (answer_to pdu)).sole timed
+commands-sole c pdu b timed = (does-answer c b (request_in pdu)).sole timed
 
 -- each was given while no switch was operating
 idle-each : (c : ClientContext) (b : Bay) (commands : List Command)
@@ -442,7 +442,7 @@ sole-said c pdu b before sole =
           sole.single later.single;
     }
 
-pub one-command : (c : ClientContext) (pdu : List ℕ) (b : Bay) → AreTimed b.controls.controls
+pub one-command : (c : ClientContext) (pdu : List ℕ) (b : Bay) → HaveTravelTime b.controls.controls
     → length (pdu_answer c pdu b).commands ≤ 1
 one-command c pdu b timed =
     at-most-one c.now (pdu_answer c pdu b).commands (pdu_answer c pdu b).after.controls
@@ -464,4 +464,4 @@ one-sent pdu e = cc
 pub answer-sent : (c : ClientContext) (pdu : List ℕ) (b : Bay) → (pdu_answer c pdu b).sent ≢ []
 answer-sent c pdu b =
     answer-by c b (λ entries x. x.sent ≢ []) (λ pdu few. one-sent pdu) (λ id ns is. one-sent _)
-    (λ id ns values is. snoc-some _ _) (answer_to pdu)
+    (λ id ns values is. snoc-some _ _) (request_in pdu)

@@ -1,7 +1,7 @@
 -- Answers within the size of a PDU.
 use Rattle.std.proofs.Common.{◌≡◌, ◌<◌, ◌≤◌, ℕ, Bool, true, false, cond, nat_le, List, ◌++◌, length, Option, Some, None, Result, Ok, Err, IfOk, IfSome, OnOk, IfErr, ◌⊎◌, inl, inr, pos, is_ok, refl, ap, sym, subst, ◌∙◌, arith}
 use Rattle.std.proofs.lemmas.Bool.{cases_lt, le-leb, lt-leb}
-use Rattle.bay_base.specs.Exact.{Gives}
+use Rattle.bay_base.specs.Exact.{ExactOr}
 use Rattle.bay_ber.proofs.SheetLemmas.{past, fits as fits_limit}
 use Rattle.std.specs.declared.alloc.AllocError.{AllocError}
 use Rattle.std.proofs.lemmas.List.{length-append}
@@ -14,14 +14,14 @@ use Rattle.bay_mms.specs.Responses.{error_text, read_text, write_text}
 use Rattle.bay_mms.specs.declared.fault.EncodeFault.{EncodeFault}
 use Rattle.bay_mms.specs.declared.fault.EncodeFault.TheVariants.{TooLong, OutOfMemory}
 use Rattle.bay_mms.specs.declared.response.ErrorClass.TheVariants.{Resource}
-use Rattle.bay_mms.specs.Writing.{Adds, text_within}
-use Rattle.bay_mms_services.specs.Answers.{Answered, answer_from_reading, response_answer, plain_answer, one_pdu_answer, answer_within_size, answer_from_writing}
+use Rattle.bay_mms.specs.Writing.{AppendsWithin, text_within}
+use Rattle.bay_mms_services.specs.Answers.{AnswerData, answer_from_reading, response_answer, plain_answer, one_pdu_answer, answer_within_size, answer_from_writing}
 use Rattle.bay_control.specs.Decisions.{State}
 use Rattle.bay_mms_services.specs.Bay.{Bay, with_controls}
-use Rattle.bay_mms_services.specs.Reads.{Reading}
+use Rattle.bay_mms_services.specs.Reads.{ReadState}
 use Rattle.bay_mms_services.specs.Replies.{pdu_within_size}
 use Rattle.bay_mms_services.specs.Views.{AnswersAs}
-use Rattle.bay_mms_services.specs.Writes.{Writing}
+use Rattle.bay_mms_services.specs.Writes.{WriteState}
 use Rattle.bay_mms_services.specs.declared.answer.PduAnswer.{PduAnswer}
 use Rattle.bay_mms_services.specs.declared.answer.ControlDecision.{ControlDecision}
 use Rattle.bay_mms_services.specs.declared.client.ClientContext.{ClientContext}
@@ -46,32 +46,32 @@ pub over : (size : ℕ) (pdu : List ℕ) → pdu_within_size size pdu ≡ None
 over size pdu is = over-if (nat_le (length pdu) size) pdu is
 
 pub within-fits : (c : ClientContext) (id : ℕ) (b : Bay) (response found : List ℕ)
-    (answer : Answered)
+    (answer : AnswerData)
     → pdu_within_size c.size response ≡ Some found
     → answer_within_size c id b response answer ≡ answer
 within-fits c id b response found answer is =
     ap (λ t. cond t answer (plain_answer (error_text id Resource) b))
     (fits c.size response found is).0
 
-pub within-over : (c : ClientContext) (id : ℕ) (b : Bay) (response : List ℕ) (answer : Answered)
+pub within-over : (c : ClientContext) (id : ℕ) (b : Bay) (response : List ℕ) (answer : AnswerData)
     → pdu_within_size c.size response ≡ None
     → answer_within_size c id b response answer ≡ plain_answer (error_text id Resource) b
 within-over c id b response answer is =
     ap (λ t. cond t answer (plain_answer (error_text id Resource) b)) (over c.size response is)
 
-pub read-over : (c : ClientContext) (id : ℕ) (b : Bay) (r : Reading) (was : Option (List ℕ))
+pub read-over : (c : ClientContext) (id : ℕ) (b : Bay) (r : ReadState) (was : Option (List ℕ))
     → was ≡ pdu_within_size c.size (read_text id r.results) → was ≡ None
     → answer_from_reading c id b r ≡ plain_answer (error_text id Resource) b
 read-over c id b r was is none = within-over c id b (read_text id r.results) _ (sym is ∙ none)
 
-pub write-over : (c : ClientContext) (id : ℕ) (b : Bay) (w : Writing) (was : Option (List ℕ))
+pub write-over : (c : ClientContext) (id : ℕ) (b : Bay) (w : WriteState) (was : Option (List ℕ))
     → was ≡ pdu_within_size c.size (write_text id w.results) → was ≡ None
     → answer_from_writing c id b w ≡ plain_answer (error_text id Resource) b
 write-over c id b w was is none = within-over c id b (write_text id w.results) _ (sym is ∙ none)
 
 -- ---- answers
 
-pub said_as : (r : Result PduAnswer AllocError) (p : List ℕ) (b : Bay) (x : Answered)
+pub said_as : (r : Result PduAnswer AllocError) (p : List ℕ) (b : Bay) (x : AnswerData)
     → IfOk r (λ a. (d : Bay) → AnswersAs a d.controls d (plain_answer p d)) → x ≡ plain_answer p b
     → IfOk r (λ a. AnswersAs a b.controls b x)
 said_as (Ok a) p b x told is = subst (AnswersAs a b.controls b) (sym is) (told b)
@@ -79,7 +79,7 @@ said_as (Err e) p b x told is = tt
 
 pub said-with : (r : Result PduAnswer AllocError) (p : List ℕ) (ds : List ControlDecision)
     (o : State)
-    (b : Bay) (x : Answered)
+    (b : Bay) (x : AnswerData)
     → IfOk r (λ a. (d : Bay) → AnswersAs a d.controls d (one_pdu_answer p ds d))
     → x ≡ one_pdu_answer p ds (with_controls o b)
     → IfOk r (λ a. AnswersAs a o b x)
@@ -89,7 +89,7 @@ said-with (Ok a) p ds o b x told is =
       sent = plain.sent;
       commands = plain.commands;
       decisions = plain.decisions;
-      ending = plain.ending;
+      termination = plain.termination;
       left = refl;
     })
 said-with (Err e) p ds o b x told is = tt
@@ -105,7 +105,7 @@ pub responded-fits : (c : ClientContext) (id : ℕ) (b : Bay) (pdu found : List 
     (was : Option (List ℕ))
     → was ≡ pdu_within_size c.size pdu → was ≡ Some found
     → response_answer c id b pdu ≡ plain_answer found b
-responded-fits c id b pdu found was is some =
+answer_response-fits c id b pdu found was is some =
     let fit = sym is ∙ some in
     within-fits c id b pdu found (plain_answer pdu b) fit
     ∙ ap (λ p. plain_answer p b) (sym (fits c.size pdu found fit).1)
@@ -113,9 +113,9 @@ responded-fits c id b pdu found was is some =
 pub responded-over : (c : ClientContext) (id : ℕ) (b : Bay) (pdu : List ℕ) (was : Option (List ℕ))
     → was ≡ pdu_within_size c.size pdu → was ≡ None
     → response_answer c id b pdu ≡ plain_answer (error_text id Resource) b
-responded-over c id b pdu was is none = within-over c id b pdu (plain_answer pdu b) (sym is ∙ none)
+answer_response-over c id b pdu was is none = within-over c id b pdu (plain_answer pdu b) (sym is ∙ none)
 
-pub read-fits : (c : ClientContext) (id : ℕ) (b : Bay) (r : Reading) (found : List ℕ)
+pub read-fits : (c : ClientContext) (id : ℕ) (b : Bay) (r : ReadState) (found : List ℕ)
     (was : Option (List ℕ)) → was ≡ pdu_within_size c.size (read_text id r.results)
     → was ≡ Some found
     → answer_from_reading c id b r ≡ one_pdu_answer found r.decisions (with_controls r.controls b)
@@ -139,12 +139,12 @@ mapped (Err e) P R p f = tt
 
 -- what follows from the octets that were added holds of a success
 pub added : (r : Result (Unit {0}) EncodeFault) (size : ℕ) (old new text : List ℕ) (P : Type 0)
-    → Adds size old r new text → (new ≡ old ++ text → P) → OnOk r P
+    → AppendsWithin size old r new text → (new ≡ old ++ text → P) → OnOk r P
 added (Ok done) size old new text P adds f = f adds
 added (Err e) size old new text P adds f = tt
 
 pub too_long : (r : Result (Unit {0}) EncodeFault) (size : ℕ) (old new text : List ℕ) (P : Type 0)
-    → Adds size old r new text → (size < length (old ++ text) → P)
+    → AppendsWithin size old r new text → (size < length (old ++ text) → P)
     → IfErr r (λ fault. fault ≡ TooLong → P)
 too_long (Ok done) size old new text P adds f = tt
 too_long (Err TooLong) size old new text P adds f = λ is. f adds
@@ -186,14 +186,14 @@ long-given size pdu (inr is) =
 
 long-told : (made : Result (List ℕ) EncodeFault) (e : EncodeFault) (size : ℕ)
     (pdu : List ℕ) → made ≡ Err e → e ≡ TooLong
-    → Gives OutOfMemory (λ (octets : List ℕ). octets) made (text_within size pdu)
+    → ExactOr OutOfMemory (λ (octets : List ℕ). octets) made (text_within size pdu)
     → pdu_within_size size pdu ≡ None
 long-told made e size pdu is told gives = long-given size pdu (rw (is, told) at gives)
 
 pub lost-told : (r : Result (Option (List ℕ)) AllocError) (made : Result (List ℕ) EncodeFault)
     (e : EncodeFault) (size : ℕ) (pdu : List ℕ) → made ≡ Err e
     → IfOk r (λ found. (found ≡ None) × (e ≡ TooLong))
-    → Gives OutOfMemory (λ (octets : List ℕ). octets) made (text_within size pdu)
+    → ExactOr OutOfMemory (λ (octets : List ℕ). octets) made (text_within size pdu)
     → IfOk r (λ found. found ≡ pdu_within_size size pdu)
 lost-told (Ok found) made e size pdu is h gives =
     h.0 ∙ sym (long-told made e size pdu is h.1 gives)
@@ -232,7 +232,7 @@ pub all_three : (r : Result (Unit {0}) AllocError) (P Q S R : Type 0) → OnOk r
 all_three (Ok done) P Q S R p q s f = f p q s
 all_three (Err e) P Q S R p q s f = tt
 
-pub answered_from : (r : Result PduAnswer AllocError) (x : Bay → Answered) (b : Bay) (y : Answered)
+pub answered_from : (r : Result PduAnswer AllocError) (x : Bay → AnswerData) (b : Bay) (y : AnswerData)
     → IfOk r (λ a. (d : Bay) → AnswersAs a d.controls d (x d)) → y ≡ x b
     → IfOk r (λ a. AnswersAs a b.controls b y)
 answered_from (Ok a) x b y told is = subst (AnswersAs a b.controls b) (sym is) (told b)

@@ -6,16 +6,16 @@ use Rattle.bay_control.specs.declared.cause.AddCause.{AddCause}
 use Rattle.bay_mms.specs.Controls as asked
 use Rattle.bay_mms.specs.Controls.{Control}
 use Rattle.bay_mms.specs.Data.{Datum}
-use Rattle.bay_mms.specs.Requests.{Naming, Message}
+use Rattle.bay_mms.specs.Requests.{MmsName, MmsRequest}
 use Rattle.bay_mms.specs.Responses.{write_text}
 use Rattle.bay_mms.specs.declared.fault.MmsFault.{MmsFault}
-use Rattle.bay_mms_services.specs.Answers.{Answered, answer_of}
+use Rattle.bay_mms_services.specs.Answers.{AnswerData, answer_of}
 use Rattle.bay_mms_services.specs.Bay.{Bay}
 use Rattle.bay_mms_services.specs.Controls as controls
-use Rattle.bay_mms_services.specs.Controls.{IsShort, control_request_of, ending_of, endings, failed_report, has_reports, object_of, refusal_report, refusal_reports, termination_report, view_of}
+use Rattle.bay_mms_services.specs.Controls.{IsShort, control_request_of, termination_reports, accepted_termination, failed_report, has_reports, object_of, refusal_report, refusal_reports, termination_report, decision_view}
 use Rattle.bay_mms_services.specs.Replies.{pdu_within_size}
 use Rattle.bay_mms_services.specs.Rows.{row_named}
-use Rattle.bay_mms_services.specs.Writes.{Writing, after_decision, later_ending, nothing_written, write_operate, write_all, write_one, write_row}
+use Rattle.bay_mms_services.specs.Writes.{WriteState, after_decision, later_ending, initial_write, write_operate, write_all, write_one, write_row}
 use Rattle.bay_mms_services.specs.declared.answer.TerminationReports.{TerminationReports}
 use Rattle.bay_mms_services.specs.declared.client.ClientContext.{ClientContext}
 use Rattle.bay_mms_services.proofs.WalkLemmas.{answer-by, fits-size, write-by}
@@ -63,7 +63,7 @@ fitting-some size pdu true is most = fits-size size pdu most is
 fitting-some size pdu false is most = tt
 
 ending-short : (c : ClientContext) (item : List ℕ) (o : asked.Operate) (b : Bay) → c.size ≤ 65000
-    → controls.AreShort (ending_of c item o b)
+    → controls.AreShort (termination_reports c item o b)
 ending-short c item o b most = record {
   positive =
       fitting-some c.size (termination_report b.domain item o)
@@ -75,45 +75,45 @@ ending-short c item o b most = record {
 
 endings-if : (c : ClientContext) (item : List ℕ) (o : asked.Operate) (b : Bay) (t : Bool)
     → c.size ≤ 65000
-    → IsShort (cond t (Some (ending_of c item o b)) None)
+    → IsShort (cond t (Some (termination_reports c item o b)) None)
 endings-if c item o b true most = ending-short c item o b most
-endings-if c item o b false most = tt
+accepted_termination-if c item o b false most = tt
 
 endings-short : (c : ClientContext) (k : ℕ) (item : List ℕ) (o : asked.Operate) (b : Bay)
-    (answer : Result (Unit {0}) AddCause) → c.size ≤ 65000 → IsShort (endings c k item o b answer)
+    (answer : Result (Unit {0}) AddCause) → c.size ≤ 65000 → IsShort (accepted_termination c k item o b answer)
 endings-short c k item o b (Ok done) most = endings-if c item o b (has_reports b k) most
-endings-short c k item o b (Err why) most = tt
+accepted_termination-short c k item o b (Err why) most = tt
 
 later-short : (before later : Option TerminationReports) → IsShort before → IsShort later
     → IsShort (later_ending before later)
 later-short before None a b = a
-later-short before (Some ending) a b = b
+later-short before (Some termination) a b = b
 
 -- ---- what a write makes
 
-abbrev IsFit : Writing → Type 0
-IsFit w = AreShort w.reports × IsShort w.ending
+abbrev IsFit : WriteState → Type 0
+IsFit w = AreShort w.reports × IsShort w.termination
 
 module _ (c : ClientContext) (b : Bay) (most : c.size ≤ 65000) where
   decided-short : (k : ℕ) (part : ControlPart) (item : List ℕ) (control : Control) (o : Outcome)
-      (w : Writing) → IsFit w → IsFit (after_decision c b k part item control o w)
+      (w : WriteState) → IsFit w → IsFit (after_decision c b k part item control o w)
   decided-short k part item control o w short = (
     both-short w.reports (refusal_reports c k item control b o.answer) short.0
         (refusals-short c k item control b o.answer most),
     short.1,
   )
 
-  operate-short : (k : ℕ) (item : List ℕ) (w : Writing) (o : asked.Operate)
+  operate-short : (k : ℕ) (item : List ℕ) (w : WriteState) (o : asked.Operate)
       → IsFit w → IsFit (write_operate c b k item w (Ok o))
   operate-short k item w o short =
       let out =
-      operate_outcome c.association k (control_request_of o) (view_of c k b) c.now w.controls in (
+      operate_outcome c.association k (control_request_of o) (decision_view c k b) c.now w.controls in (
         (decided-short k Operate item o.control out w short).0,
-        later-short w.ending (endings c k item o b out.answer) short.1
+        later-short w.termination (accepted_termination c k item o b out.answer) short.1
             (endings-short c k item o b out.answer most),
       )
 
-  row-short : (given : Datum) (w : Writing) (row : Option ℕ) → IsFit w
+  row-short : (given : Datum) (w : WriteState) (row : Option ℕ) → IsFit w
       → IsFit (write_row c b given w row)
   row-short given w row short =
       write-by c b w (λ asks asked next. IsFit next) (λ error. short)
@@ -124,7 +124,7 @@ module _ (c : ClientContext) (b : Bay) (most : c.size ≤ 65000) where
       (cancel_outcome c.association k c.now w.controls) w short)
       given row
 
-  all-short : (ns : List Naming) (values : List Datum) (w : Writing) → IsFit w
+  all-short : (ns : List MmsName) (values : List Datum) (w : WriteState) → IsFit w
       → IsFit (write_all c b ns values w)
   all-short [] values w short = short
   all-short (n ∷ ns) [] w short = short
@@ -134,21 +134,21 @@ module _ (c : ClientContext) (b : Bay) (most : c.size ≤ 65000) where
 -- ---- all answers
 
 -- what is sent is short, and so are the reports of an end
-abbrev pub IsBrief : Answered → Type 0
-IsBrief x = AreShort x.sent × IsShort x.ending
+abbrev pub IsBrief : AnswerData → Type 0
+IsBrief x = AreShort x.sent × IsShort x.termination
 
-pub answer-brief : (c : ClientContext) (b : Bay) (m : Result Message MmsFault) → c.size ≤ 65000
+pub answer-brief : (c : ClientContext) (b : Bay) (m : Result MmsRequest MmsFault) → c.size ≤ 65000
     → IsBrief (answer_of c b m)
 answer-brief c b m most =
     answer-by c b (λ entries x. IsBrief x) (λ pdu few. (one-short pdu (few most), tt))
     (λ id ns is. (one-short _ (fits-size c.size _ most is), tt))
-    (λ id ns values is. let w = write_all c b ns values (nothing_written b) in
-    let all = all-short c b most ns values (nothing_written b) (none-long, tt) in (
+    (λ id ns values is. let w = write_all c b ns values (initial_write b) in
+    let all = all-short c b most ns values (initial_write b) (none-long, tt) in (
       both-short w.reports (write_text id w.results ∷ []) all.0
           (one-short _ (fits-size c.size (write_text id w.results) most is)),
       all.1,
     )) m
 
-pub answer-short : (c : ClientContext) (b : Bay) (x : Result Message MmsFault) → c.size ≤ 65000
+pub answer-short : (c : ClientContext) (b : Bay) (x : Result MmsRequest MmsFault) → c.size ≤ 65000
     → AreShort (answer_of c b x).sent
 answer-short c b x most = (answer-brief c b x most).0

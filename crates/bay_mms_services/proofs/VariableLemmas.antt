@@ -16,33 +16,33 @@ use Rattle.bay_tree.proofs.ArenaLemmas.{name_at-same, place_of-same}
 use Rattle.bay_control.specs.Acts as act
 use Rattle.bay_control.specs.Acts.{Act, Entry}
 use Rattle.bay_control.specs.Decisions.{Outcome, State, select_outcome}
-use Rattle.bay_control.specs.Happenings.{Call, act_of, entries_of, outcome_of}
+use Rattle.bay_control.specs.TimedCalls.{Call, act_of, entries_of, outcome_of}
 use Rattle.bay_control.specs.declared.cause.AddCause.{AddCause}
 use Rattle.bay_mms.specs.Code.{access_code_of}
 use Rattle.bay_mms.specs.Data.{Datum, datum_text}
 use Rattle.bay_mms.specs.Laws.{datum_tag, datum_content}
 use Rattle.bay_mms.specs.Nodes.{Node, data_at, node_at, node_datum, value as leaf-node, structure as rows-node}
-use Rattle.bay_mms.specs.Requests.{Naming, vmd, domain, association}
+use Rattle.bay_mms.specs.Requests.{MmsName, vmd, domain, association}
 use Rattle.bay_mms.specs.Responses.{failure_result, text_result}
 use Rattle.bay_ber.specs.Tags.{context}
 use Rattle.bay_mms.specs.declared.fault.DataAccessError.{DataAccessError}
 use Rattle.bay_mms.specs.declared.fault.DataAccessError.TheVariants.{ObjectAccessDenied, ObjectNonExistent}
 use Rattle.bay_mms.proofs.LawLemmas.{datum-spells}
-use Rattle.bay_mms_services.specs.Accepted.{AreNamedAlike, act_of_read, act_of_write, is_granted, is_some_text, is_success, read_accepted, write_accepted}
+use Rattle.bay_mms_services.specs.ObservedEntries.{AreNamedAlike, act_of_read, act_of_write, is_granted, is_some_text, is_success, observed_in_read, observed_in_write}
 use Rattle.bay_mms_services.specs.Bay.{Bay, client_rows}
 use Rattle.bay_mms_services.specs.Controls.{object_of}
-use Rattle.bay_mms_services.specs.Entries.{call_of_read, call_of_write, read_entries, entries_of_call, target_at, write_entries}
-use Rattle.bay_mms_services.specs.Reads.{Reading, read_all, read_one, read_row, selected_text, value_read}
+use Rattle.bay_mms_services.specs.Entries.{call_of_read, call_of_write, read_entries, entries_on_call, target_of_row, write_entries}
+use Rattle.bay_mms_services.specs.Reads.{ReadState, read_all, read_one, read_row, selected_text, read_after_value}
 use Rattle.bay_mms_services.specs.Rows.{row_named}
 use Rattle.bay_mms_services.specs.Targets.{target_of}
-use Rattle.bay_mms_services.specs.Writes.{Writing, write_cancel, decision_result, write_operate, write_select_with, write_all, write_failed, write_one, write_row}
+use Rattle.bay_mms_services.specs.Writes.{WriteState, write_cancel, decision_result, write_operate, write_select_with, write_all, write_after_error, write_one, write_row}
 use Rattle.bay_mms_services.specs.declared.client.ClientContext.{ClientContext}
 use Rattle.bay_mms_services.proofs.ReplyLemmas.{element-more}
 use Rattle.bay_mms_services.proofs.WalkLemmas.{read-by, write-by}
 
 -- ---- the names of variables
 
-row-alike : (b d : Bay) (name : Naming) → AreNamedAlike b d → row_named d name ≡ row_named b name
+row-alike : (b d : Bay) (name : MmsName) → AreNamedAlike b d → row_named d name ≡ row_named b name
 row-alike b d (vmd name) alike = refl
 row-alike b d (domain e item) alike =
     ap (λ (n : List ℕ). cond (bytes_eq e n) (row_index d.rows item) None) alike.domain
@@ -50,7 +50,7 @@ row-alike b d (domain e item) alike =
     (place_of-same d.rows b.rows item alike.names)
 row-alike b d (association name) alike = refl
 
-target-alike : (b d : Bay) (row : Option ℕ) → AreNamedAlike b d → target_at d row ≡ target_at b row
+target-alike : (b d : Bay) (row : Option ℕ) → AreNamedAlike b d → target_of_row d row ≡ target_of_row b row
 target-alike b d None alike = refl
 target-alike b d (Some place) alike =
     ap (λ (switches : List Switch). target_of (length switches) (name_at d.rows place))
@@ -58,10 +58,10 @@ target-alike b d (Some place) alike =
     ∙ ap (target_of (length b.switches)) (name_at-same d.rows b.rows place alike.names)
 
 -- the variable that is named is the same part of a control
-named-target : (b d : Bay) (name : Naming) → AreNamedAlike b d
-    → target_at d (row_named d name) ≡ target_at b (row_named b name)
+named-target : (b d : Bay) (name : MmsName) → AreNamedAlike b d
+    → target_of_row d (row_named d name) ≡ target_of_row b (row_named b name)
 named-target b d name alike =
-    ap (target_at d) (row-alike b d name alike) ∙ target-alike b d (row_named b name) alike
+    ap (target_of_row d) (row-alike b d name alike) ∙ target-alike b d (row_named b name) alike
 
 -- ---- results are spelled
 
@@ -115,7 +115,7 @@ record OneTold (c : ClientContext) (tells : Part → Bool) (asks : Option Act) (
   front : List ℕ
   is : after ≡ before ++ front
   spelled : length front < 4294967296 → Spells front part.tag part.content
-  told : entries_of c.now asks (tells part) ≡ entries_of_call c controls asked
+  told : entries_of c.now asks (tells part) ≡ entries_on_call c controls asked
 
 -- a variable that asks for nothing is answered with an error
 failure-told : (c : ClientContext) (tells : Part → Bool) (error : DataAccessError)
@@ -130,12 +130,12 @@ failure-told c tells error controls before = record {
   told = refl;
 }
 
-abbrev OneRead : ClientContext → Option Act → Option Call → Reading → Reading → Type 0
+abbrev OneRead : ClientContext → Option Act → Option Call → ReadState → ReadState → Type 0
 OneRead c asks asked r next =
     OneTold c is_granted asks asked r.controls r.results next.results
 
-data-read : (c : ClientContext) (b : Bay) (place : ℕ) (r : Reading)
-    → OneRead c None None r (value_read b place r)
+data-read : (c : ClientContext) (b : Bay) (place : ℕ) (r : ReadState)
+    → OneRead c None None r (read_after_value b place r)
 data-read c b place r =
     let rows : List Row = client_rows b r.controls in
     record {
@@ -155,9 +155,9 @@ granted-by : (b : Bay) (item : List ℕ) (answer : Result (Unit {0}) AddCause)
 granted-by b item (Ok done) = some-text b.domain item
 granted-by b item (Err why) = refl
 
-read-row-is : (c : ClientContext) (b : Bay) (r : Reading) (row : Option ℕ)
-    → OneRead c (act_of_read c.association (target_at b row))
-    (call_of_read c (target_at b row)) r (read_row c b r row)
+read-row-is : (c : ClientContext) (b : Bay) (r : ReadState) (row : Option ℕ)
+    → OneRead c (act_of_read c.association (target_of_row b row))
+    (call_of_read c (target_of_row b row)) r (read_row c b r row)
 read-row-is c b r row =
     read-by c b r (λ asks asked next. OneRead c asks asked r next) (λ place. data-read c b place r)
     (failure-told c is_granted ObjectNonExistent r.controls r.results)
@@ -201,7 +201,7 @@ one-more : (c : ClientContext) (tells : Part → Bool) (asks named : Option Act)
     → whole (part ∷ parts) ≡ entries_of c.now named (tells part) ++ accepted parts)
     → named ≡ asks → OneTold c tells asks asked controls before next
     → AllTold accepted entries next after
-    → AllTold whole (entries_of_call c controls asked ++ entries) before after
+    → AllTold whole (entries_on_call c controls asked ++ entries) before after
 one-more c tells asks named asked controls before next after whole accepted entries first same one
     rest =
     record {
@@ -223,12 +223,12 @@ one-more c tells asks named asked controls before next after whole accepted entr
     }
 
 -- what is accepted of variables that are read is told in their results
-abbrev pub AllRead : ClientContext → Bay → Bay → List Naming → Reading → Type 0
+abbrev pub AllRead : ClientContext → Bay → Bay → List MmsName → ReadState → Type 0
 AllRead c n b ns r =
-    AllTold (read_accepted c.now c.association n ns) (read_entries c b ns r) r.results
+    AllTold (observed_in_read c.now c.association n ns) (read_entries c b ns r) r.results
     (read_all c b ns r).results
 
-pub all-read : (c : ClientContext) (n b : Bay) (ns : List Naming) (r : Reading) → AreNamedAlike n b
+pub all-read : (c : ClientContext) (n b : Bay) (ns : List MmsName) (r : ReadState) → AreNamedAlike n b
     → AllRead c n b ns r
 all-read c n b [] r alike = none-told _ r.results refl
 all-read c n b (name ∷ ns) r alike =
@@ -239,12 +239,12 @@ all-read c n b (name ∷ ns) r alike =
 
 -- ---- a variable that is written
 
-abbrev OneWritten : ClientContext → Option Act → Option Call → Writing → Writing → Type 0
+abbrev OneWritten : ClientContext → Option Act → Option Call → WriteState → WriteState → Type 0
 OneWritten c asks asked w next =
     OneTold c is_success asks asked w.controls w.results next.results
 
-nothing-done : (c : ClientContext) (error : DataAccessError) (w : Writing)
-    → OneWritten c None None w (write_failed error w)
+nothing-done : (c : ClientContext) (error : DataAccessError) (w : WriteState)
+    → OneWritten c None None w (write_after_error error w)
 nothing-done c error w = failure-told c is_success error w.controls w.results
 
 decision-part : Result (Unit {0}) AddCause → Part
@@ -265,7 +265,7 @@ decision-success (Ok done) = refl
 decision-success (Err why) = refl
 
 -- what a decision answers tells whether it was accepted
-decided-is : (c : ClientContext) (asks : Act) (asked : Call) (w next : Writing)
+decided-is : (c : ClientContext) (asks : Act) (asked : Call) (w next : WriteState)
     → act_of asked ≡ Some asks
     → next.results ≡ w.results ++ decision_result (outcome_of asked c.now w.controls).answer
     → OneWritten c (Some asks) (Some asked) w next
@@ -280,9 +280,9 @@ decided-is c asks asked w next by is =
           (decision-success answer);
     }
 
-write-row-is : (c : ClientContext) (b : Bay) (given : Datum) (w : Writing) (row : Option ℕ)
-    → OneWritten c (act_of_write c.association given (target_at b row))
-    (call_of_write c b given (target_at b row)) w (write_row c b given w row)
+write-row-is : (c : ClientContext) (b : Bay) (given : Datum) (w : WriteState) (row : Option ℕ)
+    → OneWritten c (act_of_write c.association given (target_of_row b row))
+    (call_of_write c b given (target_of_row b row)) w (write_row c b given w row)
 write-row-is c b given w row =
     write-by c b w (λ asks asked next. OneWritten c asks asked w next)
     (λ error. nothing-done c error w)
@@ -294,13 +294,13 @@ write-row-is c b given w row =
 -- ---- all variables that are written
 
 -- what is accepted of variables that are written is told in their results
-abbrev pub AllWritten : ClientContext → Bay → Bay → List Naming → List Datum → Writing → Type 0
+abbrev pub AllWritten : ClientContext → Bay → Bay → List MmsName → List Datum → WriteState → Type 0
 AllWritten c n b ns values w =
-    AllTold (write_accepted c.now c.association n ns values) (write_entries c b ns values w)
+    AllTold (observed_in_write c.now c.association n ns values) (write_entries c b ns values w)
     w.results (write_all c b ns values w).results
 
-pub all-written : (c : ClientContext) (n b : Bay) (ns : List Naming) (values : List Datum)
-    (w : Writing)
+pub all-written : (c : ClientContext) (n b : Bay) (ns : List MmsName) (values : List Datum)
+    (w : WriteState)
     → AreNamedAlike n b → AllWritten c n b ns values w
 all-written c n b [] values w alike = none-told _ w.results refl
 all-written c n b (name ∷ ns) [] w alike = none-told _ w.results refl

@@ -2,7 +2,7 @@
 use Rattle.std.specs.Prelude.{ℕ, zero, suc, ◌==◌, ◌≡◌, ◌<◌, Bool, false, List, length, Option, Some, None}
 use Rattle.bay_nodes.specs.declared.switch.Switch.{Switch}
 use Rattle.bay_nodes.specs.Names.{control_names}
-use Rattle.bay_tree.specs.Rows.{with_leaf_of}
+use Rattle.bay_tree.specs.Rows.{with_leaf_named}
 use Rattle.bay_tree.specs.declared.row.Row.{Row}
 use Rattle.bay_tree.specs.declared.leaf.Leaf.TheVariants as leaf
 use Rattle.bay_control.specs.Decisions.{State, selected_switch}
@@ -28,13 +28,13 @@ is_selected k (Some j) = j == k
 abbrev pub rows_with_selection : Option ℕ → ℕ → List Row → List Row
 rows_with_selection selected zero rows = rows
 rows_with_selection selected (suc k) rows =
-    with_leaf_of ((control_names k).selected) (leaf.Truth (is_selected k selected))
+    with_leaf_named ((control_names k).selected) (leaf.Truth (is_selected k selected))
     (rows_with_selection selected k rows)
 
 -- The rows have FALSE as stSeld of each of the first `count` switches.
-abbrev pub ShowNone : ℕ → List Row → Type 0
-ShowNone count rows = (k : ℕ) → k < count
-    → with_leaf_of ((control_names k).selected) (leaf.Truth false) rows ≡ rows
+abbrev pub ShowNoSelection : ℕ → List Row → Type 0
+ShowNoSelection count rows = (k : ℕ) → k < count
+    → with_leaf_named ((control_names k).selected) (leaf.Truth false) rows ≡ rows
 
 -- the rows as clients see them under these controls
 abbrev pub client_rows : Bay → State → List Row

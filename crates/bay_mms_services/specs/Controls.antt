@@ -1,12 +1,12 @@
 -- A client's request on a control, the record of the decision, and the reports (IEC 61850-7-2, 20;
 -- IEC 61850-8-1: LastApplError and CommandTermination).
 use Rattle.std.specs.Prelude.{ℕ, pos, ◌≤◌, IfSome, Bool, true, false, List, [], ◌∷◌, ◌++◌, codes, length, slice_get, Option, Some, None, option_to_list, Result, Ok, Err, if◌then◌else◌, unsigned_abs}
-use Rattle.bay_tree.specs.Rows.{leaf_of}
+use Rattle.bay_tree.specs.Rows.{leaf_named}
 use Rattle.bay_tree.specs.declared.leaf.Leaf.{Leaf}
 use Rattle.bay_tree.specs.declared.leaf.Leaf.TheVariants as leaf
 use Rattle.bay_base.specs.declared.position.Dbpos.{Dbpos}
 use Rattle.bay_base.specs.declared.position.Dbpos.TheVariants.{Intermediate}
-use Rattle.bay_nodes.specs.Names.{opening_of, closing_of}
+use Rattle.bay_nodes.specs.Names.{opening_names_at, closing_names_at}
 use Rattle.bay_base.specs.declared.switch.Operation.{Operation}
 use Rattle.bay_base.specs.declared.switch.Operation.TheVariants.{Open, Close}
 use Rattle.bay_process.specs.Values.{is_truth, position_leaf}
@@ -38,14 +38,14 @@ dbpos_of other = Intermediate
 
 -- the view of the switch at index k: its position and its interlocking values, from the rows, and
 -- whether its key is at local, from the inputs
-abbrev pub view_of : ClientContext → ℕ → Bay → View
-view_of c k b = record {
+abbrev pub decision_view : ClientContext → ℕ → Bay → View
+decision_view c k b = record {
   pos = dbpos_of (position_leaf b.switches b.rows k (slice_get b.switches k));
   lost = c.lost;
   local = is_local (control_of b.controls.controls k).key b.inputs;
   fresh = c.fresh;
-  ena_opn = is_truth true (leaf_of (opening_of k).value b.rows);
-  ena_cls = is_truth true (leaf_of (closing_of k).value b.rows);
+  ena_opn = is_truth true (leaf_named (opening_names_at k).value b.rows);
+  ena_cls = is_truth true (leaf_named (closing_names_at k).value b.rows);
 }
 
 -- the operation that a ctlVal requests
@@ -76,7 +76,7 @@ written_decision c k part control answer = record {
   association = c.association;
   switch = k;
   part = part;
-  asked = Some (record {
+  request = Some (record {
     operation = operation_of control.ctl_val;
     origin = origin_of control.origin;
     ctl_num = unsigned_abs control.ctl_num;
@@ -90,7 +90,7 @@ read_decision c k answer = record {
   association = c.association;
   switch = k;
   part = Select;
-  asked = None;
+  request = None;
   answer = answer;
 }
 
@@ -140,17 +140,17 @@ refusal_reports c k item control b (Err why) =
     (pdu_within_size c.size (refusal_report (object_of b item) control why)) else []
 
 -- the two reports for the end of an operate, each if it fits
-abbrev pub ending_of : ClientContext → List ℕ → Operate → Bay → TerminationReports
-ending_of c item o b = record {
+abbrev pub termination_reports : ClientContext → List ℕ → Operate → Bay → TerminationReports
+termination_reports c item o b = record {
   positive = pdu_within_size c.size (termination_report b.domain item o);
   negative = pdu_within_size c.size (failed_report (object_of b item) b.domain item o);
 }
 
 -- the reports for the end of an accepted operate, if the switch has enhanced security
-abbrev pub endings : ClientContext → ℕ → List ℕ → Operate → Bay → Result (Unit {0}) AddCause
+abbrev pub accepted_termination : ClientContext → ℕ → List ℕ → Operate → Bay → Result (Unit {0}) AddCause
     → Option TerminationReports
-endings c k item o b (Ok done) = if has_reports b k then Some (ending_of c item o b) else None
-endings c k item o b (Err why) = None
+accepted_termination c k item o b (Ok done) = if has_reports b k then Some (termination_reports c item o b) else None
+accepted_termination c k item o b (Err why) = None
 
 -- The reports for the end of an operate have at most 65,000 octets, like every PDU of MMS that is
 -- sent.
@@ -160,4 +160,4 @@ pub record AreShort (e : TerminationReports) : Type 0 where
 
 -- The reports for the end of an operate, if there are any, have at most 65,000 octets each.
 abbrev pub IsShort : Option TerminationReports → Type 0
-IsShort ending = IfSome ending AreShort
+IsShort termination = IfSome termination AreShort

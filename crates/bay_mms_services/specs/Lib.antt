@@ -13,7 +13,7 @@
 -- Cancel as a whole; 7 and 11 for data of another shape or out of range; 3 for a refused request.
 -- `Names`: lists of names. `Replies`: whether a PDU fits.
 --
--- `Rows`, `Targets` and `Places`: the row and the control that a name denotes. `Controls`: the view
+-- `Rows`, `Targets` and `RowParts`: the row and the control that a name denotes. `Controls`: the view
 -- of a switch on which a decision depends, from the rows of the tree, and the reports: with
 -- enhanced security a report of a refusal precedes the response, and an accepted operate has two
 -- reports for its end. A report that is too long is left out.
@@ -23,7 +23,7 @@
 -- `Accepted`: the same, from the octets of the PDU and its response alone. `Views` maps the code's
 -- values to those of the definitions.
 
-pub mod Accepted
+pub mod ObservedEntries
 pub mod Answers
 pub mod Bay
 pub mod Controls
@@ -32,7 +32,7 @@ pub mod Names
 pub mod Reads
 pub mod Released
 pub mod Replies
-pub mod Places
+pub mod RowParts
 pub mod Rows
 pub mod Targets
 pub mod Views

@@ -5,7 +5,7 @@ use Rattle.std.specs.Str.{bytes_eq}
 use Rattle.bay_tree.specs.Page.{rows_after}
 use Rattle.bay_tree.specs.Rows.{names_of, row_index}
 use Rattle.bay_mms.specs.Pages.{first_page}
-use Rattle.bay_mms.specs.Requests.{Place, whole_vmd, in_domain, of_association}
+use Rattle.bay_mms.specs.Requests.{ObjectScope, whole_vmd, in_domain, of_association}
 use Rattle.bay_mms.specs.Responses.{error_text, page_text}
 use Rattle.bay_mms.specs.declared.response.ErrorClass.TheVariants.{NoSuchObject}
 use Rattle.bay_mms_services.specs.Bay.{Bay}
@@ -36,7 +36,7 @@ domain_names id b (Some name) =
 
 -- The names of a class: class 0 in the domain has the names of its variables, class 9 of the whole
 -- device has the domain; all other lists are empty. A domain that does not exist is an error.
-abbrev pub name_list_text : ClientContext → ℕ → ℤ → Place → Option (List ℕ) → Bay → List ℕ
+abbrev pub name_list_text : ClientContext → ℕ → ℤ → ObjectScope → Option (List ℕ) → Bay → List ℕ
 name_list_text c id class whole_vmd after b =
     if int_eq class (pos 9) then domain_names id b after else no_names id after
 name_list_text c id class (in_domain d) after b =

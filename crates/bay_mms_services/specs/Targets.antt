@@ -18,8 +18,8 @@ abbrev pub control_name : ℕ → ControlPart → List ℕ
 control_name k part = part_name part (control_names k)
 
 -- the part of the control of the switch at index k that has this name
-abbrev pub part_at : ℕ → List ℕ → Option ControlPart
-part_at k name =
+abbrev pub part_named : ℕ → List ℕ → Option ControlPart
+part_named k name =
     if bytes_eq (control_name k Select) name then Some Select
     else if bytes_eq (control_name k SelectWith) name then Some SelectWith
     else if bytes_eq (control_name k Operate) name then Some Operate
@@ -34,7 +34,7 @@ or_later k (Some part) later = Some (record { switch = k; part = part })
 -- the target with this name, among `count` switches from index k on
 abbrev pub target_from : ℕ → ℕ → List ℕ → Option Target
 target_from k zero name = None
-target_from k (suc count) name = or_later k (part_at k name) (target_from (k + 1) count name)
+target_from k (suc count) name = or_later k (part_named k name) (target_from (k + 1) count name)
 
 -- the control of one of the first `count` switches and its part that have this name
 abbrev pub target_of : ℕ → List ℕ → Option Target

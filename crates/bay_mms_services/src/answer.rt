@@ -32,7 +32,7 @@ pub struct ControlDecision {
     pub switch: usize,
     pub part: ControlPart,
     /// The contents of the write. `None` for a select by a read of SBO.
-    pub asked: Option<ControlRequest>,
+    pub request: Option<ControlRequest>,
     /// `Ok` if the request was accepted, otherwise the cause of the refusal.
     pub answer: Result<(), AddCause>,
 }
@@ -57,5 +57,5 @@ pub struct PduAnswer {
     /// The decisions on controls, in the order of the requests.
     pub decisions: Vec<ControlDecision>,
     /// The reports for the end of an accepted operate of a switch with enhanced security.
-    pub ending: Option<TerminationReports>,
+    pub termination: Option<TerminationReports>,
 }

@@ -1,11 +1,11 @@
 // The bay that clients read and control.
 ghost use Rattle.std.specs.Prelude.{◌≡◌, length};
-ghost use Rattle.bay_mms.specs.Pages.{text_of_names};
+ghost use Rattle.bay_mms.specs.Pages.{encoded_names};
 ghost use Rattle.bay_process.specs.Controls.{AreAllControlRows};
 ghost use Rattle.bay_process.specs.Layout.{layout_of, switches_of};
-ghost use Rattle.bay_mms_services.specs.Bay.{ShowNone};
-ghost use Rattle.bay_mms_services.specs.Places.{ArePlaced};
-ghost use Rattle.bay_mms_services.specs.Released.{AreTimed};
+ghost use Rattle.bay_mms_services.specs.Bay.{ShowNoSelection};
+ghost use Rattle.bay_mms_services.specs.RowParts.{AreBoundByName};
+ghost use Rattle.bay_mms_services.specs.Released.{HaveTravelTime};
 
 use bay_base::listing::Listing;
 use bay_base::text::Text;
@@ -36,10 +36,10 @@ pub struct ServedBay {
     /// The settings of their controls, from the bay file.
     pub control_table: ControlTable,
     pub controls: Controls,
-    ghost listed: { names ≡ text_of_names (layout_of tree).names },
-    ghost placed: { ArePlaced (layout_of tree) switches },
+    ghost listed: { names ≡ encoded_names (layout_of tree).names },
+    ghost placed: { AreBoundByName (layout_of tree) switches },
     ghost controlled: { AreAllControlRows tree control_rows },
     ghost sized: { length control_rows ≡ length (switches_of switches) },
-    ghost timed: { AreTimed control_table },
-    ghost quiet: { ShowNone (length (switches_of switches)) tree },
+    ghost timed: { HaveTravelTime control_table },
+    ghost quiet: { ShowNoSelection (length (switches_of switches)) tree },
 }

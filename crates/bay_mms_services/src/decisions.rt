@@ -5,8 +5,8 @@ ghost use Rattle.bay_process.specs.Layout.{layout_of};
 ghost use Rattle.bay_mms_services.specs.Bay.{rows_with_selection, client_rows};
 ghost use Rattle.bay_control.specs.Requests.{control_of};
 ghost use Rattle.bay_control.specs.Requests as spec_requests;
-ghost use Rattle.bay_mms_services.specs.Controls.{view_of};
-ghost use Rattle.bay_mms_services.specs.Places.{marked_row};
+ghost use Rattle.bay_mms_services.specs.Controls.{decision_view};
+ghost use Rattle.bay_mms_services.specs.RowParts.{marked_row};
 ghost use Rattle.bay_mms_services.specs.Views.{bay_view, bay_with, controls_view};
 
 use crate::bay::ServedBay;
@@ -66,7 +66,7 @@ impl ServedBay {
     /// Returns the view of a switch on which a decision depends, with these values of the inputs.
     pub(crate) fn view(&self, inputs: &InputValues, client: ClientContext, switch: usize) -> View
         requires { switch < length self.now.switches }
-        ensures { result ≡ view_of client switch (bay_with inputs.now self.now) }
+        ensures { result ≡ decision_view client switch (bay_with inputs.now self.now) }
     {
         let rows = &self.switches.as_slice()[switch].rows;
         View {

@@ -2,17 +2,17 @@
 ghost use Rattle.std.specs.Prelude.{◌≡◌, ◌≢◌, ◌≤◌, ◌<◌, ◌++◌, ℕ, All, Bool, List, None, Some, false, length, true};
 ghost use Rattle.std.specs.Str.{bytes_eq};
 ghost use Rattle.bay_control.specs.Decisions.{State, selected_switch};
-ghost use Rattle.bay_control.specs.Happenings.{Leads};
-ghost use Rattle.bay_mms.specs.Grammar.{answer_to};
+ghost use Rattle.bay_control.specs.TimedCalls.{LeadsControls};
+ghost use Rattle.bay_mms.specs.Grammar.{request_in};
 ghost use Rattle.bay_mms_initiate.specs.Sizes.{longest_pdu};
 ghost use Rattle.bay_nodes.specs.Names.{control_names};
-ghost use Rattle.bay_mms_services.specs.Accepted.{AreNamedAlike, accepted_in, first_response, may_be_reported};
+ghost use Rattle.bay_mms_services.specs.ObservedEntries.{AreNamedAlike, observed_in_pdu, first_response, request_may_report};
 ghost use Rattle.bay_mms_services.specs.Answers.{pdu_answer};
-ghost use Rattle.bay_mms_services.specs.Bay.{Bay, ShowNone, is_selected, client_rows};
-ghost use Rattle.bay_mms_services.specs.Entries.{entries_in, operates_in};
-ghost use Rattle.bay_mms_services.specs.Released.{AreTimed, IsReleased, Leaves};
+ghost use Rattle.bay_mms_services.specs.Bay.{Bay, ShowNoSelection, is_selected, client_rows};
+ghost use Rattle.bay_mms_services.specs.Entries.{entries_on_pdu, operates_in};
+ghost use Rattle.bay_mms_services.specs.Released.{HaveTravelTime, IsReleased, ChangesNoValue};
 ghost use Rattle.bay_mms_services.specs.declared.client.ClientContext.{ClientContext};
-ghost use Rattle.bay_tree.specs.Rows.{leaf_of, with_leaf_of};
+ghost use Rattle.bay_tree.specs.Rows.{leaf_named, with_leaf_named};
 ghost use Rattle.bay_tree.specs.declared.leaf.Leaf.{Leaf};
 ghost use Rattle.bay_tree.specs.declared.leaf.Leaf.TheVariants.{Truth};
 ghost use Rattle.bay_tree.specs.declared.row.Row.{Row};
@@ -21,7 +21,7 @@ ghost use Rattle.bay_tree.specs.declared.row.Row.{Row};
 pub fn a_tree_shows_no_selection()
     ensures { (count : ℕ) (rows : List Row) (name : List ℕ) (value : Leaf)
         → ((k : ℕ) → bytes_eq name (control_names k).selected ≡ false)
-        → ShowNone count rows → ShowNone count (with_leaf_of name value rows) }
+        → ShowNoSelection count rows → ShowNoSelection count (with_leaf_named name value rows) }
 {}
 
 /// Clients read TRUE as stSeld of the selected switch and FALSE as that of each other switch (IEC
@@ -29,12 +29,12 @@ pub fn a_tree_shows_no_selection()
 pub fn a_read_shows_the_selection()
     ensures shown { (b : Bay) (controls : State) (k : ℕ) → k < length b.switches
         → length b.switches < 18446744073709551616
-        → leaf_of (control_names k).selected b.rows ≢ None
-        → leaf_of (control_names k).selected (client_rows b controls)
+        → leaf_named (control_names k).selected b.rows ≢ None
+        → leaf_named (control_names k).selected (client_rows b controls)
         ≡ Some (Truth (is_selected k (selected_switch controls.selection))) }
     ensures others { (b : Bay) (controls : State) (name : List ℕ)
         → ((k : ℕ) → name ≢ (control_names k).selected)
-        → leaf_of name (client_rows b controls) ≡ leaf_of name b.rows }
+        → leaf_named name (client_rows b controls) ≡ leaf_named name b.rows }
 {}
 
 /// The commands of an answer are exactly those of the operates that it accepts, one for each and in
@@ -44,13 +44,13 @@ pub fn a_read_shows_the_selection()
 /// tree or an execution that has not expired.
 pub fn commands_are_released()
     ensures operated { (c : ClientContext) (pdu : List ℕ) (b : Bay)
-        → (pdu_answer c pdu b).commands ≡ operates_in (entries_in c pdu b) }
+        → (pdu_answer c pdu b).commands ≡ operates_in (entries_on_pdu c pdu b) }
     ensures released { (c : ClientContext) (pdu : List ℕ) (b : Bay)
         → All (IsReleased c b) (pdu_answer c pdu b).commands }
-    ensures single { (c : ClientContext) (pdu : List ℕ) (b : Bay) → AreTimed b.controls.controls
+    ensures single { (c : ClientContext) (pdu : List ℕ) (b : Bay) → HaveTravelTime b.controls.controls
         → length (pdu_answer c pdu b).commands ≤ 1 }
     ensures leaves { (c : ClientContext) (pdu : List ℕ) (b : Bay)
-        → Leaves c.now b (pdu_answer c pdu b).after }
+        → ChangesNoValue c.now b (pdu_answer c pdu b).after }
 {}
 
 /// The requests of a PDU on an open association lead from the controls before the PDU to those
@@ -58,7 +58,7 @@ pub fn commands_are_released()
 pub fn requests_lead()
     ensures { (c : ClientContext) (pdu : List ℕ) (b : Bay) (opens : ℕ → Bool)
         → opens c.association ≡ true
-        → Leads (entries_in c pdu b) opens b.controls opens (pdu_answer c pdu b).after.controls }
+        → LeadsControls (entries_on_pdu c pdu b) opens b.controls opens (pdu_answer c pdu b).after.controls }
 {}
 
 /// The octets of a PDU and of its response, with the names of a bay's variables, determine the
@@ -69,9 +69,9 @@ pub fn answers_show_decisions()
     ensures { (c : ClientContext) (pdu : List ℕ) (named b : Bay) (later : List (List ℕ))
         → c.size ≤ longest_pdu
         → AreNamedAlike named b
-        → (accepted_in c.now c.association pdu named
-        (first_response (may_be_reported (answer_to pdu)) ((pdu_answer c pdu b).sent ++ later)).0
-        ≡ entries_in c pdu b)
-        × ((first_response (may_be_reported (answer_to pdu)) ((pdu_answer c pdu b).sent ++ later)).1
+        → (observed_in_pdu c.now c.association pdu named
+        (first_response (request_may_report (request_in pdu)) ((pdu_answer c pdu b).sent ++ later)).0
+        ≡ entries_on_pdu c pdu b)
+        × ((first_response (request_may_report (request_in pdu)) ((pdu_answer c pdu b).sent ++ later)).1
         ≡ later) }
 {}

@@ -1,7 +1,7 @@
 // Lists of names (ISO 9506-2, GetNameList).
 ghost use Rattle.std.specs.Prelude.{◌≡◌, ◌≤◌, false};
 ghost use Rattle.std.specs.Option.{option_copied};
-ghost use Rattle.bay_base.specs.Exact.{Gives};
+ghost use Rattle.bay_base.specs.Exact.{ExactOr};
 ghost use Rattle.bay_mms.specs.RequestViews.{scope_view};
 ghost use Rattle.bay_mms.specs.Requests.{in_domain};
 ghost use Rattle.bay_mms.specs.Responses.{error_text, page_text};
@@ -29,7 +29,7 @@ impl Invocation<'_> {
     // Writes the error that the object does not exist.
     fn write_unknown(&self) -> Result<Outgoing, EncodeFault>
         requires { 256 ≤ self.now.client.size }
-        ensures { Gives EncodeFault.OutOfMemory (λ octets. octets) result
+        ensures { ExactOr EncodeFault.OutOfMemory (λ octets. octets) result
             (text_within self.now.client.size (error_text self.now.id NoSuchObject)) }
     {
         let error = write_error(self.alloc, self.id, ErrorClass::NoSuchObject)?;
@@ -38,7 +38,7 @@ impl Invocation<'_> {
 
     // Writes a list of these names, with no more after them.
     fn write_names(&self, names: &[Text]) -> Result<Outgoing, EncodeFault>
-        ensures { Gives EncodeFault.OutOfMemory (λ octets. octets) result
+        ensures { ExactOr EncodeFault.OutOfMemory (λ octets. octets) result
             (text_within self.now.client.size (page_text self.now.id names.now false)) }
     {
         let (id, service) = (self.id, Service::Names { names, more: false });
@@ -48,7 +48,7 @@ impl Invocation<'_> {
     // Writes an empty list; an error if it must follow a name, since there is no such name.
     fn write_none(&self, after: Option<&[u8]>) -> Result<Outgoing, EncodeFault>
         requires { 256 ≤ self.now.client.size }
-        ensures { Gives EncodeFault.OutOfMemory (λ octets. octets) result
+        ensures { ExactOr EncodeFault.OutOfMemory (λ octets. octets) result
             (text_within self.now.client.size (no_names self.now.id (option_copied after.entry))) }
     {
         match after {
@@ -60,7 +60,7 @@ impl Invocation<'_> {
     // Writes the list with the one domain; an empty list after the domain's own name.
     fn write_domain(&self, after: Option<&[u8]>) -> Result<Outgoing, EncodeFault>
         requires { 256 ≤ self.now.client.size }
-        ensures { Gives EncodeFault.OutOfMemory (λ octets. octets) result
+        ensures { ExactOr EncodeFault.OutOfMemory (λ octets. octets) result
             (text_within self.now.client.size
             (domain_names self.now.id (bay_of self.now) (option_copied after.entry))) }
     {
@@ -82,7 +82,7 @@ impl Invocation<'_> {
     // Writes a page of the names of the domain's variables.
     fn write_variables(&self, after: Option<&[u8]>) -> Result<Outgoing, EncodeFault>
         requires { IsPduSize self.now.client.size }
-        ensures { Gives EncodeFault.OutOfMemory (λ octets. octets) result
+        ensures { ExactOr EncodeFault.OutOfMemory (λ octets. octets) result
             (text_within self.now.client.size
             (variable_names self.now.client self.now.id (bay_of self.now)
             (option_copied after.entry))) }
@@ -103,7 +103,7 @@ impl Invocation<'_> {
         after: Option<&[u8]>,
     ) -> Result<Outgoing, EncodeFault>
         requires { IsPduSize self.now.client.size }
-        ensures { Gives EncodeFault.OutOfMemory (λ octets. octets) result
+        ensures { ExactOr EncodeFault.OutOfMemory (λ octets. octets) result
             (text_within self.now.client.size
             (name_list_text self.now.client self.now.id class (in_domain domain.now)
             (option_copied after.entry) (bay_of self.now))) }
@@ -127,7 +127,7 @@ impl Invocation<'_> {
         after: Option<&[u8]>,
     ) -> Result<Outgoing, EncodeFault>
         requires { IsPduSize self.now.client.size }
-        ensures { Gives EncodeFault.OutOfMemory (λ octets. octets) result
+        ensures { ExactOr EncodeFault.OutOfMemory (λ octets. octets) result
             (text_within self.now.client.size
             (name_list_text self.now.client self.now.id class.now (scope_view scope.now)
             (option_copied after.entry) (bay_of self.now))) }

@@ -5,18 +5,18 @@ ghost use Rattle.bay_mms.specs.declared.fault.EncodeFault.TheVariants.{TooLong};
 ghost use Rattle.bay_control.specs.Decisions.{select_outcome};
 ghost use Rattle.bay_tree.specs.Rows.{IsHandle, name_at};
 ghost use Rattle.bay_mms_services.specs.Controls.{read_decision};
-ghost use Rattle.bay_mms_services.specs.Places.{IsFound};
-ghost use Rattle.bay_mms_services.specs.Reads.{select_done};
+ghost use Rattle.bay_mms_services.specs.RowParts.{IsFirstNamed};
+ghost use Rattle.bay_mms_services.specs.Reads.{read_after_select};
 ghost use Rattle.bay_mms_services.specs.Reads as spec;
 ghost use Rattle.bay_mms_services.specs.Rows as spec_rows;
 ghost use Rattle.bay_mms_services.specs.Targets.{target_of};
-ghost use Rattle.bay_mms_services.specs.Views.{bay_of, bay_view, controls_view, reading_view};
+ghost use Rattle.bay_mms_services.specs.Views.{bay_of, bay_view, controls_view, read_state_view};
 
 use crate::answer::ControlDecision;
 use crate::bay::ServedBay;
 use crate::client::ClientContext;
 use crate::invocation::Invocation;
-use crate::target::{ControlPart, Target, part_at};
+use crate::target::{ControlPart, Target, part_of_row};
 use bay_control::cause::AddCause;
 use bay_control::controls::Controls;
 use bay_mms::fault::{DataAccessError, EncodeFault};
@@ -39,7 +39,7 @@ fn put_select(
         association: client.association,
         switch,
         part: ControlPart::Select,
-        asked: None,
+        request: None,
         answer,
     })?;
     Ok(())
@@ -50,7 +50,7 @@ impl ServedBay {
     /// domain.
     pub(crate) fn row_named(&self, name: &ObjectName<'_>) -> Option<Handle>
         ensures row { result ≡ spec_rows.row_named (bay_view self.now) (object_name_view name.now) }
-        ensures found { IfSome result (IsFound self.now.tree) }
+        ensures found { IfSome result (IsFirstNamed self.now.tree) }
     {
         match name {
             ObjectName::Domain { domain, item } => {
@@ -66,14 +66,14 @@ impl ServedBay {
 
     /// Returns the part of a control that a row is; `None` if it is none.
     pub(crate) fn target(&self, row: Handle) -> Option<Target>
-        requires { IsFound self.now.tree row }
+        requires { IsFirstNamed self.now.tree row }
         ensures target { result
             ≡ target_of (length (bay_view self.now).switches) (name_at self.now.tree row) }
         ensures there { IfSome result (λ target. target.switch < length self.now.switches) }
     {
         let rows = self.control_rows.as_slice();
         for switch in 0..rows.len() {
-            if let Some(part) = part_at(&rows[switch], row) {
+            if let Some(part) = part_of_row(&rows[switch], row) {
                 return Some(Target { switch, part });
             }
         }
@@ -94,16 +94,16 @@ impl Invocation<'_> {
     ) -> Result<(), EncodeFault>
         requires { IsHandle self.now.bay.now.tree row }
         ensures ok { OnOk result
-            (reading_view self.now.bay.now controls.new decisions.new.items response.new.octets
-            ≡ select_done self.now.client (bay_of self.now) switch
+            (read_state_view self.now.bay.now controls.new decisions.new.items response.new.octets
+            ≡ read_after_select self.now.client (bay_of self.now) switch
             (name_at self.now.bay.now.tree row)
-            (reading_view self.now.bay.now controls.old decisions.old.items response.old.octets)
+            (read_state_view self.now.bay.now controls.old decisions.old.items response.old.octets)
             (select_outcome self.now.client.association switch self.now.client.now
             (controls_view self.now.bay.now controls.old))) }
         ensures long { IfErr result (λ fault. fault ≡ TooLong
-            → response.old.size < length (select_done self.now.client (bay_of self.now) switch
+            → response.old.size < length (read_after_select self.now.client (bay_of self.now) switch
             (name_at self.now.bay.now.tree row)
-            (reading_view self.now.bay.now controls.old decisions.old.items response.old.octets)
+            (read_state_view self.now.bay.now controls.old decisions.old.items response.old.octets)
             (select_outcome self.now.client.association switch self.now.client.now
             (controls_view self.now.bay.now controls.old))).results) }
         ensures size { response.new.size ≡ response.old.size }
@@ -129,17 +129,17 @@ impl Invocation<'_> {
         decisions: &mut Vec<ControlDecision>,
         response: &mut ReadResponse,
     ) -> Result<(), EncodeFault>
-        requires { IsFound self.now.bay.now.tree row }
+        requires { IsFirstNamed self.now.bay.now.tree row }
         ensures ok { OnOk result
-            (reading_view self.now.bay.now controls.new decisions.new.items response.new.octets
+            (read_state_view self.now.bay.now controls.new decisions.new.items response.new.octets
             ≡ spec.read_row self.now.client (bay_of self.now)
-            (reading_view self.now.bay.now controls.old decisions.old.items response.old.octets)
+            (read_state_view self.now.bay.now controls.old decisions.old.items response.old.octets)
             (Some row)) }
         ensures long { IfErr result
             (λ fault. fault ≡ TooLong
             → response.old.size < length
             (spec.read_row self.now.client (bay_of self.now)
-            (reading_view self.now.bay.now controls.old decisions.old.items response.old.octets)
+            (read_state_view self.now.bay.now controls.old decisions.old.items response.old.octets)
             (Some row)).results) }
         ensures size { response.new.size ≡ response.old.size }
     {
@@ -163,14 +163,14 @@ impl Invocation<'_> {
         response: &mut ReadResponse,
     ) -> Result<(), EncodeFault>
         ensures ok { OnOk result
-            (reading_view self.now.bay.now controls.new decisions.new.items response.new.octets
+            (read_state_view self.now.bay.now controls.new decisions.new.items response.new.octets
             ≡ spec.read_one self.now.client (bay_of self.now) (object_name_view name.now)
-            (reading_view self.now.bay.now controls.old decisions.old.items response.old.octets)) }
+            (read_state_view self.now.bay.now controls.old decisions.old.items response.old.octets)) }
         ensures long { IfErr result
             (λ fault. fault ≡ TooLong
             → response.old.size < length (spec.read_one self.now.client (bay_of self.now)
             (object_name_view name.now)
-            (reading_view self.now.bay.now controls.old decisions.old.items
+            (read_state_view self.now.bay.now controls.old decisions.old.items
             response.old.octets)).results) }
         ensures size { response.new.size ≡ response.old.size }
     {
@@ -190,14 +190,14 @@ impl Invocation<'_> {
         response: &mut ReadResponse,
     ) -> Result<(), EncodeFault>
         ensures ok { OnOk result
-            (reading_view self.now.bay.now controls.new decisions.new.items response.new.octets
+            (read_state_view self.now.bay.now controls.new decisions.new.items response.new.octets
             ≡ spec.read_all self.now.client (bay_of self.now) (map object_name_view names.now)
-            (reading_view self.now.bay.now controls.old decisions.old.items response.old.octets)) }
+            (read_state_view self.now.bay.now controls.old decisions.old.items response.old.octets)) }
         ensures long { IfErr result
             (λ fault. fault ≡ TooLong
             → response.old.size < length (spec.read_all self.now.client (bay_of self.now)
             (map object_name_view names.now)
-            (reading_view self.now.bay.now controls.old decisions.old.items
+            (read_state_view self.now.bay.now controls.old decisions.old.items
             response.old.octets)).results) }
         ensures size { response.new.size ≡ response.old.size }
     {

@@ -1,6 +1,6 @@
 // Limits answers to the agreed size of a PDU.
 ghost use Rattle.std.specs.Prelude.{◌≡◌, None, List, ℕ, IfOk, IfSome, is_ok, true};
-ghost use Rattle.bay_base.specs.Exact.{Gives};
+ghost use Rattle.bay_base.specs.Exact.{ExactOr};
 ghost use Rattle.bay_mms.specs.Writing.{text_within};
 ghost use Rattle.bay_mms_services.specs.Replies as spec;
 
@@ -22,7 +22,7 @@ fn no_pdu(fault: EncodeFault) -> Result<Option<Outgoing>, AllocError>
 /// failed.
 pub fn pdu_if_fits(made: Result<Outgoing, EncodeFault>) -> Result<Option<Outgoing>, AllocError>
     ensures pdu { (size : ℕ) (pdu : List ℕ)
-        → Gives EncodeFault.OutOfMemory (λ octets. octets) made (text_within size pdu)
+        → ExactOr EncodeFault.OutOfMemory (λ octets. octets) made (text_within size pdu)
         → IfOk result (λ found. found ≡ spec.pdu_within_size size pdu) }
     ensures made { IfOk result (λ found. IfSome found (λ _. is_ok made ≡ true)) }
 {

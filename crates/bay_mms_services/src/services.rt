@@ -1,26 +1,26 @@
 // Answers a PDU of a client, and carries it out.
 ghost use Rattle.std.specs.Prelude.{◌≡◌, ◌≢◌, ◌≤◌, ◌∷◌, [], All, List, ℕ, length, map, option_map, IfOk, OnOk, None, Some, Err};
-ghost use Rattle.bay_base.specs.Exact.{Gives};
+ghost use Rattle.bay_base.specs.Exact.{ExactOr};
 ghost use Rattle.bay_mms.specs.RequestViews.{call_view, object_name_view};
-ghost use Rattle.bay_mms.specs.Responses.{concluded_text, error_text, read_text};
+ghost use Rattle.bay_mms.specs.Responses.{conclude_response_text, error_text, read_text};
 ghost use Rattle.bay_mms_initiate.specs.Sizes.{IsPduSize, longest_pdu};
 ghost use Rattle.bay_mms.specs.Views.{data_in};
 ghost use Rattle.bay_mms.specs.Writing.{text_within};
-ghost use Rattle.bay_mms_services.specs.Answers.{Answered, answer_of, pdu_answer, attributes_answer, identify_answer, read_answer, service_answer, write_answer};
+ghost use Rattle.bay_mms_services.specs.Answers.{AnswerData, answer_of, pdu_answer, attributes_answer, identify_answer, read_answer, service_answer, write_answer};
 ghost use Rattle.bay_mms_services.specs.Answers as spec;
 ghost use Rattle.bay_mms_services.specs.Bay.{Bay};
 ghost use Rattle.bay_mms_services.specs.Rows.{row_named};
 ghost use Rattle.bay_mms.specs.declared.fault.MmsFault.TheVariants as MmsFault;
 ghost use Rattle.bay_mms_services.specs.Controls.{IsShort};
 ghost use Rattle.bay_mms_services.specs.Reads.{read_all};
-ghost use Rattle.bay_mms_services.specs.Views.{bay_of, bay_with, controls_view, request_result_view, reading_view, AnswersAs};
+ghost use Rattle.bay_mms_services.specs.Views.{bay_of, bay_with, controls_view, request_result_view, read_state_view, AnswersAs};
 
 use crate::answer::{ControlDecision, PduAnswer};
 use crate::bay::ServedBay;
 use crate::client::ClientContext;
 use crate::invocation::Invocation;
 use crate::reply::pdu_if_fits;
-use crate::writing::Written;
+use crate::writing::WriteResults;
 use bay_ber::outgoing::Outgoing;
 use bay_control::controls::Controls;
 use bay_mms::data::Data;
@@ -47,7 +47,7 @@ fn answer_with_decisions(
         sent: vec![in alloc; pdu]?,
         commands: Vec::new(alloc),
         decisions,
-        ending: None,
+        termination: None,
     })
 }
 
@@ -84,7 +84,7 @@ fn answer_reject(
 // Returns the answer to a conclude, with no effect.
 fn answer_conclude(alloc: Global) -> Result<PduAnswer, AllocError>
     ensures { IfOk result (λ answer. (b : Bay)
-        → AnswersAs answer b.controls b (spec.plain_answer concluded_text b)) }
+        → AnswersAs answer b.controls b (spec.plain_answer conclude_response_text b)) }
 {
     let conclude = write_conclude(alloc)?;
     answer_with_pdu(alloc, conclude)
@@ -109,9 +109,9 @@ fn answer_fault(alloc: Global, fault: MmsFault) -> Result<PduAnswer, AllocError>
 impl Invocation<'_> {
     // Returns the answer with a response, with no effect; with an error if the response has more
     // octets than agreed.
-    fn responded(&self, response: Result<Outgoing, EncodeFault>) -> Result<PduAnswer, AllocError>
+    fn answer_response(&self, response: Result<Outgoing, EncodeFault>) -> Result<PduAnswer, AllocError>
         ensures { (pdu : List ℕ) (b : Bay)
-            → Gives EncodeFault.OutOfMemory (λ octets. octets) response
+            → ExactOr EncodeFault.OutOfMemory (λ octets. octets) response
             (text_within self.now.client.size pdu)
             → IfOk result (λ answer. AnswersAs answer b.controls b
             (spec.response_answer self.now.client self.now.id b pdu)) }
@@ -135,7 +135,7 @@ impl Invocation<'_> {
             revision: bay.revision.as_str(),
         };
         let response = Response { id, service };
-        self.responded(write_response(self.alloc, &response, self.client.size))
+        self.answer_response(write_response(self.alloc, &response, self.client.size))
     }
 
     // Returns the type of a variable; an error if it does not exist.
@@ -150,7 +150,7 @@ impl Invocation<'_> {
                 let (id, tree) = (self.id, &self.bay.tree);
                 let service = Service::Attributes { tree, handle };
                 let response = Response { id, service };
-                self.responded(write_response(self.alloc, &response, self.client.size))
+                self.answer_response(write_response(self.alloc, &response, self.client.size))
             }
             None => answer_error(self.alloc, self.id, ErrorClass::NoSuchObject),
         }
@@ -163,18 +163,18 @@ impl Invocation<'_> {
         controls: &mut Controls,
         decisions: &mut Vec<ControlDecision>,
     ) -> Result<Outgoing, EncodeFault>
-        ensures response { Gives EncodeFault.OutOfMemory (λ octets. octets) result
+        ensures response { ExactOr EncodeFault.OutOfMemory (λ octets. octets) result
             (text_within self.now.client.size (read_text self.now.id
             (read_all self.now.client (bay_of self.now) (map object_name_view names.now)
-            (reading_view self.now.bay.now controls.old decisions.old.items [])).results)) }
+            (read_state_view self.now.bay.now controls.old decisions.old.items [])).results)) }
         ensures after { OnOk result
             (controls_view self.now.bay.now controls.new
             ≡ (read_all self.now.client (bay_of self.now) (map object_name_view names.now)
-            (reading_view self.now.bay.now controls.old decisions.old.items [])).controls) }
+            (read_state_view self.now.bay.now controls.old decisions.old.items [])).controls) }
         ensures decisions { OnOk result
             (decisions.new.items
             ≡ (read_all self.now.client (bay_of self.now) (map object_name_view names.now)
-            (reading_view self.now.bay.now controls.old decisions.old.items [])).decisions) }
+            (read_state_view self.now.bay.now controls.old decisions.old.items [])).decisions) }
     {
         let mut response = ReadResponse::new(self.alloc, self.client.size)?;
         self.read_all(names, controls, decisions, &mut response)?;
@@ -219,20 +219,20 @@ impl Invocation<'_> {
             (write_answer self.now.client self.now.id (bay_of self.now)
             (map object_name_view names.now) (data_in values.now))) }
     {
-        let mut done = Written {
+        let mut done = WriteResults {
             response: WriteResponse::new(self.alloc),
             reports: Vec::new(self.alloc),
             commands: Vec::new(self.alloc),
             decisions: Vec::new(self.alloc),
-            ending: None,
+            termination: None,
         };
         self.write_all(names, values, controls, &mut done)?;
-        let Written {
+        let WriteResults {
             response,
             mut reports,
             commands,
             decisions,
-            ending,
+            termination,
         } = done;
         match pdu_if_fits(response.finish(self.id, self.client.size))? {
             Some(pdu) => {
@@ -241,7 +241,7 @@ impl Invocation<'_> {
                     sent: reports,
                     commands,
                     decisions,
-                    ending,
+                    termination,
                 })
             }
             None => {
@@ -268,7 +268,7 @@ impl Invocation<'_> {
                 after,
             } => {
                 let response = self.write_listing(class, scope, *after);
-                self.responded(response)
+                self.answer_response(response)
             }
             Call::Attributes(name) => self.attributes(name),
             Call::Read(names) => self.read(names, controls),
@@ -336,7 +336,7 @@ impl ServedBay {
             (pdu_answer client pdu.now (bay_with inputs.now self.now))) }
         ensures short { IfOk result
             (λ answer. All (λ pdu. length pdu ≤ longest_pdu) answer.sent.items) }
-        ensures ending { IfOk result (λ answer. IsShort answer.ending) }
+        ensures termination { IfOk result (λ answer. IsShort answer.termination) }
     {
         *controls = self.controls.duplicate();
         let request = read_request(alloc, pdu);

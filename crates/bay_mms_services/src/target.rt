@@ -1,7 +1,7 @@
 // Which control a row belongs to.
 ghost use Rattle.std.specs.Prelude.{◌≡◌};
-ghost use Rattle.bay_mms_services.specs.Places.{part_by};
-ghost use Rattle.bay_mms_services.specs.Places as spec;
+ghost use Rattle.bay_mms_services.specs.RowParts.{part_of_row};
+ghost use Rattle.bay_mms_services.specs.RowParts as spec;
 
 use bay_process::controls::ControlRows;
 use bay_tree::tree::Handle;
@@ -34,8 +34,8 @@ fn is_row(row: Option<Handle>, handle: Handle) -> bool
 }
 
 /// Returns the part of a switch's control that a row is; `None` if it is none.
-pub(crate) fn part_at(rows: &ControlRows, handle: Handle) -> Option<ControlPart>
-    ensures { result ≡ part_by rows.now handle }
+pub(crate) fn part_of_row(rows: &ControlRows, handle: Handle) -> Option<ControlPart>
+    ensures { result ≡ part_of_row rows.now handle }
 {
     if is_row(rows.select, handle) {
         Some(ControlPart::Select)

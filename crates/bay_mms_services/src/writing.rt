@@ -1,18 +1,18 @@
 // The variables of a write, one after the other.
 ghost use Rattle.std.specs.Prelude.{◌≡◌, ◌≤◌, ◌<◌, ◌++◌, ◌∷◌, [], Some, Ok, Err, map, length, IfOk, OnOk};
 ghost use Rattle.bay_mms.specs.ControlViews.{cancel_view, operate_view};
-ghost use Rattle.bay_mms.specs.Controls.{cancel_in, operate_in};
+ghost use Rattle.bay_mms.specs.Controls.{cancel_or_error, operate_or_error};
 ghost use Rattle.bay_tree.specs.Rows.{IsHandle, name_at};
 ghost use Rattle.bay_mms.specs.ControlViews.{origin_view};
-ghost use Rattle.bay_mms_services.specs.Controls.{ending_of, endings, object_of, refusal_reports, written_decision};
+ghost use Rattle.bay_mms_services.specs.Controls.{termination_reports, accepted_termination, object_of, refusal_reports, written_decision};
 ghost use Rattle.bay_mms_services.specs.Controls as spec_controls;
-ghost use Rattle.bay_mms_services.specs.Writes.{write_cancel, commands_for, decision_result, later_ending, write_operate, write_select_with};
+ghost use Rattle.bay_mms_services.specs.Writes.{write_cancel, operate_commands, decision_result, later_ending, write_operate, write_select_with};
 ghost use Rattle.bay_mms_services.specs.Writes as spec;
 ghost use Rattle.bay_mms.specs.RequestViews.{object_name_view};
 ghost use Rattle.bay_mms.specs.Responses.{failure_result};
 ghost use Rattle.bay_mms.specs.declared.fault.DataAccessError.TheVariants.{ObjectAccessDenied};
 ghost use Rattle.bay_mms.specs.Views.{data_in, datum_of};
-ghost use Rattle.bay_mms_services.specs.Views.{bay_of, bay_view, writing_view};
+ghost use Rattle.bay_mms_services.specs.Views.{bay_of, bay_view, write_state_view};
 
 use crate::answer::{Command, ControlDecision, ControlRequest, TerminationReports};
 use crate::bay::ServedBay;
@@ -50,7 +50,7 @@ struct SwitchRow {
 
 /// The results so far of a write, apart from its effects on the controls.
 #[derive(Drop)]
-pub struct Written {
+pub struct WriteResults {
     /// The results of the variables.
     pub response: WriteResponse,
     /// The reports of refused controls.
@@ -58,7 +58,7 @@ pub struct Written {
     pub commands: Vec<Command>,
     /// The decisions on controls.
     pub decisions: Vec<ControlDecision>,
-    pub ending: Option<TerminationReports>,
+    pub termination: Option<TerminationReports>,
 }
 
 // Returns the operation that a ctlVal requests.
@@ -98,7 +98,7 @@ fn control_request_of(operate: &OperateData<'_>) -> Ask
 }
 
 // Records the decision on a control that was written.
-fn put_written(
+fn record_written(
     client: ClientContext,
     switch: usize,
     part: ControlPart,
@@ -114,7 +114,7 @@ fn put_written(
         association: client.association,
         switch,
         part,
-        asked: Some(ControlRequest {
+        request: Some(ControlRequest {
             operation: operation_of(control.ctl_val),
             origin: origin_of(&control.origin),
             ctl_num: control.ctl_num,
@@ -186,7 +186,7 @@ impl Invocation<'_> {
         part: SwitchRow,
         control: &CancelData<'_>,
         why: AddCause,
-        written: &mut Written,
+        written: &mut WriteResults,
     ) -> Result<(), AllocError>
         requires { IsHandle self.now.bay.now.tree part.row }
         ensures response { OnOk result
@@ -197,7 +197,7 @@ impl Invocation<'_> {
             (Err why)) }
         ensures commands { written.new.commands ≡ written.old.commands }
         ensures decisions { written.new.decisions ≡ written.old.decisions }
-        ensures ending { written.new.ending ≡ written.old.ending }
+        ensures termination { written.new.termination ≡ written.old.termination }
     {
         written.response.failure(DENIED)?;
         self.report_refusal(part, control, why, &mut written.reports)
@@ -210,7 +210,7 @@ impl Invocation<'_> {
         written_to: ControlPart,
         control: &CancelData<'_>,
         answer: Result<(), AddCause>,
-        written: &mut Written,
+        written: &mut WriteResults,
     ) -> Result<(), AllocError>
         requires there { IsHandle self.now.bay.now.tree part.row }
         requires ident { length control.now.origin.or_ident.now ≤ 64 }
@@ -224,11 +224,11 @@ impl Invocation<'_> {
             ≡ written.old.decisions.items ++ written_decision self.now.client part.switch written_to
             (cancel_view control.now) answer ∷ []) }
         ensures commands { written.new.commands ≡ written.old.commands }
-        ensures ending { written.new.ending ≡ written.old.ending }
+        ensures termination { written.new.termination ≡ written.old.termination }
     {
         let client = self.client;
         let decisions = &mut written.decisions;
-        put_written(client, part.switch, written_to, control, answer, decisions)?;
+        record_written(client, part.switch, written_to, control, answer, decisions)?;
         match answer {
             Ok(()) => written.response.success(),
             Err(why) => self.refuse(part, control, why, written),
@@ -241,14 +241,14 @@ impl Invocation<'_> {
         part: SwitchRow,
         given: &Data<'_>,
         controls: &mut Controls,
-        written: &mut Written,
+        written: &mut WriteResults,
     ) -> Result<(), AllocError>
         requires { IsHandle self.now.bay.now.tree part.row }
-        ensures { OnOk result (writing_view self.now.bay.now controls.new written.new
+        ensures { OnOk result (write_state_view self.now.bay.now controls.new written.new
             ≡ write_select_with self.now.client (bay_of self.now) part.switch
             (name_at self.now.bay.now.tree part.row)
-            (writing_view self.now.bay.now controls.old written.old)
-            (operate_in (datum_of given.now))) }
+            (write_state_view self.now.bay.now controls.old written.old)
+            (operate_or_error (datum_of given.now))) }
     {
         let operate = match operate_of(given) {
             Ok(operate) => operate,
@@ -271,15 +271,15 @@ impl Invocation<'_> {
         part: SwitchRow,
         given: &Data<'_>,
         controls: &mut Controls,
-        written: &mut Written,
+        written: &mut WriteResults,
     ) -> Result<(), AllocError>
         requires { IsHandle self.now.bay.now.tree part.row }
         ensures { OnOk result
-            (writing_view self.now.bay.now controls.new written.new
+            (write_state_view self.now.bay.now controls.new written.new
             ≡ write_cancel self.now.client (bay_of self.now) part.switch
             (name_at self.now.bay.now.tree part.row)
-            (writing_view self.now.bay.now controls.old written.old)
-            (cancel_in (datum_of given.now))) }
+            (write_state_view self.now.bay.now controls.old written.old)
+            (cancel_or_error (datum_of given.now))) }
     {
         let cancel = match cancel_of(given) {
             Ok(cancel) => cancel,
@@ -293,14 +293,14 @@ impl Invocation<'_> {
     }
 
     // Returns the reports for the end of an operate.
-    fn ending(
+    fn termination(
         &self,
         row: Handle,
         operate: &OperateData<'_>,
     ) -> Result<TerminationReports, AllocError>
         requires { IsHandle self.now.bay.now.tree row }
-        ensures { IfOk result (λ ending. ending
-            ≡ ending_of self.now.client (name_at self.now.bay.now.tree row)
+        ensures { IfOk result (λ termination. termination
+            ≡ termination_reports self.now.client (name_at self.now.bay.now.tree row)
             (operate_view operate.now)
             (bay_of self.now)) }
     {
@@ -329,7 +329,7 @@ impl Invocation<'_> {
         row: Handle,
         operate: &OperateData<'_>,
         answer: Result<(), AddCause>,
-        written: &mut Written,
+        written: &mut WriteResults,
     ) -> Result<(), AllocError>
         requires { IsHandle self.now.bay.now.tree row }
         ensures response { written.new.response ≡ written.old.response }
@@ -338,10 +338,10 @@ impl Invocation<'_> {
         ensures commands { OnOk result
             (written.new.commands.items
             ≡ written.old.commands.items
-            ++ commands_for switch (operate_view operate.now) answer) }
-        ensures ending { OnOk result (written.new.ending
-            ≡ later_ending written.old.ending
-            (endings self.now.client switch (name_at self.now.bay.now.tree row)
+            ++ operate_commands switch (operate_view operate.now) answer) }
+        ensures termination { OnOk result (written.new.termination
+            ≡ later_ending written.old.termination
+            (accepted_termination self.now.client switch (name_at self.now.bay.now.tree row)
             (operate_view operate.now) (bay_of self.now) answer)) }
     {
         if let Err(_) = answer {
@@ -352,8 +352,8 @@ impl Invocation<'_> {
             operation: operation_of(operate.control.ctl_val),
         })?;
         if self.bay.has_reports(switch) {
-            let ending = self.ending(row, operate)?;
-            written.ending = Some(ending);
+            let termination = self.termination(row, operate)?;
+            written.termination = Some(termination);
         }
         Ok(())
     }
@@ -364,16 +364,16 @@ impl Invocation<'_> {
         part: SwitchRow,
         given: &Data<'_>,
         controls: &mut Controls,
-        written: &mut Written,
+        written: &mut WriteResults,
     ) -> Result<(), AllocError>
         requires there { IsHandle self.now.bay.now.tree part.row }
         requires switch { part.switch < length self.now.bay.now.switches }
         ensures { OnOk result
-            (writing_view self.now.bay.now controls.new written.new
+            (write_state_view self.now.bay.now controls.new written.new
             ≡ write_operate self.now.client (bay_of self.now) part.switch
             (name_at self.now.bay.now.tree part.row)
-            (writing_view self.now.bay.now controls.old written.old)
-            (operate_in (datum_of given.now))) }
+            (write_state_view self.now.bay.now controls.old written.old)
+            (operate_or_error (datum_of given.now))) }
     {
         let operate = match operate_of(given) {
             Ok(operate) => operate,
@@ -400,13 +400,13 @@ impl Invocation<'_> {
         name: &ObjectName<'_>,
         given: &Data<'_>,
         controls: &mut Controls,
-        written: &mut Written,
+        written: &mut WriteResults,
     ) -> Result<(), AllocError>
         ensures { OnOk result
-            (writing_view self.now.bay.now controls.new written.new
+            (write_state_view self.now.bay.now controls.new written.new
             ≡ spec.write_one self.now.client (bay_of self.now) (object_name_view name.now)
             (datum_of given.now)
-            (writing_view self.now.bay.now controls.old written.old)) }
+            (write_state_view self.now.bay.now controls.old written.old)) }
     {
         let Some(row) = self.bay.row_named(name) else {
             return written.response.failure(DataAccessError::ObjectNonExistent);
@@ -430,13 +430,13 @@ impl Invocation<'_> {
         names: &[ObjectName<'_>],
         values: &[Data<'_>],
         controls: &mut Controls,
-        written: &mut Written,
+        written: &mut WriteResults,
     ) -> Result<(), AllocError>
         ensures { OnOk result
-            (writing_view self.now.bay.now controls.new written.new
+            (write_state_view self.now.bay.now controls.new written.new
             ≡ spec.write_all self.now.client (bay_of self.now) (map object_name_view names.now)
             (data_in values.now)
-            (writing_view self.now.bay.now controls.old written.old)) }
+            (write_state_view self.now.bay.now controls.old written.old)) }
     {
         for i in 0..names.len().min(values.len()) {
             self.write_one(&names[i], &values[i], controls, written)?;

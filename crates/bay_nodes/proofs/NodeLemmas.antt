@@ -11,14 +11,14 @@ use Rattle.bay_nodes.specs.declared.switch.Switch.{Switch}
 use Rattle.bay_base.specs.declared.switch.SwitchKind.{SwitchKind}
 use Rattle.bay_nodes.specs.declared.nameplate.Nameplate.{Nameplate}
 use Rattle.bay_nodes.specs.declared.tables.InitialValue.{InitialValue}
-use Rattle.bay_nodes.specs.Node.{NodePart, Parts, Node, row, rows_of, rows_of_parts, parts_of, inside, value, commands, model_of, node_name, node_rows, device_node, device_parts, physical_node, physical_parts, position_node, position_parts, position_nodes, control_parts, control_nodes, interlocking_node, interlocking_nodes, meter_node, meter_nodes, rows_of_all, is_of}
-use Rattle.bay_nodes.specs.NodeRows.{line_row, under, table_rows, tabled_nodes, status_group, type_rows, position_model, command_rows, control_group, control_model}
+use Rattle.bay_nodes.specs.Node.{NodePart, Parts, Node, row, rows_of, rows_of_parts, parts_of, inside, value, command_parts, control_model_number, node_name, node_rows, device_node, device_parts, physical_node, physical_parts, position_node, position_parts, position_nodes, control_parts, control_nodes, interlocking_node, interlocking_nodes, meter_node, meter_nodes, bay_rows, is_in_group}
+use Rattle.bay_nodes.specs.NodeRows.{line_row, row_of_node, table_rows, tabled_nodes, status_group, type_rows, position_model, command_rows, control_group, control_model}
 
 -- a node's own row, and the rows of its table
 pub node-appended : (n : Nameplate) (node : List ℕ) (table : List (Bor (List ℕ) × InitialValue))
     (parts : Parts) → map (line_row n) table ≡ rows_of_parts [] parts
     → row node None ∷ table_rows n node table ≡ node_rows (record { name = node; parts = parts })
-node-appended n node table parts same = ap (λ rs. row node None ∷ map (under node) rs) same
+node-appended n node table parts same = ap (λ rs. row node None ∷ map (row_of_node node) rs) same
 
 -- what is appended for the device itself makes its nodes
 pub device-appended : (n : Nameplate) (old : List Row)
@@ -40,25 +40,25 @@ device-appended n old device physical d p =
 
 -- groups of rows that are appended one after another
 pub two-groups : (node : List ℕ) (old a b : List Row)
-    → (old ++ map (under node) a) ++ map (under node) b ≡ old ++ map (under node) (a ++ b)
+    → (old ++ map (row_of_node node) a) ++ map (row_of_node node) b ≡ old ++ map (row_of_node node) (a ++ b)
 two-groups node old a b = simp (append_assoc, map-append)
 
 pub four-groups : (node : List ℕ) (old a b c d : List Row)
-    → (((old ++ map (under node) a) ++ map (under node) b) ++ map (under node) c)
-    ++ map (under node) d ≡ old ++ map (under node) (a ++ (b ++ (c ++ d)))
+    → (((old ++ map (row_of_node node) a) ++ map (row_of_node node) b) ++ map (row_of_node node) c)
+    ++ map (row_of_node node) d ≡ old ++ map (row_of_node node) (a ++ (b ++ (c ++ d)))
 four-groups node old a b c d = simp (append_assoc, map-append)
 
 -- and behind a node's own row
 node-groups : (node : List ℕ) (old a b c d : List Row)
-    → ((((old ++ row (node ++ []) None ∷ []) ++ map (under node) a) ++ map (under node) b)
-    ++ map (under node) c) ++ map (under node) d
-    ≡ old ++ row node None ∷ map (under node) (a ++ (b ++ (c ++ d)))
+    → ((((old ++ row (node ++ []) None ∷ []) ++ map (row_of_node node) a) ++ map (row_of_node node) b)
+    ++ map (row_of_node node) c) ++ map (row_of_node node) d
+    ≡ old ++ row node None ∷ map (row_of_node node) (a ++ (b ++ (c ++ d)))
 node-groups node old a b c d = simp (append_assoc, append-nil, map-append)
 
 -- what is appended for a switch's position makes its node
 pub position-appended : (old : List Row) (node : List ℕ) (kind : SwitchKind)
-    → (((old ++ row (node ++ []) None ∷ []) ++ map (under node) status_group)
-    ++ map (under node) (type_rows kind)) ++ map (under node) position_model
+    → (((old ++ row (node ++ []) None ∷ []) ++ map (row_of_node node) status_group)
+    ++ map (row_of_node node) (type_rows kind)) ++ map (row_of_node node) position_model
     ≡ old ++ node_rows (record { name = node; parts = position_parts kind })
 position-appended old node kind =
     sym (append-nil _) ∙ node-groups node old status_group (type_rows kind) position_model []
@@ -77,26 +77,26 @@ rows-of_both path (p ∷ ps) qs =
 abbrev pub configuration : Control → ℕ → List NodePart
 configuration control timeout =
     inside (codes "CF") (inside (codes "Pos")
-    (value (codes "ctlModel") (Int8 (pos (model_of control)))
+    (value (codes "ctlModel") (Int8 (pos (control_model_number control)))
     ∷ value (codes "sboTimeout") (Unsigned32 timeout) ∷ []) ∷ []) ∷ []
 
 -- what is appended for a control makes its node
 control-appended : (old : List Row) (node : List ℕ) (control : Control) (timeout : ℕ)
-    → ((((old ++ row (node ++ []) None ∷ []) ++ map (under node) control_group)
-    ++ map (under node) (command_rows control)) ++ map (under node) (control_model control))
+    → ((((old ++ row (node ++ []) None ∷ []) ++ map (row_of_node node) control_group)
+    ++ map (row_of_node node) (command_rows control)) ++ map (row_of_node node) (control_model control))
     ++ row (node ++ codes "$CF$Pos$sboTimeout") (Some (Unsigned32 timeout)) ∷ []
     ≡ old ++ node_rows (record { name = node; parts = control_parts control timeout })
 control-appended old node control timeout =
     node-groups node old control_group (command_rows control) (control_model control)
     (row (codes "$CF$Pos$sboTimeout") (Some (Unsigned32 timeout)) ∷ [])
-    ∙ ap (λ rs. old ++ row node None ∷ map (under node) (control_group ++ rs))
-    (sym (rows-of_both [] (commands control) (configuration control timeout)))
+    ∙ ap (λ rs. old ++ row node None ∷ map (row_of_node node) (control_group ++ rs))
+    (sym (rows-of_both [] (command_parts control) (configuration control timeout)))
 
 pub control_appended : (n : Nameplate) (old : List Row) (node : List ℕ) (control : Control)
     (timeout : ℕ) (first last : List (Bor (List ℕ) × InitialValue))
     → map (line_row n) first ≡ control_group → map (line_row n) last ≡ control_model control
     → ((((old ++ row (node ++ []) None ∷ []) ++ table_rows n node first)
-    ++ map (under node) (command_rows control)) ++ table_rows n node last)
+    ++ map (row_of_node node) (command_rows control)) ++ table_rows n node last)
     ++ row (node ++ codes "$CF$Pos$sboTimeout") (Some (Unsigned32 timeout)) ∷ []
     ≡ old ++ node_rows (record { name = node; parts = control_parts control timeout })
 control_appended n old node control timeout first last f l =
@@ -105,17 +105,17 @@ control_appended n old node control timeout first last f l =
 -- the rows of the breakers or of the other switches, numbered from n
 abbrev pub positions_from : Bool → ℕ → List Switch → List Row
 positions_from breakers n ss =
-    flat_map node_rows (map position_node (enumerate_from n (filter (is_of breakers) ss)))
+    flat_map node_rows (map position_node (enumerate_from n (filter (is_in_group breakers) ss)))
 
 positions-cons : (breakers : Bool) (n : ℕ) (s : Switch) (ss : List Switch) (b : Bool)
-    → is_of breakers s ≡ b → positions_from breakers n (s ∷ ss)
+    → is_in_group breakers s ≡ b → positions_from breakers n (s ∷ ss)
     ≡ cond b (node_rows (position_node (n, s)) ++ positions_from breakers (n + 1) ss)
     (positions_from breakers n ss)
 positions-cons breakers n s ss true e = rw e
 positions-cons breakers n s ss false e = rw e
 
 positions-at : (breakers : Bool) (ss : List Switch) (i n : ℕ) (s : Switch) (b : Bool)
-    → i < length ss → s ≡ get_or ss i s → is_of breakers s ≡ b
+    → i < length ss → s ≡ get_or ss i s → is_in_group breakers s ≡ b
     → positions_from breakers n (drop i ss)
     ≡ cond b (node_rows (position_node (n, s)) ++ positions_from breakers (n + 1) (drop (i + 1) ss))
     (positions_from breakers n (drop (i + 1) ss))
@@ -126,7 +126,7 @@ positions-at breakers ss i n s b h at e =
 
 -- one turn: a switch that has a node here, and one that has none
 pub position-turn : (breakers : Bool) (ss : List Switch) (i n : ℕ) (s : Switch) (done : List Row)
-    → i < length ss → s ≡ get_or ss i s → is_of breakers s ≡ true
+    → i < length ss → s ≡ get_or ss i s → is_in_group breakers s ≡ true
     → done ++ positions_from breakers n (drop i ss)
     ≡ (done ++ node_rows (position_node (n, s)))
     ++ positions_from breakers (n + 1) (drop (i + 1) ss)
@@ -136,7 +136,7 @@ position-turn breakers ss i n s done h at e =
     (positions_from breakers (n + 1) (drop (i + 1) ss)))
 
 pub position-passed : (breakers : Bool) (ss : List Switch) (i n : ℕ) (s : Switch) (done : List Row)
-    → i < length ss → s ≡ get_or ss i s → is_of breakers s ≡ false
+    → i < length ss → s ≡ get_or ss i s → is_in_group breakers s ≡ false
     → done ++ positions_from breakers n (drop i ss)
     ≡ done ++ positions_from breakers n (drop (i + 1) ss)
 position-passed breakers ss i n s done h at e =
@@ -197,7 +197,7 @@ pub all-joined : (p : Nameplate) (ss : List Switch) (ms : List (List ℕ)) (o a 
     → c ≡ b ++ flat_map node_rows (position_nodes false ss)
     → d ≡ c ++ flat_map node_rows (control_nodes ss)
     → e ≡ d ++ numbered_from interlocking_node 1 ss → f ≡ e ++ numbered_from meter_node 1 ms
-    → f ≡ rows_of_all p ss ms
+    → f ≡ bay_rows p ss ms
 all-joined p ss ms o a b c d e f ho ha hb hc hd he hf =
     rw (hf, he, hd, hc, hb, ha, ho)
     (joined node_rows (device_node p ∷ physical_node p ∷ []) (position_nodes true ss)

@@ -16,7 +16,7 @@ use Rattle.bay_nodes.specs.declared.switch.Switch.{Switch}
 use Rattle.bay_base.specs.declared.switch.SwitchKind.{SwitchKind}
 use Rattle.bay_base.specs.declared.switch.SwitchKind.TheVariants.{Breaker, Disconnector, Earthing}
 use Rattle.bay_nodes.specs.declared.nameplate.Nameplate.{Nameplate}
-use Rattle.bay_nodes.specs.Node.{Node, node_name, class_of, is_breaker, is_of, device_node, physical_node, position_node, position_nodes, position_parts, control_node, control_nodes, control_parts, interlocking_node, interlocking_nodes, meter_node, meter_nodes, nodes_of, rows_of_all}
+use Rattle.bay_nodes.specs.Node.{Node, node_name, class_of, is_breaker, is_in_group, device_node, physical_node, position_node, position_nodes, position_parts, control_node, control_nodes, control_parts, interlocking_node, interlocking_nodes, meter_node, meter_nodes, nodes_of, bay_rows}
 use Rattle.bay_nodes.proofs.PathLemmas.{IsPlain, IsGood, IsApart, AllDiffer, stands, paths, weaker, both, nodes-follow}
 use Rattle.bay_nodes.proofs.TreeLemmas.{IsTree-follow}
 
@@ -157,20 +157,20 @@ class-other Disconnector h = refl
 class-other Earthing h = refl
 
 breakers-class : (ss : List Switch)
-    → AllByRecursion (λ s. class_of s.kind ≡ codes "XCBR") (filter (is_of true) ss)
+    → AllByRecursion (λ s. class_of s.kind ≡ codes "XCBR") (filter (is_in_group true) ss)
 breakers-class ss =
-    weaker (λ (s : Switch). is_of true s ≡ true) (λ (s : Switch). class_of s.kind ≡ codes "XCBR")
-    (filter (is_of true) ss) (λ s h. class-breaker s.kind h)
-    (recursion_from_All (λ (s : Switch). is_of true s ≡ true) (filter (is_of true) ss)
-    (filter_passes (is_of true) ss))
+    weaker (λ (s : Switch). is_in_group true s ≡ true) (λ (s : Switch). class_of s.kind ≡ codes "XCBR")
+    (filter (is_in_group true) ss) (λ s h. class-breaker s.kind h)
+    (recursion_from_All (λ (s : Switch). is_in_group true s ≡ true) (filter (is_in_group true) ss)
+    (filter_passes (is_in_group true) ss))
 
 others-class : (ss : List Switch)
-    → AllByRecursion (λ s. class_of s.kind ≡ codes "XSWI") (filter (is_of false) ss)
+    → AllByRecursion (λ s. class_of s.kind ≡ codes "XSWI") (filter (is_in_group false) ss)
 others-class ss =
-    weaker (λ (s : Switch). is_of false s ≡ true) (λ (s : Switch). class_of s.kind ≡ codes "XSWI")
-    (filter (is_of false) ss) (λ s h. class-other s.kind h)
-    (recursion_from_All (λ (s : Switch). is_of false s ≡ true) (filter (is_of false) ss)
-    (filter_passes (is_of false) ss))
+    weaker (λ (s : Switch). is_in_group false s ≡ true) (λ (s : Switch). class_of s.kind ≡ codes "XSWI")
+    (filter (is_in_group false) ss) (λ s h. class-other s.kind h)
+    (recursion_from_All (λ (s : Switch). is_in_group false s ≡ true) (filter (is_in_group false) ss)
+    (filter_passes (is_in_group false) ss))
 
 length-filter-le : (test : Switch → Bool) (ss : List Switch) → length (filter test ss) ≤ length ss
 length-filter-le test [] = omega arith
@@ -259,8 +259,8 @@ apart-single name (g ∷ gs) h =
 -- the classes of a bay's nodes that are numbered
 abbrev families_of : List Switch → List (List ℕ) → List Family
 families_of ss ms =
-    record { class = codes "XCBR"; first = 1; count = length (filter (is_of true) ss) }
-    ∷ record { class = codes "XSWI"; first = 1; count = length (filter (is_of false) ss) }
+    record { class = codes "XCBR"; first = 1; count = length (filter (is_in_group true) ss) }
+    ∷ record { class = codes "XSWI"; first = 1; count = length (filter (is_in_group false) ss) }
     ∷ record { class = codes "CSWI"; first = 1; count = length ss }
     ∷ record { class = codes "CILO"; first = 1; count = length ss }
     ∷ record { class = codes "MMXU"; first = 1; count = length ms }
@@ -269,8 +269,8 @@ families_of ss ms =
 nodes-good : (n : Nameplate) (ss : List Switch) (ms : List (List ℕ)) → length ss < 2 ^ 32
     → length ms < 2 ^ 32 → AllByRecursion IsGood (nodes_of n ss ms)
 nodes-good n ss ms few fewer =
-    let one = length-filter-le (is_of true) ss in
-    let two = length-filter-le (is_of false) ss in
+    let one = length-filter-le (is_in_group true) ss in
+    let two = length-filter-le (is_in_group false) ss in
     let meters = good-numbered meter_node good-meter 1 ms (omega arith) in
     let interlockings =
     both IsGood (interlocking_nodes ss) (meter_nodes ms)
@@ -281,12 +281,12 @@ nodes-good n ss ms few fewer =
     let others =
     both IsGood (position_nodes false ss)
     (control_nodes ss ++ (interlocking_nodes ss ++ meter_nodes ms))
-    (good-numbered position_node good-position 1 (filter (is_of false) ss) (omega arith))
+    (good-numbered position_node good-position 1 (filter (is_in_group false) ss) (omega arith))
     controls in
     let positions =
     both IsGood (position_nodes true ss)
     (position_nodes false ss ++ (control_nodes ss ++ (interlocking_nodes ss ++ meter_nodes ms)))
-    (good-numbered position_node good-position 1 (filter (is_of true) ss) (omega arith)) others
+    (good-numbered position_node good-position 1 (filter (is_in_group true) ss) (omega arith)) others
     in
     (good-device n, (good-physical n, positions))
 
@@ -295,8 +295,8 @@ names-nodes : (n : Nameplate) (ss : List Switch) (ms : List (List ℕ))
     ≡ codes "LLN0" ∷ codes "LPHD1" ∷ flat_map family_names (families_of ss ms)
 names-nodes n ss ms =
     let name : Node → List ℕ = λ node. node.name in
-    let breakers = names-positions (codes "XCBR") 1 (filter (is_of true) ss) (breakers-class ss) in
-    let others = names-positions (codes "XSWI") 1 (filter (is_of false) ss) (others-class ss) in
+    let breakers = names-positions (codes "XCBR") 1 (filter (is_in_group true) ss) (breakers-class ss) in
+    let others = names-positions (codes "XSWI") 1 (filter (is_in_group false) ss) (others-class ss) in
     let controls = names-numbered (codes "CSWI") control_node (λ n t. refl) 1 ss in
     let interlockings = names-numbered (codes "CILO") interlocking_node (λ n t. refl) 1 ss in
     let meters = names-numbered (codes "MMXU") meter_node (λ n t. refl) 1 ms in
@@ -319,8 +319,8 @@ names-nodes n ss ms =
 nodes-differ : (n : Nameplate) (ss : List Switch) (ms : List (List ℕ)) → length ss < 2 ^ 32
     → length ms < 2 ^ 32 → AllDiffer (names_of (nodes_of n ss ms))
 nodes-differ n ss ms few fewer =
-    let one = length-filter-le (is_of true) ss in
-    let two = length-filter-le (is_of false) ss in
+    let one = length-filter-le (is_in_group true) ss in
+    let two = length-filter-le (is_in_group false) ss in
     let fs = families_of ss ms in
     let rest : AllDiffer (flat_map family_names fs) =
     families-differ fs refl
@@ -336,8 +336,8 @@ all-apart (node ∷ nodes) = (tt, all-apart nodes)
 
 -- the rows of a bay make a tree
 pub rows-make-tree : (n : Nameplate) (ss : List Switch) (ms : List (List ℕ)) → length ss < 2 ^ 32
-    → length ms < 2 ^ 32 → IsTree (rows_of_all n ss ms)
+    → length ms < 2 ^ 32 → IsTree (bay_rows n ss ms)
 rows-make-tree n ss ms few fewer =
-    IsTree-follow (rows_of_all n ss ms)
+    IsTree-follow (bay_rows n ss ms)
     (nodes-follow [] (nodes_of n ss ms) (nodes-good n ss ms few fewer)
     (all-apart (nodes_of n ss ms)) (nodes-differ n ss ms few fewer))

@@ -12,7 +12,7 @@ use Rattle.bay_tree.specs.declared.row.Row.{Row}
 use Rattle.bay_tree.specs.Names.{parent_of}
 use Rattle.bay_tree.specs.Rows.{IsStructureNamed}
 use Rattle.bay_nodes.specs.Node.{Node, row, node_rows, rows_of_parts}
-use Rattle.bay_nodes.specs.NodeRows.{under}
+use Rattle.bay_nodes.specs.NodeRows.{row_of_node}
 use Rattle.bay_nodes.proofs.TreeLemmas.{CanFollow, Follow, Follow-append}
 
 -- the text is one of these
@@ -107,25 +107,25 @@ found (q ∷ qs) p h =
 -- it is found behind other rows, under the node's name
 found-under : (node : List ℕ) (earlier done : List Row) (p : List ℕ)
     → list_any (λ q. bytes_eq q.name p && is_none q.leaf) done ≡ true
-    → Any (IsStructureNamed (node ++ p)) (earlier ++ map (under node) done)
+    → Any (IsStructureNamed (node ++ p)) (earlier ++ map (row_of_node node) done)
 found-under node earlier done p h =
     let w = found done p h in
-    let long : length (earlier ++ map (under node) done)
-    ≡ length earlier + length (map (under node) done) =
-    length-append earlier (map (under node) done) in
-    let same : length (map (under node) done) ≡ length done = length-map done (under node) in (
+    let long : length (earlier ++ map (row_of_node node) done)
+    ≡ length earlier + length (map (row_of_node node) done) =
+    length-append earlier (map (row_of_node node) done) in
+    let same : length (map (row_of_node node) done) ≡ length done = length-map done (row_of_node node) in (
       length earlier + w.0,
-      under node w.1,
+      row_of_node node w.1,
       omega (arith, w.2),
-      get_or-append-add earlier (map (under node) done) w.0 (under node w.1)
-          ∙ get_or-map (under node) done w.0 w.1 (under node w.1) w.2 ∙ ap (under node) w.3,
+      get_or-append-add earlier (map (row_of_node node) done) w.0 (row_of_node node w.1)
+          ∙ get_or-map (row_of_node node) done w.0 w.1 (row_of_node node w.1) w.2 ∙ ap (row_of_node node) w.3,
       record { named = ap (λ n. node ++ n) w.4.named; structure = w.4.structure },
     )
 
 parent-found : (node : List ℕ) (earlier done : List Row) (s : List ℕ) (o : Option (List ℕ))
     → parent_of s ≡ o → passes (λ p. list_any (λ q. bytes_eq q.name p && is_none q.leaf) done) o
     ≡ true → IfSome (parent_of (node ++ s))
-    (λ p. Any (IsStructureNamed p) (earlier ++ map (under node) done))
+    (λ p. Any (IsStructureNamed p) (earlier ++ map (row_of_node node) done))
 parent-found node earlier done s None e h = absurd (cc)
 parent-found node earlier done s (Some p) e h =
     rw (parent-join node s p e) (found-under node earlier done p h)
@@ -133,7 +133,7 @@ parent-found node earlier done s (Some p) e h =
 parent-follows : (node : List ℕ) (earlier done : List Row) (s : List ℕ) → IsPlain node
     → parent_stands done s ≡ true
     → IfSome (parent_of (node ++ s))
-    (λ p. Any (IsStructureNamed p) (earlier ++ map (under node) done))
+    (λ p. Any (IsStructureNamed p) (earlier ++ map (row_of_node node) done))
 parent-follows node earlier done [] plain h = rw (append-nil, parent-word node plain) tt
 parent-follows node earlier done (c ∷ cs) plain h =
     parent-found node earlier done (c ∷ cs) (parent_of (c ∷ cs)) refl
@@ -147,7 +147,7 @@ weaker P Q (x ∷ xs) f h = (f x h.0, weaker P Q xs f h.1)
 
 new-name : (node : List ℕ) (done : List Row) (s : List ℕ)
     → is_among (map (λ q. q.name) done) s ≡ false
-    → AllByRecursion (λ o. o.name ≢ node ++ s) (map (under node) done)
+    → AllByRecursion (λ o. o.name ≢ node ++ s) (map (row_of_node node) done)
 new-name node [] s h = tt
 new-name node (q ∷ qs) s h =
     let parts = or_parts (bytes_eq s q.name) (is_among (map (λ x. x.name) qs) s) h in (
@@ -164,22 +164,22 @@ IsApart earlier node = AllByRecursion (λ o. head_of o.name ≢ node) earlier
 
 row-follows : (node : List ℕ) (earlier done : List Row) (r : Row) → IsPlain node
     → IsApart earlier node → is_among (map (λ q. q.name) done) r.name ≡ false
-    → parent_stands done r.name ≡ true → CanFollow (earlier ++ map (under node) done) (under node r)
+    → parent_stands done r.name ≡ true → CanFollow (earlier ++ map (row_of_node node) done) (row_of_node node r)
 row-follows node earlier done r plain apart new parent =
     let head : head_of (node ++ r.name) ≡ node =
     head-word node r.name plain (path-stands done r.name parent) in
     record {
-      distinct = All-append (λ (o : Row). o.name ≢ node ++ r.name) earlier (map (under node) done)
+      distinct = All-append (λ (o : Row). o.name ≢ node ++ r.name) earlier (map (row_of_node node) done)
           (All-from_recursion (λ (o : Row). o.name ≢ node ++ r.name) earlier
           (weaker (λ (o : Row). head_of o.name ≢ node) (λ (o : Row). o.name ≢ node ++ r.name)
           earlier (λ o other same. other (ap head_of same ∙ head)) apart))
-          (All-from_recursion (λ (o : Row). o.name ≢ node ++ r.name) (map (under node) done)
+          (All-from_recursion (λ (o : Row). o.name ≢ node ++ r.name) (map (row_of_node node) done)
           (new-name node done r.name new));
       parent = parent-follows node earlier done r.name plain parent;
     }
 
 rows-follow : (node : List ℕ) (earlier done rest : List Row) → IsPlain node → IsApart earlier node
-    → stands done rest ≡ true → Follow (earlier ++ map (under node) done) (map (under node) rest)
+    → stands done rest ≡ true → Follow (earlier ++ map (row_of_node node) done) (map (row_of_node node) rest)
 rows-follow node earlier done [] plain apart h = tt
 rows-follow node earlier done (r ∷ rs) plain apart h =
     let parts =
@@ -188,12 +188,12 @@ rows-follow node earlier done (r ∷ rs) plain apart h =
     let here =
     and_parts (not (is_among (map (λ q. q.name) done) r.name)) (parent_stands done r.name)
     parts.0 in
-    let grown : earlier ++ map (under node) (done ++ r ∷ [])
-    ≡ (earlier ++ map (under node) done) ++ under node r ∷ [] =
-    ap (λ rows. earlier ++ rows) (map-append (under node) done (r ∷ []))
-    ∙ sym (append_assoc earlier (map (under node) done) (under node r ∷ [])) in (
+    let grown : earlier ++ map (row_of_node node) (done ++ r ∷ [])
+    ≡ (earlier ++ map (row_of_node node) done) ++ row_of_node node r ∷ [] =
+    ap (λ rows. earlier ++ rows) (map-append (row_of_node node) done (r ∷ []))
+    ∙ sym (append_assoc earlier (map (row_of_node node) done) (row_of_node node r ∷ [])) in (
       row-follows node earlier done r plain apart (not-true _ here.0) here.1,
-      subst (λ e. Follow e (map (under node) rs)) grown
+      subst (λ e. Follow e (map (row_of_node node) rs)) grown
           (rows-follow node earlier (done ++ r ∷ []) rs plain apart parts.1),
     )
 
@@ -205,20 +205,20 @@ pub record IsGood (node : Node) : Type 0 where
   pub plain : IsPlain node.name
   pub standing : stands [] (paths node) ≡ true
 
-rows-under : (node : Node) → map (under node.name) (paths node) ≡ node_rows node
+rows-under : (node : Node) → map (row_of_node node.name) (paths node) ≡ node_rows node
 rows-under node =
-    ap (λ n. row n None ∷ map (under node.name) (rows_of_parts [] node.parts))
+    ap (λ n. row n None ∷ map (row_of_node node.name) (rows_of_parts [] node.parts))
     (append-nil node.name)
 
 node-follows : (node : Node) (earlier : List Row) → IsGood node → IsApart earlier node.name
     → Follow earlier (node_rows node)
 node-follows node earlier good apart =
     subst (Follow earlier) (rows-under node)
-    (subst (λ e. Follow e (map (under node.name) (paths node))) (append-nil earlier)
+    (subst (λ e. Follow e (map (row_of_node node.name) (paths node))) (append-nil earlier)
     (rows-follow node.name earlier [] (paths node) good.plain apart good.standing))
 
 heads : (node : List ℕ) (done rest : List Row) → IsPlain node → stands done rest ≡ true
-    → AllByRecursion (λ o. head_of o.name ≡ node) (map (under node) rest)
+    → AllByRecursion (λ o. head_of o.name ≡ node) (map (row_of_node node) rest)
 heads node done [] plain h = tt
 heads node done (r ∷ rs) plain h =
     let parts =

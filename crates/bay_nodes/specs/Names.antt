@@ -75,31 +75,31 @@ names_by_nodes node control interlocking = record {
 
 -- the node of a switch is XCBR or XSWI, with its number among the switches of its class (IEC
 -- 61850-7-4, XCBR, XSWI)
-abbrev pub node_of : List Switch → ℕ → Switch → List ℕ
-node_of switches k switch = node_name (class_of switch.kind) (node_number switches switch k)
+abbrev pub switch_node : List Switch → ℕ → Switch → List ℕ
+switch_node switches k switch = node_name (class_of switch.kind) (node_number switches switch k)
 
 -- the node of the control of the switch at index k; its number is k + 1 (IEC 61850-7-4, CSWI)
-abbrev pub control_of : ℕ → List ℕ
-control_of k = node_name (codes "CSWI") (k + 1)
+abbrev pub cswi_name : ℕ → List ℕ
+cswi_name k = node_name (codes "CSWI") (k + 1)
 
 -- the node of the interlocking of the switch at index k (IEC 61850-7-4, CILO)
-abbrev pub interlocking_of : ℕ → List ℕ
-interlocking_of k = node_name (codes "CILO") (k + 1)
+abbrev pub cilo_name : ℕ → List ℕ
+cilo_name k = node_name (codes "CILO") (k + 1)
 
 -- ---- IEC 61850-7-4 CILO: names of interlocking values by index
 
 -- the names of the release of the opening of the switch at index k
-abbrev pub opening_of : ℕ → StatusNames
-opening_of k = opening_names (interlocking_of k)
+abbrev pub opening_names_at : ℕ → StatusNames
+opening_names_at k = opening_names (cilo_name k)
 
 -- the names of the release of the closing of the switch at index k
-abbrev pub closing_of : ℕ → StatusNames
-closing_of k = closing_names (interlocking_of k)
+abbrev pub closing_names_at : ℕ → StatusNames
+closing_names_at k = closing_names (cilo_name k)
 
 -- the names of the switch at index k (own)
 abbrev pub switch_names : List Switch → ℕ → Switch → SwitchNames
 switch_names switches k switch =
-    names_by_nodes (node_of switches k switch) (control_of k) (interlocking_of k)
+    names_by_nodes (switch_node switches k switch) (cswi_name k) (cilo_name k)
 
 -- ---- IEC 61850-8-1 SBO, SBOw, Oper, Cancel: names of controls
 
@@ -125,7 +125,7 @@ control_names_of node = record {
 
 -- the names of the control of the switch at index k
 abbrev pub control_names : ℕ → ControlNames
-control_names k = control_names_of (control_of k)
+control_names k = control_names_of (cswi_name k)
 
 -- ---- IEC 61850-7-3 MV, CMV: names of measured values
 

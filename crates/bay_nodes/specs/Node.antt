@@ -121,8 +121,8 @@ position_parts kind =
 
 -- the structure that a client writes to operate a switch, or to select it with value (IEC
 -- 61850-8-1, Oper and SBOw)
-abbrev pub operation : List ℕ → NodePart
-operation name =
+abbrev pub operate_part : List ℕ → NodePart
+operate_part name =
     inside name
     (value (codes "ctlVal") (Truth false)
     ∷ inside (codes "origin")
@@ -134,8 +134,8 @@ operation name =
     ∷ [])
 
 -- the structure that a client writes to cancel a selection; it has no Check (IEC 61850-8-1, Cancel)
-abbrev pub cancelling : NodePart
-cancelling =
+abbrev pub cancel_part : NodePart
+cancel_part =
     inside (codes "Cancel")
     (value (codes "ctlVal") (Truth false)
     ∷ inside (codes "origin")
@@ -146,24 +146,24 @@ cancelling =
     ∷ [])
 
 -- the functional constraint CO with these parts below Pos (IEC 61850-7-2, CO)
-abbrev pub controls_by : List NodePart → List NodePart
-controls_by ps = inside (codes "CO") (inside (codes "Pos") ps ∷ []) ∷ []
+abbrev pub control_structure : List NodePart → List NodePart
+control_structure ps = inside (codes "CO") (inside (codes "Pos") ps ∷ []) ∷ []
 
 -- the control rows of a switch, by its kind of control (IEC 61850-8-1, SBO, SBOw, Oper, Cancel)
-abbrev pub commands : Control → List NodePart
-commands Status = []
-commands Direct = controls_by (operation (codes "Oper") ∷ [])
-commands Sbo =
-    controls_by (value (codes "SBO") (Reference []) ∷ operation (codes "Oper") ∷ cancelling ∷ [])
-commands SboEnhanced =
-    controls_by (operation (codes "SBOw") ∷ operation (codes "Oper") ∷ cancelling ∷ [])
+abbrev pub command_parts : Control → List NodePart
+command_parts Status = []
+command_parts Direct = control_structure (operate_part (codes "Oper") ∷ [])
+command_parts Sbo =
+    control_structure (value (codes "SBO") (Reference []) ∷ operate_part (codes "Oper") ∷ cancel_part ∷ [])
+command_parts SboEnhanced =
+    control_structure (operate_part (codes "SBOw") ∷ operate_part (codes "Oper") ∷ cancel_part ∷ [])
 
 -- the number of a control model (IEC 61850-7-3, ctlModel)
-abbrev pub model_of : Control → ℕ
-model_of Status = 0
-model_of Direct = 1
-model_of Sbo = 2
-model_of SboEnhanced = 4
+abbrev pub control_model_number : Control → ℕ
+control_model_number Status = 0
+control_model_number Direct = 1
+control_model_number Sbo = 2
+control_model_number SboEnhanced = 4
 
 -- the parts of the node of a control; its position repeats that of the switch (IEC 61850-7-4, CSWI)
 abbrev pub control_parts : Control → ℕ → Parts
@@ -172,9 +172,9 @@ control_parts control timeout =
     (inside (codes "ST") (inside (codes "Pos")
     (value (codes "stVal") (Dbpos Intermediate) ∷ stamp Invalid
     ++ value (codes "stSeld") (Truth false) ∷ []) ∷ [])
-    ∷ commands control
+    ∷ command_parts control
     ++ inside (codes "CF") (inside (codes "Pos")
-    (value (codes "ctlModel") (Int8 (pos (model_of control)))
+    (value (codes "ctlModel") (Int8 (pos (control_model_number control)))
     ∷ value (codes "sboTimeout") (Unsigned32 timeout) ∷ []) ∷ [])
     ∷ [])
 
@@ -196,8 +196,8 @@ abbrev pub measured_value : List ℕ → NodePart
 measured_value name = inside name (magnitude ∷ stamp Invalid)
 
 -- the measured value of a phase (IEC 61850-7-3, CMV)
-abbrev pub phase : List ℕ → NodePart
-phase name = inside name (inside (codes "cVal") (magnitude ∷ []) ∷ stamp Invalid)
+abbrev pub phase_value : List ℕ → NodePart
+phase_value name = inside name (inside (codes "cVal") (magnitude ∷ []) ∷ stamp Invalid)
 
 -- the parts of the node of a meter (IEC 61850-7-4, MMXU)
 abbrev pub meter_parts : Parts
@@ -205,7 +205,7 @@ meter_parts =
     parts_of
     (inside (codes "MX")
     (measured_value (codes "TotW") ∷ measured_value (codes "TotVAr") ∷ measured_value (codes "Hz")
-    ∷ inside (codes "A") (phase (codes "phsA") ∷ phase (codes "phsB") ∷ phase (codes "phsC")
+    ∷ inside (codes "A") (phase_value (codes "phsA") ∷ phase_value (codes "phsB") ∷ phase_value (codes "phsC")
     ∷ []) ∷ [])
     ∷ [])
 
@@ -259,14 +259,14 @@ meter_node m = record { name = node_name (codes "MMXU") m.0; parts = meter_parts
 -- ---- own: which nodes a bay has, in what order
 
 -- the switch is a breaker; or it is not, if the first argument is false
-abbrev pub is_of : Bool → Switch → Bool
-is_of true s = is_breaker s.kind
-is_of false s = not (is_breaker s.kind)
+abbrev pub is_in_group : Bool → Switch → Bool
+is_in_group true s = is_breaker s.kind
+is_in_group false s = not (is_breaker s.kind)
 
 -- the nodes of the breakers or of the other switches, each group numbered from 1
 abbrev pub position_nodes : Bool → List Switch → List Node
 position_nodes breakers switches =
-    map position_node (enumerate_from 1 (filter (is_of breakers) switches))
+    map position_node (enumerate_from 1 (filter (is_in_group breakers) switches))
 
 -- the nodes of the controls, numbered in the order of the switches, from 1
 abbrev pub control_nodes : List Switch → List Node
@@ -289,9 +289,9 @@ nodes_of nameplate switches meters =
     ++ (control_nodes switches ++ (interlocking_nodes switches ++ meter_nodes meters))))
 
 -- the rows of a bay
-abbrev pub rows_of_all : Nameplate → List Switch → List (List ℕ) → List Row
-rows_of_all nameplate switches meters = flat_map node_rows (nodes_of nameplate switches meters)
+abbrev pub bay_rows : Nameplate → List Switch → List (List ℕ) → List Row
+bay_rows nameplate switches meters = flat_map node_rows (nodes_of nameplate switches meters)
 
 -- the number of the switch at an index: one more than the number of switches of its class before it
 abbrev pub node_number : List Switch → Switch → ℕ → ℕ
-node_number switches s place = length (filter (is_of (is_breaker s.kind)) (take place switches)) + 1
+node_number switches s index = length (filter (is_in_group (is_breaker s.kind)) (take index switches)) + 1

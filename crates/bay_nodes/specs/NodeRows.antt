@@ -12,38 +12,38 @@ use Rattle.bay_base.specs.declared.switch.SwitchKind.{SwitchKind}
 use Rattle.bay_nodes.specs.declared.nameplate.Nameplate.{Nameplate}
 use Rattle.bay_nodes.specs.declared.tables.InitialValue.{InitialValue}
 use Rattle.bay_nodes.specs.declared.tables.InitialValue.TheVariants.{Structure, False, Intermediate, Good, Invalid, Int8, Int32, Unsigned8, Octets, Reference, Moment, Vendor, Model, Revision}
-use Rattle.bay_nodes.specs.Node.{node_name, row, rows_of, rows_of_parts, parts_of, inside, status, status_only, stamp, value, switch_type, commands, model_of}
+use Rattle.bay_nodes.specs.Node.{node_name, row, rows_of, rows_of_parts, parts_of, inside, status, status_only, stamp, value, switch_type, command_parts, control_model_number}
 
 -- ---- own: the same rows line by line
 
 -- the initial value of a row, with the texts of the nameplate
-abbrev pub leaf_from : Nameplate → InitialValue → Option Leaf
-leaf_from n Structure = None
-leaf_from n False = Some (leaf.Truth false)
-leaf_from n Intermediate = Some (leaf.Dbpos position.Intermediate)
-leaf_from n Good = Some (leaf.Quality validity.Good)
-leaf_from n Invalid = Some (leaf.Quality validity.Invalid)
-leaf_from n (Int8 i) = Some (leaf.Int8 i)
-leaf_from n Int32 = Some (leaf.Int32 (pos 0))
-leaf_from n Unsigned8 = Some (leaf.Unsigned8 0)
-leaf_from n Octets = Some (leaf.Octets [])
-leaf_from n Reference = Some (leaf.Reference [])
-leaf_from n Moment = Some (leaf.Utc 0)
-leaf_from n Vendor = Some (leaf.Text n.vendor)
-leaf_from n Model = Some (leaf.Text n.model)
-leaf_from n Revision = Some (leaf.Text n.revision)
+abbrev pub initial_leaf : Nameplate → InitialValue → Option Leaf
+initial_leaf n Structure = None
+initial_leaf n False = Some (leaf.Truth false)
+initial_leaf n Intermediate = Some (leaf.Dbpos position.Intermediate)
+initial_leaf n Good = Some (leaf.Quality validity.Good)
+initial_leaf n Invalid = Some (leaf.Quality validity.Invalid)
+initial_leaf n (Int8 i) = Some (leaf.Int8 i)
+initial_leaf n Int32 = Some (leaf.Int32 (pos 0))
+initial_leaf n Unsigned8 = Some (leaf.Unsigned8 0)
+initial_leaf n Octets = Some (leaf.Octets [])
+initial_leaf n Reference = Some (leaf.Reference [])
+initial_leaf n Moment = Some (leaf.Utc 0)
+initial_leaf n Vendor = Some (leaf.Text n.vendor)
+initial_leaf n Model = Some (leaf.Text n.model)
+initial_leaf n Revision = Some (leaf.Text n.revision)
 
 -- the row of a line, within its node
 abbrev pub line_row : Nameplate → Bor (List ℕ) × InitialValue → Row
-line_row n line = row line.0.now (leaf_from n line.1)
+line_row n line = row line.0.now (initial_leaf n line.1)
 
 -- a row of a node, from its path within the node
-abbrev pub under : List ℕ → Row → Row
-under node r = row (node ++ r.name) r.leaf
+abbrev pub row_of_node : List ℕ → Row → Row
+row_of_node node r = row (node ++ r.name) r.leaf
 
 -- the rows of a node, from its table
 abbrev pub table_rows : Nameplate → List ℕ → List (Bor (List ℕ) × InitialValue) → List Row
-table_rows n node table = map (under node) (map (line_row n) table)
+table_rows n node table = map (row_of_node node) (map (line_row n) table)
 
 -- the rows of `k` nodes of a class, each with the rows of a table, numbered from `n`
 abbrev pub tabled_nodes : Nameplate → List ℕ → List (Bor (List ℕ) × InitialValue) → ℕ → ℕ → List Row
@@ -79,8 +79,8 @@ control_group =
     ∷ stamp validity.Invalid ++ value (codes "stSeld") (leaf.Truth false) ∷ []) ∷ []))
 
 -- the two rows above the control rows (IEC 61850-7-2, CO)
-abbrev pub group_row : List Row
-group_row = row (codes "$CO") None ∷ row (codes "$CO$Pos") None ∷ []
+abbrev pub group_rows : List Row
+group_rows = row (codes "$CO") None ∷ row (codes "$CO$Pos") None ∷ []
 
 -- the row that selects a switch when a client reads it (IEC 61850-8-1, SBO)
 abbrev pub select_row : List Row
@@ -89,10 +89,10 @@ select_row = row (codes "$CO$Pos$SBO") (Some (leaf.Reference [])) ∷ []
 -- the control rows: those that a client writes, and the one that it reads to select (IEC 61850-8-1,
 -- SBO, SBOw, Oper, Cancel)
 abbrev pub command_rows : Control → List Row
-command_rows control = rows_of_parts [] (parts_of (commands control))
+command_rows control = rows_of_parts [] (parts_of (command_parts control))
 
 -- the control model of a switch (IEC 61850-7-3, ctlModel)
 abbrev pub control_model : Control → List Row
 control_model control =
     row (codes "$CF") None ∷ row (codes "$CF$Pos") None
-    ∷ row (codes "$CF$Pos$ctlModel") (Some (leaf.Int8 (pos (model_of control)))) ∷ []
+    ∷ row (codes "$CF$Pos$ctlModel") (Some (leaf.Int8 (pos (control_model_number control)))) ∷ []

@@ -24,8 +24,8 @@ pub fn is_breaker(kind: SwitchKind) -> bool
 }
 
 /// Returns whether the switch is a breaker; if `breakers` is false, whether it is not a breaker.
-pub fn is_of(breakers: bool, switch: &Switch) -> bool
-    ensures { result ≡ spec.is_of breakers switch.now }
+pub fn is_in_group(breakers: bool, switch: &Switch) -> bool
+    ensures { result ≡ spec.is_in_group breakers switch.now }
 {
     if breakers {
         is_breaker(switch.kind)

@@ -2,13 +2,13 @@
 ghost use Rattle.std.specs.Prelude.{◌≡◌, ◌<◌, ◌^◌, length, ◌++◌, ◌∷◌, [], codes, map, None, IfOk};
 ghost use Rattle.std.specs.List.{flat_map};
 ghost use Rattle.bay_tree.specs.Rows.{IsTree};
-ghost use Rattle.bay_nodes.specs.Node.{row, node_rows, operation, cancelling, position_parts, control_parts, class_of, device_node, physical_node, position_node, position_nodes, control_node, control_nodes, rows_of_all};
+ghost use Rattle.bay_nodes.specs.Node.{row, node_rows, operate_part, cancel_part, position_parts, control_parts, class_of, device_node, physical_node, position_node, position_nodes, control_node, control_nodes, bay_rows};
 ghost use Rattle.bay_nodes.specs.Node as spec;
-ghost use Rattle.bay_nodes.specs.NodeRows.{line_row, under, table_rows, tabled_nodes, group_row, command_rows};
+ghost use Rattle.bay_nodes.specs.NodeRows.{line_row, row_of_node, table_rows, tabled_nodes, group_rows, command_rows};
 ghost use Rattle.bay_nodes.specs.NodeRows as spec_node_rows;
 
 use crate::nameplate::Nameplate;
-use crate::names::{CONTROL, INTERLOCKING, METER, class_of, is_of, node_name, row_name};
+use crate::names::{CONTROL, INTERLOCKING, METER, class_of, is_in_group, node_name, row_name};
 use crate::switch::Switch;
 use crate::tables as tables;
 use crate::tables::InitialValue;
@@ -21,12 +21,12 @@ use bay_tree::row::Row;
 use std::alloc::{AllocError, Global};
 
 // Returns the initial value of a row; `None` for a structure.
-fn leaf_from(
+fn initial_leaf(
     alloc: Global,
     nameplate: &Nameplate,
     start: InitialValue,
 ) -> Result<Option<Leaf>, AllocError>
-    ensures { IfOk result (λ leaf. leaf ≡ spec_node_rows.leaf_from nameplate.now start) }
+    ensures { IfOk result (λ leaf. leaf ≡ spec_node_rows.initial_leaf nameplate.now start) }
 {
     let leaf = match start {
         InitialValue::Structure => return Ok(None),
@@ -76,7 +76,7 @@ fn push_table(
         ≡ rows.old.items ++ table_rows nameplate.now node.now table.now) }
 {
     for (path, start) in table {
-        let leaf = leaf_from(alloc, nameplate, *start)?;
+        let leaf = initial_leaf(alloc, nameplate, *start)?;
         push_row(alloc, rows, node, path, leaf)?;
     }
     Ok(())
@@ -135,11 +135,11 @@ fn push_selection(
     node: &str,
     select: &[(&str, InitialValue)],
 ) -> Result<(), AllocError>
-    ensures { let operate = spec.rows_of (codes "$CO$Pos") (operation (codes "Oper")) in
-        let cancel = spec.rows_of (codes "$CO$Pos") cancelling in
+    ensures { let operate = spec.rows_of (codes "$CO$Pos") (operate_part (codes "Oper")) in
+        let cancel = spec.rows_of (codes "$CO$Pos") cancel_part in
         IfOk result (λ _. rows.new.items
-        ≡ rows.old.items ++ map (under node.now)
-        (group_row ++ (map (line_row nameplate.now) select.now ++ (operate ++ cancel)))) }
+        ≡ rows.old.items ++ map (row_of_node node.now)
+        (group_rows ++ (map (line_row nameplate.now) select.now ++ (operate ++ cancel)))) }
 {
     push_table(alloc, rows, nameplate, node, tables::group_table())?;
     push_table(alloc, rows, nameplate, node, select)?;
@@ -157,7 +157,7 @@ fn push_commands(
     control: Control,
 ) -> Result<(), AllocError>
     ensures { IfOk result (λ _. rows.new.items
-        ≡ rows.old.items ++ map (under node.now) (command_rows control)) }
+        ≡ rows.old.items ++ map (row_of_node node.now) (command_rows control)) }
 {
     match control {
         Control::Status => Ok(()),
@@ -276,7 +276,7 @@ fn push_positions(
 {
     let mut number = 1usize;
     for switch in switches {
-        if is_of(breakers, switch) {
+        if is_in_group(breakers, switch) {
             push_position(alloc, rows, nameplate, number, switch)?;
             number += 1;
         }
@@ -314,7 +314,7 @@ pub fn rows_of(
     switches: &[Switch],
     meters: &[Text],
 ) -> Result<Listing<Row>, AllocError>
-    ensures rows { IfOk result (λ rows. rows ≡ rows_of_all nameplate.now switches.now meters.now) }
+    ensures rows { IfOk result (λ rows. rows ≡ bay_rows nameplate.now switches.now meters.now) }
 
     // Their names are distinct, and each row's parent is a structure before it.
     ensures tree { length switches.now < 2 ^ 32 → length meters.now < 2 ^ 32 → IfOk result IsTree }

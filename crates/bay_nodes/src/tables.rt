@@ -2,7 +2,7 @@
 // the row's initial value (IEC 61850-7-4; IEC 61850-8-1, names of variables).
 ghost use Rattle.std.specs.Prelude.{◌≡◌, map, codes, ◌∷◌, []};
 ghost use Rattle.bay_nodes.specs.Node as node;
-ghost use Rattle.bay_nodes.specs.NodeRows.{line_row, status_group, type_rows, position_model, group_row, select_row, control_group, control_model};
+ghost use Rattle.bay_nodes.specs.NodeRows.{line_row, status_group, type_rows, position_model, group_rows, select_row, control_group, control_model};
 ghost use Rattle.bay_nodes.specs.declared.nameplate.Nameplate.{Nameplate};
 
 use crate::paths as paths;
@@ -167,7 +167,7 @@ pub fn control_table() -> &'static [(&'static str, InitialValue)]
 
 /// Returns the rows that group the control rows.
 pub fn group_table() -> &'static [(&'static str, InitialValue)]
-    ensures { (n : Nameplate) → map (line_row n) result.now ≡ group_row }
+    ensures { (n : Nameplate) → map (line_row n) result.now ≡ group_rows }
 {
     &[("$CO", Structure), ("$CO$Pos", Structure)]
 }
@@ -183,7 +183,7 @@ pub fn select_table() -> &'static [(&'static str, InitialValue)]
 pub fn select_with_value_table() -> &'static [(&'static str, InitialValue)]
     ensures { (n : Nameplate)
         → map (line_row n) result.now
-        ≡ node.rows_of (codes "$CO$Pos") (node.operation (codes "SBOw")) }
+        ≡ node.rows_of (codes "$CO$Pos") (node.operate_part (codes "SBOw")) }
 {
     &[
         (paths::SELECT_WITH_VALUE, Structure),
@@ -202,7 +202,7 @@ pub fn select_with_value_table() -> &'static [(&'static str, InitialValue)]
 pub fn operate_table() -> &'static [(&'static str, InitialValue)]
     ensures { (n : Nameplate)
         → map (line_row n) result.now
-        ≡ node.rows_of (codes "$CO$Pos") (node.operation (codes "Oper")) }
+        ≡ node.rows_of (codes "$CO$Pos") (node.operate_part (codes "Oper")) }
 {
     &[
         (paths::OPERATE, Structure),
@@ -220,7 +220,7 @@ pub fn operate_table() -> &'static [(&'static str, InitialValue)]
 /// Returns the rows by which a selection is cancelled.
 pub fn cancel_table() -> &'static [(&'static str, InitialValue)]
     ensures { (n : Nameplate)
-        → map (line_row n) result.now ≡ node.rows_of (codes "$CO$Pos") node.cancelling }
+        → map (line_row n) result.now ≡ node.rows_of (codes "$CO$Pos") node.cancel_part }
 {
     &[
         (paths::CANCEL, Structure),

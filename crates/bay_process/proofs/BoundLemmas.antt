@@ -5,9 +5,9 @@ use Rattle.bay_config.specs.declared.bay.Bay.{Bay}
 use Rattle.bay_base.specs.declared.point.Source.{Source}
 use Rattle.bay_nodes.specs.declared.switch.Switch.{Switch}
 use Rattle.bay_process.specs.Layout.{Layout, switches_of, outputs_at, bound_from, AreBound}
-use Rattle.bay_nodes.specs.Names.{switch_names, names_by_nodes, node_of, control_of}
-use Rattle.bay_process.specs.Nodes.{AreAllNodes, AreAllRows}
-use Rattle.bay_process.specs.declared.nodes.Nodes.{Nodes}
+use Rattle.bay_nodes.specs.Names.{switch_names, names_by_nodes, switch_node, cswi_name}
+use Rattle.bay_process.specs.Nodes.{AreSwitchNodes, AreRowsOfNodes}
+use Rattle.bay_process.specs.declared.nodes.SwitchNodes.{SwitchNodes}
 use Rattle.bay_process.specs.declared.rows.SwitchRows.{SwitchRows}
 use Rattle.bay_process.specs.declared.switch.BoundSwitch.{BoundSwitch}
 use Rattle.bay_process.proofs.ListLemmas.{get-within}
@@ -72,8 +72,8 @@ bound-stands writes k (s ∷ switches) (r ∷ rows) (suc j) b h =
       outputs_are = w.outputs_are ∙ ap (outputs_at writes) more;
     }
 
-pub are-bound : (bay : Bay) (nodes : List Nodes) (layout : Layout) (writes : List Source)
-    (rows : List SwitchRows) → AreAllNodes bay nodes → AreAllRows layout nodes rows
+pub are-bound : (bay : Bay) (nodes : List SwitchNodes) (layout : Layout) (writes : List Source)
+    (rows : List SwitchRows) → AreSwitchNodes bay nodes → AreRowsOfNodes layout nodes rows
     → length nodes ≡ length bay.switches → length rows ≡ length nodes
     → AreBound layout writes (bound_from writes 0 bay.switches rows)
 are-bound bay nodes layout writes rows named placed same long k b h =
@@ -84,8 +84,8 @@ are-bound bay nodes layout writes rows named placed same long k b h =
     let p = own.position_named in
     let there : Some p.switch ≡ Some b.switch = sym p.here ∙ w.switch_is in
     let is : p.switch ≡ b.switch = cc in
-    let node : n.0.position ≡ node_of bay.switches k b.switch =
-    p.named ∙ ap (node_of bay.switches k) is in
+    let node : n.0.position ≡ switch_node bay.switches k b.switch =
+    p.named ∙ ap (switch_node bay.switches k) is in
     let all : switches_of (bound_from writes 0 bay.switches rows) ≡ bay.switches =
     bound-switches writes 0 bay.switches rows (omega arith) in
     let none : 0 + k ≡ k = omega arith in
@@ -93,9 +93,9 @@ are-bound bay nodes layout writes rows named placed same long k b h =
     record {
       named =
           r.named ∙ ap (λ m. names_by_nodes m n.0.control n.0.interlocking) node
-          ∙ ap (λ m. names_by_nodes (node_of bay.switches k b.switch) m n.0.interlocking)
+          ∙ ap (λ m. names_by_nodes (switch_node bay.switches k b.switch) m n.0.interlocking)
           own.control_named.named
-          ∙ ap (names_by_nodes (node_of bay.switches k b.switch) (control_of k))
+          ∙ ap (names_by_nodes (switch_node bay.switches k b.switch) (cswi_name k))
           own.interlocking_named.named
           ∙ ap (λ ss. switch_names ss k b.switch) (sym all);
       leaf_typed = r.leaf_typed;

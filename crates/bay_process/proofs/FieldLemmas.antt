@@ -3,7 +3,7 @@ use Rattle.std.proofs.Common.{◌≡◌, refl}
 use Rattle.bay_tree.specs.declared.leaf.LeafType.TheVariants as leaf_type
 use Rattle.bay_base.specs.declared.point.MeterField.{MeterField}
 use Rattle.bay_base.specs.declared.point.MeterField.TheVariants.{TotW, TotVAr, Hz, PhaseA, PhaseB, PhaseC}
-use Rattle.bay_process.specs.Layout.{Layout, status_in, AreStatusRows, meter_in, field_rows, AreMeterRows}
+use Rattle.bay_process.specs.Layout.{Layout, status_names_in, AreStatusRows, meter_names_in, field_rows, AreMeterRows}
 use Rattle.bay_process.specs.Names.{field_names}
 use Rattle.bay_process.specs.declared.meter.MeterRows.{MeterRows}
 
@@ -18,7 +18,7 @@ field-leaf_typed layout rows PhaseB h = h.phase_b
 field-leaf_typed layout rows PhaseC h = h.phase_c
 
 pub field-named : (layout : Layout) (rows : MeterRows) (field : MeterField)
-    → status_in layout (field_rows rows field) ≡ field_names field (meter_in layout rows)
+    → status_names_in layout (field_rows rows field) ≡ field_names field (meter_names_in layout rows)
 field-named layout rows TotW = refl
 field-named layout rows TotVAr = refl
 field-named layout rows Hz = refl

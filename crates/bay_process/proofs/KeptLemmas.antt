@@ -3,18 +3,18 @@ use Rattle.std.proofs.Common.{◌≡◌, ℕ, zero, suc, ◌+◌, ◌<◌, ◌^�
 use Rattle.std.specs.Bool.{beq}
 use Rattle.std.proofs.lemmas.Bool.Decides.{nat_tests}
 use Rattle.std.proofs.lemmas.Option.{same_Some, slice_get_within}
-use Rattle.bay_tree.specs.Rows.{leaf_of}
+use Rattle.bay_tree.specs.Rows.{leaf_named}
 use Rattle.bay_tree.specs.declared.row.Row.{Row}
-use Rattle.bay_nodes.specs.Names.{SwitchNames, closing_of, interlocking_of, opening_of}
+use Rattle.bay_nodes.specs.Names.{SwitchNames, closing_names_at, cilo_name, opening_names_at}
 use Rattle.bay_nodes.specs.declared.switch.Switch.{Switch}
 use Rattle.il_image.proofs.SetLemmas.{set-elsewhere, set-here}
 use Rattle.bay_process.specs.Layout.{switches_of}
-use Rattle.bay_process.specs.Releases.{Shows, digit_octet, digit_text, digits_from, text_before_digits, released_text, switch_text}
+use Rattle.bay_process.specs.Releases.{ShowsReleases, digit_octet, digit_text, digits_from, text_before_digits, released_text, switch_text}
 use Rattle.bay_process.specs.ReportedRows.{AreStored, HoldsRelease, enabled_at, enabled_from}
 use Rattle.bay_process.specs.Values.{is_truth, with_enabled, with_output}
 use Rattle.bay_process.specs.declared.releases.Releases.{Releases}
 use Rattle.bay_process.specs.declared.switch.BoundSwitch.{BoundSwitch}
-use Rattle.bay_process.specs.declared.switch.Enabled.{Enabled}
+use Rattle.bay_process.specs.declared.switch.SwitchEnables.{SwitchEnables}
 use Rattle.bay_process.proofs.ToldLemmas.{Keeps, enabled-same, keeps-output}
 
 -- ---- what the rows have
@@ -24,7 +24,7 @@ from-length : (rows : List Row) (k : ℕ) (ss : List Switch)
 from-length rows k [] = refl
 from-length rows k (s ∷ ss) = ap suc (from-length rows (k + 1) ss)
 
-pub from-shown : (rows : List Row) (n : ℕ) (ss : List Switch) (j i : ℕ) (e : Enabled) → i ≡ n + j
+pub from-shown : (rows : List Row) (n : ℕ) (ss : List Switch) (j i : ℕ) (e : SwitchEnables) → i ≡ n + j
     → slice_get (enabled_from rows n ss) j ≡ Some e → enabled_at rows i ≡ e
 from-shown rows n [] zero i e at here = absurd cc
 from-shown rows n [] (suc j) i e at here = absurd cc
@@ -34,47 +34,47 @@ from-shown rows n (s ∷ ss) zero i e at here =
 from-shown rows n (s ∷ ss) (suc j) i e at here =
     from-shown rows (n + 1) ss j i e (omega (arith, at)) here
 
-from-all : (rows : List Row) (n : ℕ) (ss : List Switch) (told : List Enabled)
-    → length told ≡ length ss
-    → ((j i : ℕ) (e : Enabled) → i ≡ n + j → slice_get told j ≡ Some e → enabled_at rows i ≡ e)
-    → told ≡ enabled_from rows n ss
+from-all : (rows : List Row) (n : ℕ) (ss : List Switch) (enables : List SwitchEnables)
+    → length enables ≡ length ss
+    → ((j i : ℕ) (e : SwitchEnables) → i ≡ n + j → slice_get enables j ≡ Some e → enabled_at rows i ≡ e)
+    → enables ≡ enabled_from rows n ss
 from-all rows n [] [] sized all = refl
-from-all rows n [] (e ∷ told) sized all = absurd (omega (arith, sized))
+from-all rows n [] (e ∷ enables) sized all = absurd (omega (arith, sized))
 from-all rows n (s ∷ ss) [] sized all = absurd (omega (arith, sized))
-from-all rows n (s ∷ ss) (e ∷ told) sized all =
-    ap (λ (d : Enabled). d ∷ told) (sym (all 0 n e (omega arith) refl))
-    ∙ ap (λ es. enabled_at rows n ∷ es) (from-all rows (n + 1) ss told (omega (arith, sized))
+from-all rows n (s ∷ ss) (e ∷ enables) sized all =
+    ap (λ (d : SwitchEnables). d ∷ enables) (sym (all 0 n e (omega arith) refl))
+    ∙ ap (λ es. enabled_at rows n ∷ es) (from-all rows (n + 1) ss enables (omega (arith, sized))
     (λ j i d at here. all (suc j) i d (omega (arith, at)) here))
 
 -- it is enough that the text shows what each row has
 record Keeping (rows : List Row) (ss : List Switch) (n : ℕ) (r : Releases)
-    (told : List Enabled) : Type 0 where
-  shows : Shows ss told r.text.items r.places.items
-  shown : (k : ℕ) (e : Enabled) → slice_get told k ≡ Some e → enabled_at rows k ≡ e
-  written : (k : ℕ) (e : Enabled) → slice_get told k ≡ Some e
+    (enables : List SwitchEnables) : Type 0 where
+  shows : ShowsReleases ss enables r.text.items r.offsets.items
+  shown : (k : ℕ) (e : SwitchEnables) → slice_get enables k ≡ Some e → enabled_at rows k ≡ e
+  written : (k : ℕ) (e : SwitchEnables) → slice_get enables k ≡ Some e
       → (r.is_written ≡ true) ⊎ (k < n) → HoldsRelease rows k e
 
-kept-by : (rows : List Row) (ss : List Switch) (n : ℕ) (r : Releases) (told : List Enabled)
-    → Keeping rows ss n r told → AreStored rows ss n r
-kept-by rows ss n r told k =
-    let is : told ≡ enabled_from rows 0 ss =
-    from-all rows 0 ss told k.shows.sized
+kept-by : (rows : List Row) (ss : List Switch) (n : ℕ) (r : Releases) (enables : List SwitchEnables)
+    → Keeping rows ss n r enables → AreStored rows ss n r
+kept-by rows ss n r enables k =
+    let is : enables ≡ enabled_from rows 0 ss =
+    from-all rows 0 ss enables k.shows.sized
     (λ j i e at here. ap (enabled_at rows) (omega (arith, at)) ∙ k.shown j e here) in
     record {
-      shows = subst (λ es. Shows ss es r.text.items r.places.items) is k.shows;
-      written = subst (λ es. (j : ℕ) (e : Enabled) → slice_get es j ≡ Some e
+      shows = subst (λ es. ShowsReleases ss es r.text.items r.offsets.items) is k.shows;
+      written = subst (λ es. (j : ℕ) (e : SwitchEnables) → slice_get es j ≡ Some e
           → (r.is_written ≡ true) ⊎ (j < n) → HoldsRelease rows j e) is k.written;
     }
 
 -- what is said of a switch stands where its node's names keep their values
 abbrev StaysAt : ℕ → List Row → List Row → Type 0
 StaysAt k rows new = (s : List ℕ)
-    → leaf_of (interlocking_of k ++ 36 ∷ s) new ≡ leaf_of (interlocking_of k ++ 36 ∷ s) rows
+    → leaf_named (cilo_name k ++ 36 ∷ s) new ≡ leaf_named (cilo_name k ++ 36 ∷ s) rows
 
-told-stays : (rows new : List Row) (k : ℕ) (e : Enabled) → StaysAt k rows new
+told-stays : (rows new : List Row) (k : ℕ) (e : SwitchEnables) → StaysAt k rows new
     → HoldsRelease rows k e
     → HoldsRelease new k e
-told-stays rows new k e stays is = record {
+enables-stays rows new k e stays is = record {
   opening =
       record {
         value_is = stays _ ∙ is.opening.value_is;
@@ -90,12 +90,12 @@ told-stays rows new k e stays is = record {
 shown-stays : (rows new : List Row) (k : ℕ) → StaysAt k rows new
     → enabled_at new k ≡ enabled_at rows k
 shown-stays rows new k stays =
-    ap (λ o. let e : Enabled = record {
+    ap (λ o. let e : SwitchEnables = record {
       may_open = is_truth true o;
-      may_close = is_truth true (leaf_of (closing_of k).value new);
+      may_close = is_truth true (leaf_named (closing_names_at k).value new);
     } in e) (stays _)
-    ∙ ap (λ o. let e : Enabled = record {
-      may_open = is_truth true (leaf_of (opening_of k).value rows);
+    ∙ ap (λ o. let e : SwitchEnables = record {
+      may_open = is_truth true (leaf_named (opening_names_at k).value rows);
       may_close = is_truth true o;
     } in e) (stays _)
 
@@ -117,45 +117,45 @@ beq-true : (b : Bool) → beq true b ≡ b
 beq-true true = refl
 beq-true false = refl
 
-told-shown : (rows : List Row) (k : ℕ) (e : Enabled) → HoldsRelease rows k e → enabled_at rows k ≡ e
-told-shown rows k e is =
-    ap (λ o. let d : Enabled = record {
+told-shown : (rows : List Row) (k : ℕ) (e : SwitchEnables) → HoldsRelease rows k e → enabled_at rows k ≡ e
+enables-shown rows k e is =
+    ap (λ o. let d : SwitchEnables = record {
       may_open = is_truth true o;
-      may_close = is_truth true (leaf_of (closing_of k).value rows);
+      may_close = is_truth true (leaf_named (closing_names_at k).value rows);
     } in d) is.opening.value_is
-    ∙ ap (λ o. let d : Enabled = record {
+    ∙ ap (λ o. let d : SwitchEnables = record {
       may_open = beq true e.may_open;
       may_close = is_truth true o;
     } in d) is.closing.value_is
-    ∙ ap (λ b. let d : Enabled = record { may_open = b; may_close = beq true e.may_close } in d)
+    ∙ ap (λ b. let d : SwitchEnables = record { may_open = b; may_close = beq true e.may_close } in d)
     (beq-true e.may_open)
-    ∙ ap (λ b. let d : Enabled = record { may_open = e.may_open; may_close = b } in d)
+    ∙ ap (λ b. let d : SwitchEnables = record { may_open = e.may_open; may_close = b } in d)
     (beq-true e.may_close)
 
 -- what stands is not written again
-pub output-same : (rows : List Row) (k : ℕ) (stood e : Enabled) (names : SwitchNames) (now : ℕ)
-    → names.ena_opn ≡ opening_of k → names.ena_cls ≡ closing_of k → HoldsRelease rows k stood
+pub output-same : (rows : List Row) (k : ℕ) (stood e : SwitchEnables) (names : SwitchNames) (now : ℕ)
+    → names.ena_opn ≡ opening_names_at k → names.ena_cls ≡ closing_names_at k → HoldsRelease rows k stood
     → beq e.may_open stood.may_open ≡ true → beq e.may_close stood.may_close ≡ true
     → with_output names e.may_open e.may_close now rows ≡ rows
 output-same rows k stood e names now opens closes is one other =
     let first : with_enabled names.ena_opn e.may_open now rows ≡ rows =
     ap (λ n. with_enabled n e.may_open now rows) opens
-    ∙ enabled-same (opening_of k) e.may_open stood.may_open now rows is.opening one in
+    ∙ enabled-same (opening_names_at k) e.may_open stood.may_open now rows is.opening one in
     ap (λ rs. with_enabled names.ena_cls e.may_close now rs) first
     ∙ ap (λ n. with_enabled n e.may_close now rows) closes
-    ∙ enabled-same (closing_of k) e.may_close stood.may_close now rows is.closing other
+    ∙ enabled-same (closing_names_at k) e.may_close stood.may_close now rows is.closing other
 
 -- one switch more was written
-module _ (rows new : List Row) (ss : List Switch) (i : ℕ) (r q : Releases) (enabled : Enabled)
+module _ (rows new : List Row) (ss : List Switch) (i : ℕ) (r q : Releases) (enabled : SwitchEnables)
     (now : ℕ) (kept : AreStored rows ss i r) (within : i < length ss) (few : length ss < 2 ^ 64)
     (flag : q.is_written ≡ r.is_written) (own : HoldsRelease new i enabled)
-    (is : new ≡ with_enabled (closing_of i) enabled.may_close now
-    (with_enabled (opening_of i) enabled.may_open now rows)) where
-  abbrev AtPlace : ℕ → Enabled → Type 0
+    (is : new ≡ with_enabled (closing_names_at i) enabled.may_close now
+    (with_enabled (opening_names_at i) enabled.may_open now rows)) where
+  abbrev AtPlace : ℕ → SwitchEnables → Type 0
   AtPlace k e =
       (enabled_at new k ≡ e) × ((q.is_written ≡ true) ⊎ (k < i + 1) → HoldsRelease new k e)
 
-  at-place : (b : Bool) (k : ℕ) (e : Enabled) → nat_eq k i ≡ b
+  at-place : (b : Bool) (k : ℕ) (e : SwitchEnables) → nat_eq k i ≡ b
       → slice_get (slice_set (enabled_from rows 0 ss) i enabled) k ≡ Some e → AtPlace k e
   at-place true k e same here =
       let at : k ≡ i = grind (arith, nat_tests) in
@@ -182,8 +182,8 @@ module _ (rows new : List Row) (ss : List Switch) (i : ℕ) (r q : Releases) (en
         ])),
       )
 
-  pub kept-written : Shows ss (slice_set (enabled_from rows 0 ss) i enabled) q.text.items
-      q.places.items → AreStored new ss (i + 1) q
+  pub kept-written : ShowsReleases ss (slice_set (enabled_from rows 0 ss) i enabled) q.text.items
+      q.offsets.items → AreStored new ss (i + 1) q
   kept-written shows =
       kept-by new ss (i + 1) q (slice_set (enabled_from rows 0 ss) i enabled) record {
         shows = shows;
@@ -216,8 +216,8 @@ added t id o c =
 
 module _ (rows : List Row) (bs : List BoundSwitch) (i : ℕ) (b : BoundSwitch)
     (next : drop i bs ≡ b ∷ drop (i + 1) bs) (t : List ℕ) (o c : Bool)
-    (opens : o ≡ is_truth true (leaf_of (opening_of i).value rows))
-    (closes : c ≡ is_truth true (leaf_of (closing_of i).value rows)) where
+    (opens : o ≡ is_truth true (leaf_named (opening_names_at i).value rows))
+    (closes : c ≡ is_truth true (leaf_named (closing_names_at i).value rows)) where
   abbrev more : List ℕ
   more = ((t ++ (32 ∷ [])) ++ b.switch.id) ++ (61 ∷ digit_octet o ∷ digit_octet c ∷ [])
 
@@ -226,17 +226,17 @@ module _ (rows : List Row) (bs : List BoundSwitch) (i : ℕ) (b : BoundSwitch)
   text-turn =
       let rest = rest-text rows (i + 1) (drop (i + 1) bs) in
       ap (λ xs. t ++ rest-text rows i xs) next
-      ∙ ap (λ x. t ++ (switch_text b.switch.id x (is_truth true (leaf_of (closing_of i).value rows))
+      ∙ ap (λ x. t ++ (switch_text b.switch.id x (is_truth true (leaf_named (closing_names_at i).value rows))
       ++ rest)) (sym opens)
       ∙ ap (λ x. t ++ (switch_text b.switch.id o x ++ rest)) (sym closes)
       ∙ sym (append_assoc t (switch_text b.switch.id o c) rest)
       ∙ ap (λ u. u ++ rest) (sym (added t b.switch.id o c))
 
-  pub places-turn : (places : List ℕ)
-      → places ++ digits_from (length t) (switches_of (drop i bs))
-      ≡ (places ++ ((length ((t ++ (32 ∷ [])) ++ b.switch.id) + 1) ∷ []))
+  pub places-turn : (offsets : List ℕ)
+      → offsets ++ digits_from (length t) (switches_of (drop i bs))
+      ≡ (offsets ++ ((length ((t ++ (32 ∷ [])) ++ b.switch.id) + 1) ∷ []))
       ++ digits_from (length more) (switches_of (drop (i + 1) bs))
-  places-turn places =
+  places-turn offsets =
       let id = b.switch.id in
       let rest = switches_of (drop (i + 1) bs) in
       let before : length ((t ++ (32 ∷ [])) ++ id) ≡ length t + 1 + length id =
@@ -251,23 +251,23 @@ module _ (rows : List Row) (bs : List BoundSwitch) (i : ℕ) (b : BoundSwitch)
         length-append ((t ++ (32 ∷ [])) ++ id)
             (61 ∷ digit_octet o ∷ digit_octet c ∷ []),
       ) in
-      ap (λ xs. places ++ digits_from (length t) (switches_of xs)) next
-      ∙ ap (λ n. places ++ (n
+      ap (λ xs. offsets ++ digits_from (length t) (switches_of xs)) next
+      ∙ ap (λ n. offsets ++ (n
       ∷ digits_from (length t + length (text_before_digits b.switch) + 2) rest)) first
-      ∙ ap (λ n. places ++ ((length ((t ++ (32 ∷ [])) ++ id) + 1) ∷ digits_from n rest)) after
-      ∙ sym (append_assoc places ((length ((t ++ (32 ∷ [])) ++ id) + 1) ∷ [])
+      ∙ ap (λ n. offsets ++ ((length ((t ++ (32 ∷ [])) ++ id) + 1) ∷ digits_from n rest)) after
+      ∙ sym (append_assoc offsets ((length ((t ++ (32 ∷ [])) ++ id) + 1) ∷ [])
       (digits_from (length more) rest))
 
 -- nothing was written
 pub first-kept : (rows : List Row) (bs : List BoundSwitch) (r : Releases) → r.is_written ≡ false
     → r.text.items ≡ rest-text rows 0 bs ++ codes "\n"
-    → r.places.items ≡ digits_from 0 (switches_of bs) → AreStored rows (switches_of bs) 0 r
-first-kept rows bs r flag text places = record {
+    → r.offsets.items ≡ digits_from 0 (switches_of bs) → AreStored rows (switches_of bs) 0 r
+first-kept rows bs r flag text offsets = record {
   shows =
       record {
         sized = from-length rows 0 (switches_of bs);
         text_is = text;
-        places_are = places;
+        places_are = offsets;
       };
   written = λ k e here by. elim by [
     | inl all ↦ absurd (let none : false ≡ true = sym flag ∙ all in cc)

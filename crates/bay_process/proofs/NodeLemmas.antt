@@ -10,7 +10,7 @@ use Rattle.bay_tree.specs.declared.leaf.Leaf.{Leaf}
 use Rattle.bay_tree.specs.declared.leaf.LeafType.{LeafType}
 use Rattle.bay_tree.specs.declared.leaf.LeafType.TheVariants as leaf_type
 use Rattle.bay_tree.specs.LeafTypes.{leaf_type_of}
-use Rattle.bay_tree.specs.Rows.{IsTree, row_index, row_at, name_at, leaf_of, leaf_type_at, leaf_types_of}
+use Rattle.bay_tree.specs.Rows.{IsTree, row_index, row_at, name_at, leaf_named, leaf_type_at, leaf_types_of}
 use Rattle.bay_tree.specs.declared.leaf.Leaf.TheVariants as leaf
 use Rattle.bay_tree.specs.declared.leaf.Quality.{Quality as Validity}
 use Rattle.bay_tree.proofs.NamedLemmas.{leaf-named, found-leaf}
@@ -18,24 +18,24 @@ use Rattle.bay_tree.proofs.SearchLemmas.{place_of-found, place_of-none, place_of
 use Rattle.bay_nodes.specs.Node.{row}
 use Rattle.bay_config.specs.Laws.{IsBay, HasValue, HasPosition, HasControl, HasEnable, HasMeter}
 use Rattle.bay_config.specs.declared.bay.Bay.{Bay}
-use Rattle.bay_process.specs.Layout.{Layout, layout_of, name_in, status_in, HasLeafType, AreStatusRows, IsMeterBound}
+use Rattle.bay_process.specs.Layout.{Layout, layout_of, row_name_in, status_names_in, HasLeafType, AreStatusRows, IsMeterBound}
 use Rattle.bay_nodes.specs.Names.{StatusNames, SwitchNames, opening_names, closing_names, names_by_nodes, ControlNames, control_names_of, MeterNames, meter_names_of}
 use Rattle.bay_process.specs.Controls.{HaveSelected, AreControlRows}
-use Rattle.bay_process.specs.Nodes.{AreAllNodes, nodes_names, HasLeaf, HasStatus, HasSwitch, HasSwitches, AreThere, IsFound, AreFound, AreRowsOf, AreAllRows, AreAllMeters, HasMeterLeaves, IsMeterThere, HaveMeters, AreMeterRowsOf}
+use Rattle.bay_process.specs.Nodes.{AreSwitchNodes, nodes_names, HasLeaf, HasStatus, HasSwitch, HasSwitches, HaveStatus, IsHandleOf, AreHandlesOf, AreSwitchRowsOf, AreRowsOfNodes, AreMeterNodes, HasMeterLeaves, HasMeterNode, HaveMeters, AreMeterRowsOf}
 use Rattle.bay_process.specs.declared.controls.ControlRows.{ControlRows}
 use Rattle.bay_process.specs.declared.meter.MeterRows.{MeterRows}
-use Rattle.bay_process.specs.declared.nodes.Nodes.{Nodes}
+use Rattle.bay_process.specs.declared.nodes.SwitchNodes.{SwitchNodes}
 use Rattle.bay_process.specs.declared.rows.StatusRows.{StatusRows}
 use Rattle.bay_process.specs.declared.rows.SwitchRows.{SwitchRows}
 use Rattle.bay_process.proofs.ListLemmas.{each-snoc}
 
 -- a row that a tree contains gives its name its value
 contains-leaf : (rows : List Row) (name : List ℕ) (value : Leaf) → IsTree rows
-    → Contains rows (row name (Some value)) → leaf_of name rows ≡ Some value
+    → Contains rows (row name (Some value)) → leaf_named name rows ≡ Some value
 contains-leaf rows name value tree w =
     let is : row_at rows w.0 ≡ row name (Some value) =
     get_or_default rows w.0 _ (row name (Some value)) w.1 ∙ w.2 in
-    ap (λ n. leaf_of n rows) (sym (ap (λ (r : Row). r.name) is))
+    ap (λ n. leaf_named n rows) (sym (ap (λ (r : Row). r.name) is))
     ∙ sym (leaf-named rows w.0 tree w.1) ∙ ap (λ (r : Row). r.leaf) is
 
 has-leaf : (rows : List Row) (name : List ℕ) (value : Leaf) → IsTree rows
@@ -63,7 +63,7 @@ has-switch rows node control interlocking tree p d o c = record {
   ena_cls = has-value rows _ _ _ tree c;
 }
 
-pub has-switches : (bay : Bay) (nodes : List Nodes) → IsBay bay → AreAllNodes bay nodes
+pub has-switches : (bay : Bay) (nodes : List SwitchNodes) → IsBay bay → AreSwitchNodes bay nodes
     → HasSwitches bay.rows nodes
 has-switches bay nodes is_bay all k n hn =
     let own = all k n hn in
@@ -85,7 +85,7 @@ has-meter rows names tree m = record {
 }
 
 -- each control tells whether its switch is selected
-pub have-selected : (bay : Bay) (nodes : List Nodes) → IsBay bay → AreAllNodes bay nodes
+pub have-selected : (bay : Bay) (nodes : List SwitchNodes) → IsBay bay → AreSwitchNodes bay nodes
     → HaveSelected bay.rows (length nodes)
 have-selected bay nodes is_bay all k lt =
     let n = got nodes k lt in
@@ -95,13 +95,13 @@ have-selected bay nodes is_bay all k lt =
     (row (control_names_of m).selected (Some (leaf.Truth false)))) own.named
     (own.rows is_bay).selected)
   where
-    got : (nodes : List Nodes) (k : ℕ) → k < length nodes
-        → (n : Nodes) × (slice_get nodes k ≡ Some n)
+    got : (nodes : List SwitchNodes) (k : ℕ) → k < length nodes
+        → (n : SwitchNodes) × (slice_get nodes k ≡ Some n)
     got [] k lt = absurd (omega arith)
     got (n ∷ nodes) zero lt = (n, refl)
     got (n ∷ nodes) (suc k) lt = got nodes k (omega arith)
 
-pub have-meters : (bay : Bay) (nodes : List (List ℕ)) → IsBay bay → AreAllMeters bay nodes
+pub have-meters : (bay : Bay) (nodes : List (List ℕ)) → IsBay bay → AreMeterNodes bay nodes
     → HaveMeters bay.rows nodes
 have-meters bay nodes is_bay all k n hn =
     let own = all k n hn in
@@ -112,12 +112,12 @@ have-meters bay nodes is_bay all k n hn =
 
 -- a name that has a value is found
 there : (rows : List Row) (name : List ℕ) (leaf_type : LeafType) → HasLeaf rows name leaf_type
-    → leaf_of name rows ≢ None
+    → leaf_named name rows ≢ None
 there rows name leaf_type h none = let e : option_map leaf_type_of None ≡ Some leaf_type =
     rw none at h in cc
 
 pub are-there : (rows : List Row) (names : StatusNames) (leaf_type : LeafType)
-    → HasStatus rows names leaf_type → AreThere rows names
+    → HasStatus rows names leaf_type → HaveStatus rows names
 are-there rows names leaf_type h = record {
   value_there = there rows names.value _ h.value_leaf;
   quality_there = there rows names.quality _ h.quality_leaf;
@@ -125,7 +125,7 @@ are-there rows names leaf_type h = record {
 }
 
 pub lacking-leaf : (rows : List Row) (name : List ℕ) → All (λ (r : Row). r.name ≢ name) rows
-    → leaf_of name rows ≡ None
+    → leaf_named name rows ≡ None
 lacking-leaf [] name lacks = refl
 lacking-leaf (row ∷ rows) name lacks =
     let apart : bytes_eq row.name name ≡ false =
@@ -140,25 +140,25 @@ refused-so None e f h = refl
 refused-so (Some x) e f h = absurd cc
 
 -- the layout of a tree has the names and the types of its rows
-name_at-in : (rows : List Row) (place : ℕ) → name_in (layout_of rows) place ≡ name_at rows place
-name_at-in [] place = refl
+name_at-in : (rows : List Row) (index : ℕ) → row_name_in (layout_of rows) index ≡ name_at rows index
+name_at-in [] index = refl
 name_at-in (row ∷ rows) zero = refl
-name_at-in (row ∷ rows) (suc place) = name_at-in rows place
+name_at-in (row ∷ rows) (suc index) = name_at-in rows index
 
-leaf_type_at-in : (rows : List Row) (place : ℕ)
-    → slice_index_or (leaf_types_of rows) place None ≡ leaf_type_at rows place
-leaf_type_at-in [] place = refl
+leaf_type_at-in : (rows : List Row) (index : ℕ)
+    → slice_index_or (leaf_types_of rows) index None ≡ leaf_type_at rows index
+leaf_type_at-in [] index = refl
 leaf_type_at-in (row ∷ rows) zero = refl
-leaf_type_at-in (row ∷ rows) (suc place) = leaf_type_at-in rows place
+leaf_type_at-in (row ∷ rows) (suc index) = leaf_type_at-in rows index
 
 found-leaf_type : (rows : List Row) (name : List ℕ) (leaf_type : LeafType) (handle : ℕ)
-    → HasLeaf rows name leaf_type → IsFound rows name handle
+    → HasLeaf rows name leaf_type → IsHandleOf rows name handle
     → HasLeafType (layout_of rows) handle leaf_type
 found-leaf_type rows name leaf_type handle h f =
     leaf_type_at-in rows handle ∙ ap (option_map leaf_type_of) f.value ∙ h
 
 found-leaf_types : (rows : List Row) (names : StatusNames) (leaf_type : LeafType)
-    (handles : StatusRows) → HasStatus rows names leaf_type → AreFound rows names handles
+    (handles : StatusRows) → HasStatus rows names leaf_type → AreHandlesOf rows names handles
     → AreStatusRows (layout_of rows) leaf_type handles
 found-leaf_types rows names leaf_type handles h f = record {
   value_type = found-leaf_type rows names.value _ handles.value h.value_leaf f.value_found;
@@ -168,32 +168,32 @@ found-leaf_types rows names leaf_type handles h f = record {
 }
 
 found-names : (rows : List Row) (names : StatusNames) (handles : StatusRows)
-    → AreFound rows names handles → status_in (layout_of rows) handles ≡ names
+    → AreHandlesOf rows names handles → status_names_in (layout_of rows) handles ≡ names
 found-names rows names handles f =
-    let value : name_in (layout_of rows) handles.value ≡ names.value =
+    let value : row_name_in (layout_of rows) handles.value ≡ names.value =
     name_at-in rows handles.value ∙ f.value_found.named in
-    let quality : name_in (layout_of rows) handles.quality ≡ names.quality =
+    let quality : row_name_in (layout_of rows) handles.quality ≡ names.quality =
     name_at-in rows handles.quality ∙ f.quality_found.named in
-    let time : name_in (layout_of rows) handles.time ≡ names.time =
+    let time : row_name_in (layout_of rows) handles.time ≡ names.time =
     name_at-in rows handles.time ∙ f.time_found.named in
     rw (value, quality, time) refl
 
 pub found-switch : (rows : List Row) (names : SwitchNames) (handles : SwitchRows)
     → HasSwitch rows names
-    → AreFound rows names.position handles.position → AreFound rows names.control handles.control
-    → AreFound rows names.operations handles.operations
-    → AreFound rows names.ena_opn handles.ena_opn → AreFound rows names.ena_cls handles.ena_cls
-    → AreRowsOf (layout_of rows) names handles
+    → AreHandlesOf rows names.position handles.position → AreHandlesOf rows names.control handles.control
+    → AreHandlesOf rows names.operations handles.operations
+    → AreHandlesOf rows names.ena_opn handles.ena_opn → AreHandlesOf rows names.ena_cls handles.ena_cls
+    → AreSwitchRowsOf (layout_of rows) names handles
 found-switch rows names handles h p d n o c =
-    let position : status_in (layout_of rows) handles.position ≡ names.position =
+    let position : status_names_in (layout_of rows) handles.position ≡ names.position =
     found-names rows names.position handles.position p in
-    let control : status_in (layout_of rows) handles.control ≡ names.control =
+    let control : status_names_in (layout_of rows) handles.control ≡ names.control =
     found-names rows names.control handles.control d in
-    let operations : status_in (layout_of rows) handles.operations ≡ names.operations =
+    let operations : status_names_in (layout_of rows) handles.operations ≡ names.operations =
     found-names rows names.operations handles.operations n in
-    let ena_opn : status_in (layout_of rows) handles.ena_opn ≡ names.ena_opn =
+    let ena_opn : status_names_in (layout_of rows) handles.ena_opn ≡ names.ena_opn =
     found-names rows names.ena_opn handles.ena_opn o in
-    let ena_cls : status_in (layout_of rows) handles.ena_cls ≡ names.ena_cls =
+    let ena_cls : status_names_in (layout_of rows) handles.ena_cls ≡ names.ena_cls =
     found-names rows names.ena_cls handles.ena_cls c in
     record {
       named = rw (position, control, operations, ena_opn, ena_cls) refl;
@@ -208,23 +208,23 @@ found-switch rows names handles h p d n o c =
 
 pub found-meter : (rows : List Row) (names : MeterNames) (handles : MeterRows)
     → HasMeterLeaves rows names
-    → AreFound rows names.tot_w handles.tot_w → AreFound rows names.tot_var handles.tot_var
-    → AreFound rows names.hz handles.hz
-    → AreFound rows names.phase_a handles.phase_a → AreFound rows names.phase_b handles.phase_b
-    → AreFound rows names.phase_c handles.phase_c
+    → AreHandlesOf rows names.tot_w handles.tot_w → AreHandlesOf rows names.tot_var handles.tot_var
+    → AreHandlesOf rows names.hz handles.hz
+    → AreHandlesOf rows names.phase_a handles.phase_a → AreHandlesOf rows names.phase_b handles.phase_b
+    → AreHandlesOf rows names.phase_c handles.phase_c
     → AreMeterRowsOf (layout_of rows) names handles
 found-meter rows names handles h w v z a b c =
-    let tot_w : status_in (layout_of rows) handles.tot_w ≡ names.tot_w =
+    let tot_w : status_names_in (layout_of rows) handles.tot_w ≡ names.tot_w =
     found-names rows names.tot_w handles.tot_w w in
-    let tot_var : status_in (layout_of rows) handles.tot_var ≡ names.tot_var =
+    let tot_var : status_names_in (layout_of rows) handles.tot_var ≡ names.tot_var =
     found-names rows names.tot_var handles.tot_var v in
-    let hz : status_in (layout_of rows) handles.hz ≡ names.hz =
+    let hz : status_names_in (layout_of rows) handles.hz ≡ names.hz =
     found-names rows names.hz handles.hz z in
-    let phase_a : status_in (layout_of rows) handles.phase_a ≡ names.phase_a =
+    let phase_a : status_names_in (layout_of rows) handles.phase_a ≡ names.phase_a =
     found-names rows names.phase_a handles.phase_a a in
-    let phase_b : status_in (layout_of rows) handles.phase_b ≡ names.phase_b =
+    let phase_b : status_names_in (layout_of rows) handles.phase_b ≡ names.phase_b =
     found-names rows names.phase_b handles.phase_b b in
-    let phase_c : status_in (layout_of rows) handles.phase_c ≡ names.phase_c =
+    let phase_c : status_names_in (layout_of rows) handles.phase_c ≡ names.phase_c =
     found-names rows names.phase_c handles.phase_c c in
     record {
       named = rw (tot_w, tot_var, hz, phase_a, phase_b, phase_c) refl;
@@ -239,22 +239,22 @@ found-meter rows names handles h w v z a b c =
     }
 
 pub bound-meter : (rows : List Row) (k : ℕ) (node : List ℕ) (handles : MeterRows)
-    → IsMeterThere rows k node → AreMeterRowsOf (layout_of rows) (meter_names_of node) handles
+    → HasMeterNode rows k node → AreMeterRowsOf (layout_of rows) (meter_names_of node) handles
     → IsMeterBound (layout_of rows) k handles
 bound-meter rows k node handles there own =
     record { named = own.named ∙ ap meter_names_of there.named; leaf_typed = own.leaf_typed }
 
 -- one switch more
-pub rows-snoc : (layout : Layout) (nodes : List Nodes) (rows : List SwitchRows) (n : Nodes)
-    (r : SwitchRows) → AreAllRows layout nodes rows → slice_get nodes (length rows) ≡ Some n
-    → AreRowsOf layout (nodes_names n) r
-    → AreAllRows layout nodes (rows ++ r ∷ [])
+pub rows-snoc : (layout : Layout) (nodes : List SwitchNodes) (rows : List SwitchRows) (n : SwitchNodes)
+    (r : SwitchRows) → AreRowsOfNodes layout nodes rows → slice_get nodes (length rows) ≡ Some n
+    → AreSwitchRowsOf layout (nodes_names n) r
+    → AreRowsOfNodes layout nodes (rows ++ r ∷ [])
 rows-snoc layout nodes rows n r all here own k m q hm hq =
-    each-snoc (λ j (x : SwitchRows). (y : Nodes) → slice_get nodes j ≡ Some y
-    → AreRowsOf layout (nodes_names y) x) rows r (λ j x hx y hy. all j y x hy hx)
+    each-snoc (λ j (x : SwitchRows). (y : SwitchNodes) → slice_get nodes j ≡ Some y
+    → AreSwitchRowsOf layout (nodes_names y) x) rows r (λ j x hx y hy. all j y x hy hx)
     (λ y hy. let there : Some n ≡ Some y = sym here ∙ hy in
     let same : n ≡ y = cc in
-    subst (λ (x : Nodes). AreRowsOf layout (nodes_names x) r) same own) k q hq m hm
+    subst (λ (x : SwitchNodes). AreSwitchRowsOf layout (nodes_names x) r) same own) k q hq m hm
 
 -- what no place is found for has no value
 pub selected-leaf_type : (rows : List Row) (name : List ℕ) (handle : ℕ)

@@ -2,15 +2,15 @@
 use Rattle.std.proofs.Common.{◌≡◌, ◌≢◌, ◌⊎◌, inl, inr, ℕ, pos, int_lt, zero, suc, ◌+◌, ◌<◌, ◌≤◌, ◌^◌, Bool, true, false, not, cond, List, [], ◌∷◌, ◌++◌, length, filter, get_or, drop, take, codes, slice_get, Option, Some, None, option_map, refl, ap, sym, subst, ◌∙◌, arith}
 use Rattle.std.proofs.lemmas.Bool.{cases_order}
 use Rattle.std.proofs.lemmas.Option.{same_Some, slice_get-map, slice_get_within}
-use Rattle.bay_tree.specs.Rows.{leaf_of}
+use Rattle.bay_tree.specs.Rows.{leaf_named}
 use Rattle.bay_tree.specs.declared.row.Row.{Row}
 use Rattle.bay_base.specs.declared.position.Dbpos.{Dbpos}
 use Rattle.bay_tree.specs.declared.leaf.Leaf.{Leaf}
 use Rattle.bay_tree.specs.declared.leaf.Leaf.TheVariants as leaf
 use Rattle.bay_tree.specs.declared.leaf.Quality.{Quality}
 use Rattle.bay_tree.specs.declared.leaf.Quality.TheVariants.{Good}
-use Rattle.bay_nodes.specs.Names.{StatusNames, SwitchNames, closing_of, meter_names, node_of, opening_of, switch_names}
-use Rattle.bay_nodes.specs.Node.{class_of, is_breaker, is_of, node_name, node_number}
+use Rattle.bay_nodes.specs.Names.{StatusNames, SwitchNames, closing_names_at, meter_names, switch_node, opening_names_at, switch_names}
+use Rattle.bay_nodes.specs.Node.{class_of, is_breaker, is_in_group, node_name, node_number}
 use Rattle.bay_nodes.specs.declared.switch.Switch.{Switch}
 use Rattle.bay_base.specs.declared.switch.SwitchKind.{SwitchKind}
 use Rattle.bay_base.specs.declared.switch.SwitchKind.TheVariants.{Breaker, Disconnector, Earthing}
@@ -21,11 +21,11 @@ use Rattle.bay_base.specs.declared.point.Source.{Source}
 use Rattle.bay_base.specs.declared.point.Source.TheVariants as source
 use Rattle.il_image.specs.declared.value.Value.{Value}
 use Rattle.il_image.specs.declared.value.Value.TheVariants.{Long}
-use Rattle.bay_process.specs.Layout.{AreBound, AreMetersBound, Layout, field_rows, layout_of, name_in, status_in, switch_in, switches_of}
+use Rattle.bay_process.specs.Layout.{AreBound, AreMetersBound, Layout, field_rows, layout_of, row_name_in, status_names_in, switch_names_in, switches_of}
 use Rattle.bay_process.specs.Names.{field_names}
-use Rattle.bay_process.specs.Scans.{source_value, outputs_put, switch_value, meter_value}
+use Rattle.bay_process.specs.Scans.{source_value, rows_after_outputs, switch_value, meter_value}
 use Rattle.bay_process.specs.ReportedRows.{AreEnabling, AreInterlocked}
-use Rattle.bay_process.specs.Values.{is_operation, number_of_leaf, operation_counted, position_quality, position_value, rows_after_change, rows_after_contact, has_position, with_count, with_enabled, with_output, with_status}
+use Rattle.bay_process.specs.Values.{is_operation, number_of_leaf, rows_after_operation, position_quality, position_value, rows_after_change, rows_after_contact, has_position, with_count, with_enabled, with_output, with_status}
 use Rattle.bay_process.specs.declared.meter.BoundMeter.{BoundMeter}
 use Rattle.bay_process.specs.declared.rows.SwitchRows.{SwitchRows}
 use Rattle.bay_process.specs.declared.switch.BoundSwitch.{BoundSwitch}
@@ -43,7 +43,7 @@ record IsOther (name : List ℕ) (names : StatusNames) : Type 0 where
 module _ (name : List ℕ) (start : List Row) where
   -- its value is that of the first rows
   abbrev Stays : List Row → Type 0
-  Stays rows = leaf_of name rows ≡ leaf_of name start
+  Stays rows = leaf_named name rows ≡ leaf_named name start
 
   stays-if : (b : Bool) (x y : List Row) → Stays x → Stays y → Stays (cond b x y)
   stays-if true x y p q = p
@@ -86,9 +86,9 @@ module _ (name : List ℕ) (start : List Row) where
       (stays-status names.position _ _ now start own refl) in
       stays-if (has_position names.position position start) start
       (rows_after_change names position now start) refl
-      (stays-if (is_operation position (leaf_of names.position.value start))
-      (operation_counted names.operations now after) after
-      (stays-counted names.operations (leaf_of names.operations.value after) now after operations
+      (stays-if (is_operation position (leaf_named names.position.value start))
+      (rows_after_operation names.operations now after) after
+      (stays-counted names.operations (leaf_named names.operations.value after) now after operations
       both) both)
 
   -- ---- a scan writes interlocking values alone
@@ -100,14 +100,14 @@ module _ (name : List ℕ) (start : List Row) where
         stays-if _ rows (with_status names (leaf.Truth value) Good now rows) p
         (stays-status names (leaf.Truth value) Good now rows other p)
 
-    away-opening : (k : ℕ) → IsOther name (opening_of k)
+    away-opening : (k : ℕ) → IsOther name (opening_names_at k)
     away-opening k = record {
       value = λ e. away k _ (sym e);
       quality = λ e. away k _ (sym e);
       time = λ e. away k _ (sym e);
     }
 
-    away-closing : (k : ℕ) → IsOther name (closing_of k)
+    away-closing : (k : ℕ) → IsOther name (closing_names_at k)
     away-closing k = record {
       value = λ e. away k _ (sym e);
       quality = λ e. away k _ (sym e);
@@ -116,19 +116,19 @@ module _ (name : List ℕ) (start : List Row) where
 
     stays-output : (layout : Layout) (k : ℕ) (own : SwitchRows) (opens closes : Bool) (now : ℕ)
         (rows : List Row) → AreEnabling layout k own → Stays rows
-        → Stays (with_output (switch_in layout own) opens closes now rows)
+        → Stays (with_output (switch_names_in layout own) opens closes now rows)
     stays-output layout k own opens closes now rows named p =
-        let first = with_enabled (status_in layout own.ena_opn) opens now rows in
-        stays-enabled (status_in layout own.ena_cls) closes now first
+        let first = with_enabled (status_names_in layout own.ena_opn) opens now rows in
+        stays-enabled (status_names_in layout own.ena_cls) closes now first
         (subst (IsOther name) (sym named.closing) (away-closing k))
-        (stays-enabled (status_in layout own.ena_opn) opens now rows
+        (stays-enabled (status_names_in layout own.ena_opn) opens now rows
         (subst (IsOther name) (sym named.opening) (away-opening k)) p)
 
     stays-outputs : (layout : Layout) (outputs : List Value) (now k : ℕ)
         (bound : List BoundSwitch) (rows : List Row)
         → ((j : ℕ) (b : BoundSwitch) → slice_get bound j ≡ Some b
         → AreEnabling layout (k + j) b.rows)
-        → Stays rows → Stays (outputs_put layout bound outputs now rows)
+        → Stays rows → Stays (rows_after_outputs layout bound outputs now rows)
     stays-outputs layout outputs now k [] rows all p = p
     stays-outputs layout outputs now k (b ∷ bs) rows all p =
         let none : k + 0 ≡ k = omega arith in
@@ -140,7 +140,7 @@ module _ (name : List ℕ) (start : List Row) where
 
 -- ---- the nodes of two switches
 
-is-own : (kind : SwitchKind) (s : Switch) → s.kind ≡ kind → is_of (is_breaker kind) s ≡ true
+is-own : (kind : SwitchKind) (s : Switch) → s.kind ≡ kind → is_in_group (is_breaker kind) s ≡ true
 is-own Breaker s e = ap is_breaker e
 is-own Disconnector s e = ap (λ (k : SwitchKind). not (is_breaker k)) e
 is-own Earthing s e = ap (λ (k : SwitchKind). not (is_breaker k)) e
@@ -216,31 +216,31 @@ two-classes Earthing Breaker n m s t few less e =
 module _ (ss : List Switch) (few : length ss < 2 ^ 64) where
   counted-apart : (j k : ℕ) (s t : Switch) → (j < k) ⊎ (k < j) → slice_get ss j ≡ Some s
       → slice_get ss k ≡ Some t → is_breaker s.kind ≡ is_breaker t.kind
-      → length (filter (is_of (is_breaker s.kind)) (take j ss))
-      ≢ length (filter (is_of (is_breaker t.kind)) (take k ss))
+      → length (filter (is_in_group (is_breaker s.kind)) (take j ss))
+      ≢ length (filter (is_in_group (is_breaker t.kind)) (take k ss))
   counted-apart j k s t (inl l) e f class same =
-      let own : is_of (is_breaker s.kind) s ≡ true = is-own s.kind s refl in
-      let more = more-counted (is_of (is_breaker s.kind)) ss j k s l e own in
-      let other = ap (λ (b : Bool). length (filter (is_of b) (take k ss))) class in
+      let own : is_in_group (is_breaker s.kind) s ≡ true = is-own s.kind s refl in
+      let more = more-counted (is_in_group (is_breaker s.kind)) ss j k s l e own in
+      let other = ap (λ (b : Bool). length (filter (is_in_group b) (take k ss))) class in
       omega (arith, more, other, same)
   counted-apart j k s t (inr l) e f class same =
-      let own : is_of (is_breaker t.kind) t ≡ true = is-own t.kind t refl in
-      let more = more-counted (is_of (is_breaker t.kind)) ss k j t l f own in
-      let other = ap (λ (b : Bool). length (filter (is_of b) (take j ss))) class in
+      let own : is_in_group (is_breaker t.kind) t ≡ true = is-own t.kind t refl in
+      let more = more-counted (is_in_group (is_breaker t.kind)) ss k j t l f own in
+      let other = ap (λ (b : Bool). length (filter (is_in_group b) (take j ss))) class in
       omega (arith, more, other, same)
 
   -- the rows below the nodes of two switches have other names
   nodes-apart : (j k : ℕ) (s t : Switch) → (j < k) ⊎ (k < j) → slice_get ss j ≡ Some s
       → slice_get ss k ≡ Some t → (x y : List ℕ)
-      → node_of ss j s ++ 36 ∷ x ≢ node_of ss k t ++ 36 ∷ y
+      → switch_node ss j s ++ 36 ∷ x ≢ switch_node ss k t ++ 36 ∷ y
   nodes-apart j k s t apart e f x y same =
       let lt : j < length ss = slice_get_within ss j s e in
       let lt2 : k < length ss = slice_get_within ss k t f in
-      let n = few-counted (is_of (is_breaker s.kind)) ss j in
-      let m = few-counted (is_of (is_breaker t.kind)) ss k in
+      let n = few-counted (is_in_group (is_breaker s.kind)) ss j in
+      let m = few-counted (is_in_group (is_breaker t.kind)) ss k in
       let both = two-classes s.kind t.kind
-      (length (filter (is_of (is_breaker s.kind)) (take j ss)))
-      (length (filter (is_of (is_breaker t.kind)) (take k ss))) x y
+      (length (filter (is_in_group (is_breaker s.kind)) (take j ss)))
+      (length (filter (is_in_group (is_breaker t.kind)) (take k ss))) x y
       (omega (arith, lt, n, few)) (omega (arith, lt2, m, few)) same in
       counted-apart j k s t apart e f both.1 both.0
 
@@ -271,11 +271,11 @@ not-repeated n m s t e = let first : 77 ≡ 67 = ap (λ l. get_or l 0 0) e in om
 -- a name below a node of a meter
 meter-stays : (n : ℕ) (s : List ℕ) (ss : List Switch) (k : ℕ) (switch : Switch)
     (position : Dbpos) (now : ℕ) (rows : List Row)
-    → leaf_of (node_name (codes "MMXU") n ++ s)
+    → leaf_named (node_name (codes "MMXU") n ++ s)
     (rows_after_contact (switch_names ss k switch) position now rows)
-    ≡ leaf_of (node_name (codes "MMXU") n ++ s) rows
+    ≡ leaf_named (node_name (codes "MMXU") n ++ s) rows
 meter-stays n s ss k switch position now rows =
-    let own : (t : List ℕ) → node_name (codes "MMXU") n ++ s ≢ node_of ss k switch ++ t =
+    let own : (t : List ℕ) → node_name (codes "MMXU") n ++ s ≢ switch_node ss k switch ++ t =
     not-position switch.kind (node_number ss switch k) n s in
     let name : List ℕ = node_name (codes "MMXU") n ++ s in
     stays-contact name rows (switch_names ss k switch) position now
@@ -289,9 +289,9 @@ meter-stays n s ss k switch position now rows =
 
 field-stays : (j : ℕ) (field : MeterField) (ss : List Switch) (k : ℕ) (switch : Switch)
     (position : Dbpos) (now : ℕ) (rows : List Row)
-    → leaf_of (field_names field (meter_names j)).value
+    → leaf_named (field_names field (meter_names j)).value
     (rows_after_contact (switch_names ss k switch) position now rows)
-    ≡ leaf_of (field_names field (meter_names j)).value rows
+    ≡ leaf_named (field_names field (meter_names j)).value rows
 field-stays j TotW ss k switch position now rows =
     meter-stays (j + 1) _ ss k switch position now rows
 field-stays j TotVAr ss k switch position now rows =
@@ -320,8 +320,8 @@ module _ (rows new : List Row) (layout : layout_of new ≡ layout_of rows)
 
   pub switch-same : (k : ℕ) (point : SwitchPoint)
       → ((b : BoundSwitch) → slice_get switches k ≡ Some b
-      → leaf_of (node_of ss k b.switch ++ codes "$ST$Pos$stVal") new
-      ≡ leaf_of (node_of ss k b.switch ++ codes "$ST$Pos$stVal") rows)
+      → leaf_named (switch_node ss k b.switch ++ codes "$ST$Pos$stVal") new
+      ≡ leaf_named (switch_node ss k b.switch ++ codes "$ST$Pos$stVal") rows)
       → source_value new switches inputs meters (source.Switch k point)
       ≡ source_value rows switches inputs meters (source.Switch k point)
   switch-same k point stays = of-switch (slice_get switches k) refl
@@ -331,15 +331,15 @@ module _ (rows new : List Row) (layout : layout_of new ≡ layout_of rows)
       of-switch None here = refl
       of-switch (Some b) here =
           let named = ap (λ (n : SwitchNames). n.position.value) (bound k b here).named in
-          ap (λ (l : Layout). position_value point (leaf_of (name_in l b.rows.position.value) new))
+          ap (λ (l : Layout). position_value point (leaf_named (row_name_in l b.rows.position.value) new))
           layout
-          ∙ ap (λ (n : List ℕ). position_value point (leaf_of n new)) named
+          ∙ ap (λ (n : List ℕ). position_value point (leaf_named n new)) named
           ∙ ap (position_value point) (stays b here)
-          ∙ ap (λ (n : List ℕ). position_value point (leaf_of n rows)) (sym named)
+          ∙ ap (λ (n : List ℕ). position_value point (leaf_named n rows)) (sym named)
 
   pub meter-same : (k : ℕ) (field : MeterField)
-      → leaf_of (field_names field (meter_names k)).value new
-      ≡ leaf_of (field_names field (meter_names k)).value rows
+      → leaf_named (field_names field (meter_names k)).value new
+      ≡ leaf_named (field_names field (meter_names k)).value rows
       → source_value new switches inputs meters (source.Meter k field)
       ≡ source_value rows switches inputs meters (source.Meter k field)
   meter-same k field stays = of-meter (slice_get meters k) refl
@@ -352,20 +352,20 @@ module _ (rows new : List Row) (layout : layout_of new ≡ layout_of rows)
           (field-named (layout_of rows) m.rows field
           ∙ ap (field_names field) (metered k m here).named) in
           ap (λ (l : Layout). Long (number_of_leaf
-          (leaf_of (name_in l (field_rows m.rows field).value) new))) layout
-          ∙ ap (λ (n : List ℕ). Long (number_of_leaf (leaf_of n new))) named
+          (leaf_named (row_name_in l (field_rows m.rows field).value) new))) layout
+          ∙ ap (λ (n : List ℕ). Long (number_of_leaf (leaf_named n new))) named
           ∙ ap (λ (o : Option Leaf). Long (number_of_leaf o)) stays
-          ∙ ap (λ (n : List ℕ). Long (number_of_leaf (leaf_of n rows))) (sym named)
+          ∙ ap (λ (n : List ℕ). Long (number_of_leaf (leaf_named n rows))) (sym named)
 
   -- a scan leaves all that is read
   pub scan-same : (outputs : List Value) (now : ℕ) → AreInterlocked (layout_of rows) switches
-      → new ≡ outputs_put (layout_of rows) switches outputs now rows → (o : Source)
+      → new ≡ rows_after_outputs (layout_of rows) switches outputs now rows → (o : Source)
       → source_value new switches inputs meters o ≡ source_value rows switches inputs meters o
   scan-same outputs now named done o = of-source o
     where
-      away-stays : (name : List ℕ) → IsAway name → leaf_of name new ≡ leaf_of name rows
+      away-stays : (name : List ℕ) → IsAway name → leaf_named name new ≡ leaf_named name rows
       away-stays name away =
-          ap (leaf_of name) done
+          ap (leaf_named name) done
           ∙ stays-outputs name rows away (layout_of rows) outputs now 0 switches rows
           (λ j b h. let none : j ≡ 0 + j = omega arith in
           subst (λ m. AreEnabling (layout_of rows) m b.rows) none (named j b h).named) refl
@@ -396,13 +396,13 @@ module _ (rows new : List Row) (layout : layout_of new ≡ layout_of rows)
           let own : slice_get ss j ≡ Some b.switch =
           slice_get-map (λ (b : BoundSwitch). b.switch) switches j
           ∙ ap (λ o. option_map (λ (b : BoundSwitch). b.switch) o) here in
-          let node : (x y : List ℕ) → node_of ss j b.switch ++ 36 ∷ x ≢ node_of ss k s ++ 36 ∷ y =
+          let node : (x y : List ℕ) → switch_node ss j b.switch ++ 36 ∷ x ≢ switch_node ss k s ++ 36 ∷ y =
           nodes-apart ss few j k b.switch s apart own is in
           let control : (x y : List ℕ)
-          → node_of ss j b.switch ++ x ≢ node_name (codes "CSWI") (k + 1) ++ y =
+          → switch_node ss j b.switch ++ x ≢ node_name (codes "CSWI") (k + 1) ++ y =
           not-control b.switch.kind (node_number ss b.switch j) (k + 1) in
-          let name : List ℕ = node_of ss j b.switch ++ codes "$ST$Pos$stVal" in
-          ap (leaf_of name) done
+          let name : List ℕ = switch_node ss j b.switch ++ codes "$ST$Pos$stVal" in
+          ap (leaf_named name) done
           ∙ stays-contact name rows (switch_names ss k s) position now
           (record { value = node _ _; quality = node _ _; time = node _ _ })
           (record { value = control _ _; quality = control _ _; time = control _ _ })
@@ -410,5 +410,5 @@ module _ (rows new : List Row) (layout : layout_of new ≡ layout_of rows)
       of-source (source.Input j) other = refl
       of-source (source.Meter j field) other =
           meter-same j field
-          (ap (leaf_of (field_names field (meter_names j)).value) done
+          (ap (leaf_named (field_names field (meter_names j)).value) done
           ∙ field-stays j field ss k s position now rows)

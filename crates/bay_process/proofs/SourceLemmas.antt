@@ -5,7 +5,7 @@ use Rattle.std.specs.List.{cons_option, list_any}
 use Rattle.bay_base.specs.Names.{same_name}
 use Rattle.bay_base.specs.Types.{same_type}
 use Rattle.bay_base.specs.declared.types.ElementaryType.{ElementaryType}
-use Rattle.bay_config.specs.Point.{inputs_from, meters_from, points_from, points_of_all}
+use Rattle.bay_config.specs.Point.{inputs_from, meters_from, points_from, bay_points}
 use Rattle.bay_base.specs.declared.point.Source.{Source}
 use Rattle.bay_base.specs.declared.point.Point.{Point}
 use Rattle.bay_nodes.specs.declared.switch.Switch.{Switch}
@@ -26,23 +26,23 @@ both : (xs ys : List Point) → Each IsTyped xs → Each IsTyped ys → Each IsT
 both [] ys h k = k
 both (x ∷ xs) ys h k = (h.0, both xs ys h.1 k)
 
-switches-typed : (place : ℕ) (switches : List Switch) → Each IsTyped (points_from place switches)
-switches-typed place [] = tt
-switches-typed place (s ∷ switches) =
-    (refl, (refl, (refl, (refl, (refl, switches-typed (place + 1) switches)))))
+switches-typed : (index : ℕ) (switches : List Switch) → Each IsTyped (points_from index switches)
+switches-typed index [] = tt
+switches-typed index (s ∷ switches) =
+    (refl, (refl, (refl, (refl, (refl, switches-typed (index + 1) switches)))))
 
-inputs-typed : (place : ℕ) (names : List (List ℕ)) → Each IsTyped (inputs_from place names)
-inputs-typed place [] = tt
-inputs-typed place (n ∷ names) = (refl, inputs-typed (place + 1) names)
+inputs-typed : (index : ℕ) (names : List (List ℕ)) → Each IsTyped (inputs_from index names)
+inputs-typed index [] = tt
+inputs-typed index (n ∷ names) = (refl, inputs-typed (index + 1) names)
 
-meters-typed : (place : ℕ) (ids : List (List ℕ)) → Each IsTyped (meters_from place ids)
-meters-typed place [] = tt
-meters-typed place (m ∷ ids) =
-    (refl, (refl, (refl, (refl, (refl, (refl, meters-typed (place + 1) ids))))))
+meters-typed : (index : ℕ) (ids : List (List ℕ)) → Each IsTyped (meters_from index ids)
+meters-typed index [] = tt
+meters-typed index (m ∷ ids) =
+    (refl, (refl, (refl, (refl, (refl, (refl, meters-typed (index + 1) ids))))))
 
 -- each point of a bay does
 pub bay-typed : (switches : List Switch) (inputs meters : List (List ℕ))
-    → Each IsTyped (points_of_all switches inputs meters)
+    → Each IsTyped (bay_points switches inputs meters)
 bay-typed switches inputs meters =
     both (points_from 0 switches) _ (switches-typed 0 switches)
     (both (inputs_from 0 inputs) _ (inputs-typed 0 inputs) (meters-typed 0 meters))

@@ -12,7 +12,7 @@ use Rattle.std.proofs.lemmas.Bool.Decides.{nat_tests}
 use Rattle.std.proofs.lemmas.Fmt.{decimal_is_IsNumeral, decimal_injective}
 use Rattle.std.proofs.lemmas.List.{append_cancel_left}
 use Rattle.std.proofs.lemmas.Slice.Eq.{bytes_eq-Decides}
-use Rattle.bay_tree.specs.Rows.{leaf_of, with_leaf_of}
+use Rattle.bay_tree.specs.Rows.{leaf_named, with_leaf_named}
 use Rattle.bay_tree.specs.declared.row.Row.{Row}
 use Rattle.bay_tree.specs.declared.leaf.Leaf.{Leaf}
 use Rattle.bay_tree.specs.declared.leaf.Leaf.TheVariants as leaf
@@ -25,10 +25,10 @@ use Rattle.bay_base.specs.declared.point.MeterField.TheVariants.{TotW, TotVAr, H
 use Rattle.bay_nodes.specs.declared.switch.Switch.{Switch}
 use Rattle.bay_base.specs.declared.switch.SwitchKind.{SwitchKind}
 use Rattle.bay_base.specs.declared.switch.SwitchKind.TheVariants.{Breaker, Disconnector, Earthing}
-use Rattle.bay_process.specs.Values.{is_truth, is_quality, with_status, with_enabled, with_count, operation_counted, is_operation, has_position, position_quality, rows_after_change, rows_after_contact, has_invalid_measure, has_measure, rows_after_doubt, rows_after_measure}
-use Rattle.bay_nodes.specs.Names.{StatusNames, switch_names, node_of, meter_names, interlocking_of, opening_of, closing_of}
+use Rattle.bay_process.specs.Values.{is_truth, is_quality, with_status, with_enabled, with_count, rows_after_operation, is_operation, has_position, position_quality, rows_after_change, rows_after_contact, has_invalid_measure, has_measure, rows_after_bad_measure, rows_after_measure}
+use Rattle.bay_nodes.specs.Names.{StatusNames, switch_names, switch_node, meter_names, cilo_name, opening_names_at, closing_names_at}
 use Rattle.bay_process.specs.Names.{field_names}
-use Rattle.bay_process.specs.declared.switch.Enabled.{Enabled}
+use Rattle.bay_process.specs.declared.switch.SwitchEnables.{SwitchEnables}
 use Rattle.bay_process.specs.ReportedRows.{AreValued, HoldsRelease, HoldsTruth}
 
 -- ---- one row
@@ -54,11 +54,11 @@ other-if false false r rest before name other value here there apart same = rw t
 
 -- another name's value stays
 pub leaf-other : (rows : List Row) (name other : List ℕ) (value : Leaf) → name ≢ other
-    → leaf_of name (with_leaf_of other value rows) ≡ leaf_of name rows
+    → leaf_named name (with_leaf_named other value rows) ≡ leaf_named name rows
 leaf-other [] name other value apart = refl
 leaf-other (r ∷ rows) name other value apart =
     other-if (bytes_eq r.name other) (bytes_eq r.name name) r
-    (find (λ q. bytes_eq q.name name) (with_leaf_of other value rows))
+    (find (λ q. bytes_eq q.name name) (with_leaf_named other value rows))
     (find (λ q. bytes_eq q.name name) rows) name other value refl refl apart
     (leaf-other rows name other value apart)
 
@@ -71,12 +71,12 @@ own-if true r rest before name value here there below = rw here refl
 own-if false r rest before name value here there below = rw here (below there)
 
 -- the value that was written stands, if there was one
-pub leaf-own : (rows : List Row) (name : List ℕ) (value : Leaf) → leaf_of name rows ≢ None
-    → leaf_of name (with_leaf_of name value rows) ≡ Some value
+pub leaf-own : (rows : List Row) (name : List ℕ) (value : Leaf) → leaf_named name rows ≢ None
+    → leaf_named name (with_leaf_named name value rows) ≡ Some value
 leaf-own [] name value there = absurd (there refl)
 leaf-own (r ∷ rows) name value there =
     own-if (bytes_eq r.name name) r
-    (find (λ q. bytes_eq q.name name) (with_leaf_of name value rows))
+    (find (λ q. bytes_eq q.name name) (with_leaf_named name value rows))
     (find (λ q. bytes_eq q.name name) rows) name value refl there (leaf-own rows name value)
 
 -- ---- names
@@ -106,7 +106,7 @@ words-same (c ∷ a) (d ∷ b) s t p q e =
     (ap (λ w. c ∷ w) rest.0 ∙ ap (λ x. x ∷ b) first, rest.1)
 
 pub same-node : (k i : ℕ) (s t : List ℕ) → k + 1 < 2 ^ 64 → i + 1 < 2 ^ 64
-    → interlocking_of k ++ 36 ∷ s ≡ interlocking_of i ++ 36 ∷ t → (k ≡ i) × (s ≡ t)
+    → cilo_name k ++ 36 ∷ s ≡ cilo_name i ++ 36 ∷ t → (k ≡ i) × (s ≡ t)
 same-node k i s t few less e =
     let own : decimal (k + 1) ++ 36 ∷ s ≡ decimal (i + 1) ++ 36 ∷ t = cc in
     let parts =
@@ -118,7 +118,7 @@ same-node k i s t few less e =
 
 -- a name that no interlocking node begins
 abbrev pub IsAway : List ℕ → Type 0
-IsAway other = (k : ℕ) (s : List ℕ) → interlocking_of k ++ s ≢ other
+IsAway other = (k : ℕ) (s : List ℕ) → cilo_name k ++ s ≢ other
 
 pub away-position : (kind : SwitchKind) (n : ℕ) (t : List ℕ)
     → IsAway (node_name (class_of kind) n ++ t)
@@ -151,7 +151,7 @@ at-node node value quality time away =
 -- what the interlocking nodes name stays
 abbrev pub Keeps : List Row → List Row → Type 0
 Keeps rows new = (k : ℕ) (s : List ℕ)
-    → leaf_of (interlocking_of k ++ s) new ≡ leaf_of (interlocking_of k ++ s) rows
+    → leaf_named (cilo_name k ++ s) new ≡ leaf_named (cilo_name k ++ s) rows
 
 keeps-status : (names : StatusNames) (value : Leaf) (q : Quality) (now : ℕ) (rows : List Row)
     → AreAway names → Keeps rows (with_status names value q now rows)
@@ -168,8 +168,8 @@ keeps-counted : (names : StatusNames) (o : Option Leaf) (now : ℕ) (rows : List
     → Keeps rows (with_count names o now rows)
 keeps-counted names (Some (leaf.Int32 n)) now rows away k s =
     keeps-if (int_lt n (pos 2147483647)) rows
-    (with_leaf_of names.time (leaf.Utc now)
-    (with_leaf_of names.value (leaf.Int32 (n +ℤ pos 1)) rows)) rows
+    (with_leaf_named names.time (leaf.Utc now)
+    (with_leaf_named names.value (leaf.Int32 (n +ℤ pos 1)) rows)) rows
     (λ j t. leaf-other _ _ names.time _ (away.time_away j t)
     ∙ leaf-other rows _ names.value _ (away.value_away j t)) (λ j t. refl) k s
 keeps-counted names None now rows away k s = refl
@@ -192,10 +192,10 @@ pub keeps-contact : (switches : List Switch) (j : ℕ) (switch : Switch) (positi
     (rows_after_contact (switch_names switches j switch) position now rows)
 keeps-contact switches j switch position now rows =
     let names = switch_names switches j switch in
-    let node : (t : List ℕ) → IsAway (node_of switches j switch ++ t) =
+    let node : (t : List ℕ) → IsAway (switch_node switches j switch ++ t) =
     away-position switch.kind (node_number switches switch j) in
-    let places : AreAway names.position = at-node (node_of switches j switch) _ _ _ node in
-    let counts : AreAway names.operations = at-node (node_of switches j switch) _ _ _ node in
+    let offsets : AreAway names.position = at-node (switch_node switches j switch) _ _ _ node in
+    let counts : AreAway names.operations = at-node (switch_node switches j switch) _ _ _ node in
     let controls : AreAway names.control =
     at-node (node_name (codes "CSWI") (j + 1)) _ _ _ (away-control (j + 1)) in
     let told =
@@ -203,14 +203,14 @@ keeps-contact switches j switch position now rows =
     let after =
     with_status names.control (leaf.Dbpos position) (position_quality position) now told in
     let both : Keeps rows after =
-    then-keeps rows told after (keeps-status names.position _ _ now rows places)
+    then-keeps rows told after (keeps-status names.position _ _ now rows offsets)
     (keeps-status names.control _ _ now told controls) in
-    let with_count = operation_counted names.operations now after in
+    let with_count = rows_after_operation names.operations now after in
     keeps-if (has_position names.position position rows) rows rows
     (rows_after_change names position now rows) (λ k s. refl)
-    (keeps-if (is_operation position (leaf_of names.position.value rows)) rows with_count after
+    (keeps-if (is_operation position (leaf_named names.position.value rows)) rows with_count after
     (then-keeps rows after with_count both
-    (keeps-counted names.operations (leaf_of names.operations.value after) now after counts))
+    (keeps-counted names.operations (leaf_named names.operations.value after) now after counts))
     both)
 
 pub keeps-measure : (names : StatusNames) (value : ℤ) (now : ℕ) (rows : List Row) → AreAway names
@@ -220,7 +220,7 @@ keeps-measure names value now rows away =
     (keeps-status names (leaf.Int32 value) _ now rows away)
 
 pub keeps-doubt : (names : StatusNames) (now : ℕ) (rows : List Row) → AreAway names
-    → Keeps rows (rows_after_doubt names now rows)
+    → Keeps rows (rows_after_bad_measure names now rows)
 keeps-doubt names now rows away =
     keeps-if (has_invalid_measure names rows) rows rows _ (λ k s. refl)
     (λ j t. leaf-other _ _ names.time _ (away.time_away j t)
@@ -299,18 +299,18 @@ record AreOwn (rows : List Row) (names : StatusNames) : Type 0 where
   valued : AreValued rows names
 
 stands-if : (t : Bool) (names : StatusNames) (b : Bool) (now : ℕ) (rows : List Row)
-    → AreOwn rows names → (is_truth b (leaf_of names.value rows)
-    && is_quality Good (leaf_of names.quality rows)) ≡ t
+    → AreOwn rows names → (is_truth b (leaf_named names.value rows)
+    && is_quality Good (leaf_named names.quality rows)) ≡ t
     → HoldsTruth (cond t rows (with_status names (leaf.Truth b) Good now rows)) names b
 stands-if true names b now rows own same =
     let parts =
-    and_parts (is_truth b (leaf_of names.value rows))
-    (is_quality Good (leaf_of names.quality rows)) same in
+    and_parts (is_truth b (leaf_named names.value rows))
+    (is_quality Good (leaf_named names.quality rows)) same in
     record { value_is = truth-is b _ parts.0; quality_is = good-is _ parts.1 }
 stands-if false names b now rows own same =
-    let first = with_leaf_of names.value (leaf.Truth b) rows in
-    let second = with_leaf_of names.quality (leaf.Quality Good) first in
-    let kept : leaf_of names.quality first ≡ leaf_of names.quality rows =
+    let first = with_leaf_named names.value (leaf.Truth b) rows in
+    let second = with_leaf_named names.quality (leaf.Quality Good) first in
+    let kept : leaf_named names.quality first ≡ leaf_named names.quality rows =
     leaf-other rows names.quality names.value _ (λ e. own.value_quality (sym e)) in
     record {
       value_is =
@@ -334,8 +334,8 @@ record IsOther (name : List ℕ) (names : StatusNames) : Type 0 where
 
 other-enabled-if : (t : Bool) (name : List ℕ) (names : StatusNames) (b : Bool) (now : ℕ)
     (rows : List Row) → IsOther name names
-    → leaf_of name (cond t rows (with_status names (leaf.Truth b) Good now rows))
-    ≡ leaf_of name rows
+    → leaf_named name (cond t rows (with_status names (leaf.Truth b) Good now rows))
+    ≡ leaf_named name rows
 other-enabled-if true name names b now rows other = refl
 other-enabled-if false name names b now rows other =
     leaf-other _ name names.time _ other.time_other
@@ -343,18 +343,18 @@ other-enabled-if false name names b now rows other =
     ∙ leaf-other rows name names.value _ other.value_other
 
 other-enabled : (name : List ℕ) (names : StatusNames) (b : Bool) (now : ℕ) (rows : List Row)
-    → IsOther name names → leaf_of name (with_enabled names b now rows) ≡ leaf_of name rows
+    → IsOther name names → leaf_named name (with_enabled names b now rows) ≡ leaf_named name rows
 other-enabled name names b now rows other = other-enabled-if _ name names b now rows other
 
 -- names of one node differ behind it, and those of two nodes always
-one-node : (k : ℕ) (s t : List ℕ) → (s ≡ t → ⊥) → interlocking_of k ++ s ≢ interlocking_of k ++ t
-one-node k s t apart e = apart (append_cancel_left (interlocking_of k) s t e)
+one-node : (k : ℕ) (s t : List ℕ) → (s ≡ t → ⊥) → cilo_name k ++ s ≢ cilo_name k ++ t
+one-node k s t apart e = apart (append_cancel_left (cilo_name k) s t e)
 
 module _ (k i : ℕ) (few : k + 1 < 2 ^ 64) (less : i + 1 < 2 ^ 64) (apart : k ≡ i → ⊥) where
-  two-nodes : (s t : List ℕ) → interlocking_of k ++ 36 ∷ s ≢ interlocking_of i ++ 36 ∷ t
+  two-nodes : (s t : List ℕ) → cilo_name k ++ 36 ∷ s ≢ cilo_name i ++ 36 ∷ t
   two-nodes s t e = apart (same-node k i s t few less e).0
 
-  other-opening : (s : List ℕ) → IsOther (interlocking_of k ++ 36 ∷ s) (opening_of i)
+  other-opening : (s : List ℕ) → IsOther (cilo_name k ++ 36 ∷ s) (opening_names_at i)
   other-opening s =
       record {
         value_other = two-nodes s _;
@@ -362,7 +362,7 @@ module _ (k i : ℕ) (few : k + 1 < 2 ^ 64) (less : i + 1 < 2 ^ 64) (apart : k �
         time_other = two-nodes s _;
       }
 
-  other-closing : (s : List ℕ) → IsOther (interlocking_of k ++ 36 ∷ s) (closing_of i)
+  other-closing : (s : List ℕ) → IsOther (cilo_name k ++ 36 ∷ s) (closing_names_at i)
   other-closing s =
       record {
         value_other = two-nodes s _;
@@ -372,48 +372,48 @@ module _ (k i : ℕ) (few : k + 1 < 2 ^ 64) (less : i + 1 < 2 ^ 64) (apart : k �
 
   -- what another node names stays
   pub keeps-output : (o c : Bool) (now : ℕ) (rows : List Row) (s : List ℕ)
-      → leaf_of (interlocking_of k ++ 36 ∷ s)
-      (with_enabled (closing_of i) c now (with_enabled (opening_of i) o now rows))
-      ≡ leaf_of (interlocking_of k ++ 36 ∷ s) rows
+      → leaf_named (cilo_name k ++ 36 ∷ s)
+      (with_enabled (closing_names_at i) c now (with_enabled (opening_names_at i) o now rows))
+      ≡ leaf_named (cilo_name k ++ 36 ∷ s) rows
   keeps-output o c now rows s =
-      other-enabled _ (closing_of i) c now (with_enabled (opening_of i) o now rows)
-      (other-closing s) ∙ other-enabled _ (opening_of i) o now rows (other-opening s)
+      other-enabled _ (closing_names_at i) c now (with_enabled (opening_names_at i) o now rows)
+      (other-closing s) ∙ other-enabled _ (opening_names_at i) o now rows (other-opening s)
 
 -- opening and closing of one switch
 closing-other : (k : ℕ) (s : List ℕ) → get_or s 7 0 ≡ 79
-    → IsOther (interlocking_of k ++ s) (closing_of k)
+    → IsOther (cilo_name k ++ s) (closing_names_at k)
 closing-other k s at =
     let apart : (t : List ℕ) → get_or t 7 0 ≡ 67
-    → interlocking_of k ++ s ≢ interlocking_of k ++ t =
+    → cilo_name k ++ s ≢ cilo_name k ++ t =
     λ t is. one-node k s t (λ e. let same = ap (λ l. get_or l 7 0) e in
     omega (arith, at, is, same)) in
     record { value_other = apart _ refl; quality_other = apart _ refl; time_other = apart _ refl }
 
 opening-other : (k : ℕ) (s : List ℕ) → get_or s 7 0 ≡ 67
-    → IsOther (interlocking_of k ++ s) (opening_of k)
+    → IsOther (cilo_name k ++ s) (opening_names_at k)
 opening-other k s at =
     let apart : (t : List ℕ) → get_or t 7 0 ≡ 79
-    → interlocking_of k ++ s ≢ interlocking_of k ++ t =
+    → cilo_name k ++ s ≢ cilo_name k ++ t =
     λ t is. one-node k s t (λ e. let same = ap (λ l. get_or l 7 0) e in
     omega (arith, at, is, same)) in
     record { value_other = apart _ refl; quality_other = apart _ refl; time_other = apart _ refl }
 
 -- what is said of closing stands after opening was written
 pub closing-stands : (k : ℕ) (b c : Bool) (now : ℕ) (rows : List Row)
-    → HoldsTruth rows (closing_of k) c
-    → HoldsTruth (with_enabled (opening_of k) b now rows) (closing_of k) c
+    → HoldsTruth rows (closing_names_at k) c
+    → HoldsTruth (with_enabled (opening_names_at k) b now rows) (closing_names_at k) c
 closing-stands k b c now rows s = record {
-  value_is = other-enabled _ (opening_of k) b now rows (opening-other k _ refl) ∙ s.value_is;
-  quality_is = other-enabled _ (opening_of k) b now rows (opening-other k _ refl) ∙ s.quality_is;
+  value_is = other-enabled _ (opening_names_at k) b now rows (opening-other k _ refl) ∙ s.value_is;
+  quality_is = other-enabled _ (opening_names_at k) b now rows (opening-other k _ refl) ∙ s.quality_is;
 }
 
 -- opening and closing have three names each
 suffix-apart : (k n a b : ℕ) (s t : List ℕ) → get_or s n 0 ≡ a → get_or t n 0 ≡ b → (a ≡ b → ⊥)
-    → interlocking_of k ++ s ≢ interlocking_of k ++ t
+    → cilo_name k ++ s ≢ cilo_name k ++ t
 suffix-apart k n a b s t here there apart =
     one-node k s t (λ e. apart (sym here ∙ ap (λ l. get_or l n 0) e ∙ there))
 
-opening-own : (rows : List Row) (k : ℕ) → AreValued rows (opening_of k) → AreOwn rows (opening_of k)
+opening-own : (rows : List Row) (k : ℕ) → AreValued rows (opening_names_at k) → AreOwn rows (opening_names_at k)
 opening-own rows k valued = record {
   value_quality = suffix-apart k 11 115 113 _ _ refl refl (λ e. omega (arith, e));
   value_time = suffix-apart k 12 116 0 _ _ refl refl (λ e. omega (arith, e));
@@ -421,7 +421,7 @@ opening-own rows k valued = record {
   valued = valued;
 }
 
-closing-own : (rows : List Row) (k : ℕ) → AreValued rows (closing_of k) → AreOwn rows (closing_of k)
+closing-own : (rows : List Row) (k : ℕ) → AreValued rows (closing_names_at k) → AreOwn rows (closing_names_at k)
 closing-own rows k valued = record {
   value_quality = suffix-apart k 11 115 113 _ _ refl refl (λ e. omega (arith, e));
   value_time = suffix-apart k 12 116 0 _ _ refl refl (λ e. omega (arith, e));
@@ -430,22 +430,22 @@ closing-own rows k valued = record {
 }
 
 -- both values stand after they were written
-pub told-here : (k : ℕ) (enabled : Enabled) (now : ℕ) (rows mid new : List Row)
-    → AreValued rows (opening_of k) → mid ≡ with_enabled (opening_of k) enabled.may_open now rows
-    → AreValued mid (closing_of k) → new ≡ with_enabled (closing_of k) enabled.may_close now mid
+pub told-here : (k : ℕ) (enabled : SwitchEnables) (now : ℕ) (rows mid new : List Row)
+    → AreValued rows (opening_names_at k) → mid ≡ with_enabled (opening_names_at k) enabled.may_open now rows
+    → AreValued mid (closing_names_at k) → new ≡ with_enabled (closing_names_at k) enabled.may_close now mid
     → HoldsRelease new k enabled
 told-here k enabled now rows mid new opens first closes second =
     let opened =
-    stands-enabled (opening_of k) enabled.may_open now rows (opening-own rows k opens) in
-    let stood : HoldsTruth mid (opening_of k) enabled.may_open = rw first opened in
+    stands-enabled (opening_names_at k) enabled.may_open now rows (opening-own rows k opens) in
+    let stood : HoldsTruth mid (opening_names_at k) enabled.may_open = rw first opened in
     let closed =
-    stands-enabled (closing_of k) enabled.may_close now mid (closing-own mid k closes) in
+    stands-enabled (closing_names_at k) enabled.may_close now mid (closing-own mid k closes) in
     rw second record {
       opening = record {
         value_is =
-            other-enabled _ (closing_of k) _ now mid (closing-other k _ refl) ∙ stood.value_is;
+            other-enabled _ (closing_names_at k) _ now mid (closing-other k _ refl) ∙ stood.value_is;
         quality_is =
-            other-enabled _ (closing_of k) _ now mid (closing-other k _ refl) ∙ stood.quality_is;
+            other-enabled _ (closing_names_at k) _ now mid (closing-other k _ refl) ∙ stood.quality_is;
       };
       closing = closed;
     }

@@ -28,26 +28,26 @@ abbrev pub layout_of : List Row → Layout
 layout_of rows = record { names = names_of rows; leaf_types = leaf_types_of rows }
 
 -- the name of the row at a handle
-abbrev pub name_in : Layout → ℕ → List ℕ
-name_in layout handle = slice_index_or layout.names handle []
+abbrev pub row_name_in : Layout → ℕ → List ℕ
+row_name_in layout handle = slice_index_or layout.names handle []
 
 -- the names at the handles of a value, its quality and its time stamp
-abbrev pub status_in : Layout → StatusRows → StatusNames
-status_in layout rows =
+abbrev pub status_names_in : Layout → StatusRows → StatusNames
+status_names_in layout rows =
     record {
-      value = name_in layout rows.value;
-      quality = name_in layout rows.quality;
-      time = name_in layout rows.time;
+      value = row_name_in layout rows.value;
+      quality = row_name_in layout rows.quality;
+      time = row_name_in layout rows.time;
     }
 
 -- the names at the handles of a switch
-abbrev pub switch_in : Layout → SwitchRows → SwitchNames
-switch_in layout rows = record {
-  position = status_in layout rows.position;
-  control = status_in layout rows.control;
-  operations = status_in layout rows.operations;
-  ena_opn = status_in layout rows.ena_opn;
-  ena_cls = status_in layout rows.ena_cls;
+abbrev pub switch_names_in : Layout → SwitchRows → SwitchNames
+switch_names_in layout rows = record {
+  position = status_names_in layout rows.position;
+  control = status_names_in layout rows.control;
+  operations = status_names_in layout rows.operations;
+  ena_opn = status_names_in layout rows.ena_opn;
+  ena_cls = status_names_in layout rows.ena_cls;
 }
 
 -- the row at the handle has a value of this type
@@ -88,7 +88,7 @@ outputs_at writes k =
 -- the handles of the switch at index k have its names, and its outputs are those of its points
 pub record IsBound (layout : Layout) (writes : List Source) (switches : List Switch) (k : ℕ)
     (bound : BoundSwitch) : Type 0 where
-  pub named : switch_in layout bound.rows ≡ switch_names switches k bound.switch
+  pub named : switch_names_in layout bound.rows ≡ switch_names switches k bound.switch
   pub leaf_typed : AreSwitchRows layout bound.rows
   pub outputs : bound.outputs ≡ outputs_at writes k
 
@@ -105,14 +105,14 @@ bound_from writes k (s ∷ ss) (r ∷ rs) =
     record { switch = s; rows = r; outputs = outputs_at writes k } ∷ bound_from writes (k + 1) ss rs
 
 -- the names at the handles of a meter
-abbrev pub meter_in : Layout → MeterRows → MeterNames
-meter_in layout rows = record {
-  tot_w = status_in layout rows.tot_w;
-  tot_var = status_in layout rows.tot_var;
-  hz = status_in layout rows.hz;
-  phase_a = status_in layout rows.phase_a;
-  phase_b = status_in layout rows.phase_b;
-  phase_c = status_in layout rows.phase_c;
+abbrev pub meter_names_in : Layout → MeterRows → MeterNames
+meter_names_in layout rows = record {
+  tot_w = status_names_in layout rows.tot_w;
+  tot_var = status_names_in layout rows.tot_var;
+  hz = status_names_in layout rows.hz;
+  phase_a = status_names_in layout rows.phase_a;
+  phase_b = status_names_in layout rows.phase_b;
+  phase_c = status_names_in layout rows.phase_c;
 }
 
 -- the rows of a field of a meter
@@ -143,7 +143,7 @@ meters_of bound = map (λ m. m.id) bound
 
 -- the handles of the meter at index k have its names
 pub record IsMeterBound (layout : Layout) (k : ℕ) (rows : MeterRows) : Type 0 where
-  pub named : meter_in layout rows ≡ meter_names k
+  pub named : meter_names_in layout rows ≡ meter_names k
   pub leaf_typed : AreMeterRows layout rows
 
 -- each meter is bound at its index

@@ -2,37 +2,37 @@
 -- them.
 use Rattle.std.specs.Prelude.{◌≡◌, ◌≢◌, ℕ, ◌+◌, codes, List, Some, None, option_map, slice_get}
 use Rattle.bay_tree.specs.LeafTypes.{leaf_type_of}
-use Rattle.bay_tree.specs.Rows.{name_at, leaf_at, leaf_of}
+use Rattle.bay_tree.specs.Rows.{name_at, leaf_at, leaf_named}
 use Rattle.bay_tree.specs.declared.row.Row.{Row}
 use Rattle.bay_tree.specs.declared.leaf.LeafType.{LeafType}
 use Rattle.bay_tree.specs.declared.leaf.LeafType.TheVariants as leaf_type
 use Rattle.bay_config.specs.declared.bay.Bay.{Bay}
 use Rattle.bay_nodes.specs.Node.{node_name}
 use Rattle.bay_config.specs.Laws.{NamesPosition, NamesControl, NamesInterlocking, NamesMeter}
-use Rattle.bay_process.specs.Layout.{Layout, switch_in, AreSwitchRows, meter_in, AreMeterRows}
+use Rattle.bay_process.specs.Layout.{Layout, switch_names_in, AreSwitchRows, meter_names_in, AreMeterRows}
 use Rattle.bay_nodes.specs.Names.{StatusNames, SwitchNames, names_by_nodes, MeterNames, meter_names_of}
 use Rattle.bay_process.specs.declared.meter.MeterRows.{MeterRows}
-use Rattle.bay_process.specs.declared.nodes.Nodes.{Nodes}
+use Rattle.bay_process.specs.declared.nodes.SwitchNodes.{SwitchNodes}
 use Rattle.bay_process.specs.declared.rows.StatusRows.{StatusRows}
 use Rattle.bay_process.specs.declared.rows.SwitchRows.{SwitchRows}
 
 -- the nodes are those of the switch at an index
-pub record AreNodesOf (bay : Bay) (place : ℕ) (nodes : Nodes) : Type 0 where
-  pub position_named : NamesPosition bay place nodes.position
-  pub control_named : NamesControl bay place nodes.control
-  pub interlocking_named : NamesInterlocking bay place nodes.interlocking
+pub record AreNodesOf (bay : Bay) (index : ℕ) (nodes : SwitchNodes) : Type 0 where
+  pub position_named : NamesPosition bay index nodes.position
+  pub control_named : NamesControl bay index nodes.control
+  pub interlocking_named : NamesInterlocking bay index nodes.interlocking
 
 -- the nodes of each switch of a bay have their names
-abbrev pub AreAllNodes : Bay → List Nodes → Type 0
-AreAllNodes bay nodes = (k : ℕ) (n : Nodes) → slice_get nodes k ≡ Some n → AreNodesOf bay k n
+abbrev pub AreSwitchNodes : Bay → List SwitchNodes → Type 0
+AreSwitchNodes bay nodes = (k : ℕ) (n : SwitchNodes) → slice_get nodes k ≡ Some n → AreNodesOf bay k n
 
 -- the names of the values below a switch's three nodes
-abbrev pub nodes_names : Nodes → SwitchNames
+abbrev pub nodes_names : SwitchNodes → SwitchNames
 nodes_names nodes = names_by_nodes nodes.position nodes.control nodes.interlocking
 
 -- the rows have a value with this name and type
 abbrev pub HasLeaf : List Row → List ℕ → LeafType → Type 0
-HasLeaf rows name leaf_type = option_map leaf_type_of (leaf_of name rows) ≡ Some leaf_type
+HasLeaf rows name leaf_type = option_map leaf_type_of (leaf_named name rows) ≡ Some leaf_type
 
 -- the rows have a value of this type with these names, its quality and its time stamp
 pub record HasStatus (rows : List Row) (names : StatusNames) (value : LeafType) : Type 0 where
@@ -49,41 +49,41 @@ pub record HasSwitch (rows : List Row) (names : SwitchNames) : Type 0 where
   pub ena_cls : HasStatus rows names.ena_cls leaf_type.Truth
 
 -- the rows have the values of each switch
-abbrev pub HasSwitches : List Row → List Nodes → Type 0
+abbrev pub HasSwitches : List Row → List SwitchNodes → Type 0
 HasSwitches rows nodes =
-    (k : ℕ) (n : Nodes) → slice_get nodes k ≡ Some n → HasSwitch rows (nodes_names n)
+    (k : ℕ) (n : SwitchNodes) → slice_get nodes k ≡ Some n → HasSwitch rows (nodes_names n)
 
 -- the rows have a value for each of these names
-pub record AreThere (rows : List Row) (names : StatusNames) : Type 0 where
-  pub value_there : leaf_of names.value rows ≢ None
-  pub quality_there : leaf_of names.quality rows ≢ None
-  pub time_there : leaf_of names.time rows ≢ None
+pub record HaveStatus (rows : List Row) (names : StatusNames) : Type 0 where
+  pub value_there : leaf_named names.value rows ≢ None
+  pub quality_there : leaf_named names.quality rows ≢ None
+  pub time_there : leaf_named names.time rows ≢ None
 
 -- the handle's row has the name and the value of the name
-pub record IsFound (rows : List Row) (name : List ℕ) (handle : ℕ) : Type 0 where
+pub record IsHandleOf (rows : List Row) (name : List ℕ) (handle : ℕ) : Type 0 where
   pub named : name_at rows handle ≡ name
-  pub value : leaf_at rows handle ≡ leaf_of name rows
+  pub value : leaf_at rows handle ≡ leaf_named name rows
 
 -- the handles of a value, its quality and its time stamp
-pub record AreFound (rows : List Row) (names : StatusNames) (handles : StatusRows) : Type 0 where
-  pub value_found : IsFound rows names.value handles.value
-  pub quality_found : IsFound rows names.quality handles.quality
-  pub time_found : IsFound rows names.time handles.time
+pub record AreHandlesOf (rows : List Row) (names : StatusNames) (handles : StatusRows) : Type 0 where
+  pub value_found : IsHandleOf rows names.value handles.value
+  pub quality_found : IsHandleOf rows names.quality handles.quality
+  pub time_found : IsHandleOf rows names.time handles.time
 
 -- the handles of a switch's values have their names and their types
-pub record AreRowsOf (layout : Layout) (names : SwitchNames) (rows : SwitchRows) : Type 0 where
-  pub named : switch_in layout rows ≡ names
+pub record AreSwitchRowsOf (layout : Layout) (names : SwitchNames) (rows : SwitchRows) : Type 0 where
+  pub named : switch_names_in layout rows ≡ names
   pub leaf_typed : AreSwitchRows layout rows
 
 -- the handles of each switch are those of its nodes
-abbrev pub AreAllRows : Layout → List Nodes → List SwitchRows → Type 0
-AreAllRows layout nodes rows =
-    (k : ℕ) (n : Nodes) (r : SwitchRows) → slice_get nodes k ≡ Some n → slice_get rows k ≡ Some r
-    → AreRowsOf layout (nodes_names n) r
+abbrev pub AreRowsOfNodes : Layout → List SwitchNodes → List SwitchRows → Type 0
+AreRowsOfNodes layout nodes rows =
+    (k : ℕ) (n : SwitchNodes) (r : SwitchRows) → slice_get nodes k ≡ Some n → slice_get rows k ≡ Some r
+    → AreSwitchRowsOf layout (nodes_names n) r
 
 -- the names are those of the meters' nodes
-abbrev pub AreAllMeters : Bay → List (List ℕ) → Type 0
-AreAllMeters bay nodes = (k : ℕ) (n : List ℕ) → slice_get nodes k ≡ Some n → NamesMeter bay k n
+abbrev pub AreMeterNodes : Bay → List (List ℕ) → Type 0
+AreMeterNodes bay nodes = (k : ℕ) (n : List ℕ) → slice_get nodes k ≡ Some n → NamesMeter bay k n
 
 -- the rows have a meter's values
 pub record HasMeterLeaves (rows : List Row) (names : MeterNames) : Type 0 where
@@ -95,15 +95,15 @@ pub record HasMeterLeaves (rows : List Row) (names : MeterNames) : Type 0 where
   pub phase_c : HasStatus rows names.phase_c leaf_type.Int32
 
 -- the node is that of the meter at index k, and the rows have the meter's values
-pub record IsMeterThere (rows : List Row) (k : ℕ) (node : List ℕ) : Type 0 where
+pub record HasMeterNode (rows : List Row) (k : ℕ) (node : List ℕ) : Type 0 where
   pub named : node ≡ node_name (codes "MMXU") (k + 1)
   pub leaves : HasMeterLeaves rows (meter_names_of node)
 
 -- the rows have the values of each meter
 abbrev pub HaveMeters : List Row → List (List ℕ) → Type 0
-HaveMeters rows nodes = (k : ℕ) (n : List ℕ) → slice_get nodes k ≡ Some n → IsMeterThere rows k n
+HaveMeters rows nodes = (k : ℕ) (n : List ℕ) → slice_get nodes k ≡ Some n → HasMeterNode rows k n
 
 -- the handles of a meter's values have their names and their types
 pub record AreMeterRowsOf (layout : Layout) (names : MeterNames) (rows : MeterRows) : Type 0 where
-  pub named : meter_in layout rows ≡ names
+  pub named : meter_names_in layout rows ≡ names
   pub leaf_typed : AreMeterRows layout rows

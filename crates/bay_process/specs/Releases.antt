@@ -1,7 +1,7 @@
 -- The text of the releases of the switches, and the offsets of its digits.
 use Rattle.std.specs.Prelude.{◌≡◌, ℕ, ◌+◌, Bool, List, [], ◌∷◌, ◌++◌, codes, length, if◌then◌else◌}
 use Rattle.bay_nodes.specs.declared.switch.Switch.{Switch}
-use Rattle.bay_process.specs.declared.switch.Enabled.{Enabled}
+use Rattle.bay_process.specs.declared.switch.SwitchEnables.{SwitchEnables}
 
 -- the octet of a digit: `1` for TRUE, `0` for FALSE
 abbrev pub digit_octet : Bool → ℕ
@@ -17,11 +17,11 @@ switch_text id opens closes =
     codes " " ++ id ++ codes "=" ++ (digit_text opens ++ digit_text closes)
 
 -- the text of switches with these releases
-abbrev pub released_text : List Switch → List Enabled → List ℕ
-released_text [] told = []
+abbrev pub released_text : List Switch → List SwitchEnables → List ℕ
+released_text [] enables = []
 released_text (s ∷ ss) [] = []
-released_text (s ∷ ss) (e ∷ told) =
-    switch_text s.id e.may_open e.may_close ++ released_text ss told
+released_text (s ∷ ss) (e ∷ enables) =
+    switch_text s.id e.may_open e.may_close ++ released_text ss enables
 
 -- the text before the digits of a switch
 abbrev pub text_before_digits : Switch → List ℕ
@@ -34,8 +34,8 @@ digits_from n (s ∷ ss) =
     (n + length (text_before_digits s)) ∷ digits_from (n + length (text_before_digits s) + 2) ss
 
 -- The text has these releases of these switches, and their first digits are at these offsets.
-pub record Shows (switches : List Switch) (told : List Enabled) (text : List ℕ)
-    (places : List ℕ) : Type 0 where
-  pub sized : length told ≡ length switches
-  pub text_is : text ≡ released_text switches told ++ codes "\n"
-  pub places_are : places ≡ digits_from 0 switches
+pub record ShowsReleases (switches : List Switch) (enables : List SwitchEnables) (text : List ℕ)
+    (offsets : List ℕ) : Type 0 where
+  pub sized : length enables ≡ length switches
+  pub text_is : text ≡ released_text switches enables ++ codes "\n"
+  pub places_are : offsets ≡ digits_from 0 switches

@@ -3,7 +3,7 @@
 use Rattle.std.specs.Prelude.{ℕ, ℤ, ◌+◌, Bool, true, false, not, ◌&&◌, ◌==◌, pos, ◌+ℤ◌, int_lt, List, [], ◌∷◌, position, slice_get, Option, None, Some, if◌then◌else◌}
 use Rattle.std.specs.Bool.{beq}
 use Rattle.std.specs.Ordering.{int_eq}
-use Rattle.bay_tree.specs.Rows.{leaf_of, with_leaf_of}
+use Rattle.bay_tree.specs.Rows.{leaf_named, with_leaf_named}
 use Rattle.bay_tree.specs.declared.row.Row.{Row}
 use Rattle.bay_tree.specs.declared.leaf.Leaf.{Leaf}
 use Rattle.bay_tree.specs.declared.leaf.Leaf.TheVariants as leaf
@@ -27,8 +27,8 @@ use Rattle.bay_process.specs.Names.{field_names}
 -- the rows with a status value, its quality and its time stamp
 abbrev pub with_status : StatusNames → Leaf → Quality → ℕ → List Row → List Row
 with_status names value quality now rows =
-    with_leaf_of names.time (leaf.Utc now)
-    (with_leaf_of names.quality (leaf.Quality quality) (with_leaf_of names.value value rows))
+    with_leaf_named names.time (leaf.Utc now)
+    (with_leaf_named names.quality (leaf.Quality quality) (with_leaf_named names.value value rows))
 
 -- the quality of a position: invalid if both end positions are reported
 abbrev pub position_quality : Dbpos → Quality
@@ -69,8 +69,8 @@ is_truth b other = false
 abbrev pub with_count : StatusNames → Option Leaf → ℕ → List Row → List Row
 with_count names (Some (leaf.Int32 n)) now rows =
     if int_lt n (pos 2147483647)
-    then with_leaf_of names.time (leaf.Utc now)
-    (with_leaf_of names.value (leaf.Int32 (n +ℤ pos 1)) rows)
+    then with_leaf_named names.time (leaf.Utc now)
+    (with_leaf_named names.value (leaf.Int32 (n +ℤ pos 1)) rows)
     else rows
 with_count names other now rows = rows
 
@@ -79,14 +79,14 @@ abbrev pub is_operation : Dbpos → Option Leaf → Bool
 is_operation position before = is_end_position position && not (is_position position before)
 
 -- the rows with one operation of a switch more
-abbrev pub operation_counted : StatusNames → ℕ → List Row → List Row
-operation_counted names now rows = with_count names (leaf_of names.value rows) now rows
+abbrev pub rows_after_operation : StatusNames → ℕ → List Row → List Row
+rows_after_operation names now rows = with_count names (leaf_named names.value rows) now rows
 
 -- the rows already have this position, with its quality
 abbrev pub has_position : StatusNames → Dbpos → List Row → Bool
 has_position names position rows =
-    is_position position (leaf_of names.value rows)
-    && is_quality (position_quality position) (leaf_of names.quality rows)
+    is_position position (leaf_named names.value rows)
+    && is_quality (position_quality position) (leaf_named names.quality rows)
 
 -- the rows after a reported position that changes the value or the quality; the control repeats it
 abbrev pub rows_after_change : SwitchNames → Dbpos → ℕ → List Row → List Row
@@ -95,8 +95,8 @@ rows_after_change names position now rows =
     with_status names.position (leaf.Dbpos position) (position_quality position) now rows in
     let after =
     with_status names.control (leaf.Dbpos position) (position_quality position) now told in
-    if is_operation position (leaf_of names.position.value rows)
-    then operation_counted names.operations now after
+    if is_operation position (leaf_named names.position.value rows)
+    then rows_after_operation names.operations now after
     else after
 
 -- the rows after a reported position; one that changes neither value nor quality changes nothing
@@ -114,7 +114,7 @@ is_number n other = false
 -- the rows already have this measured value, with good quality
 abbrev pub has_measure : StatusNames → ℤ → List Row → Bool
 has_measure names value rows =
-    is_number value (leaf_of names.value rows) && is_quality Good (leaf_of names.quality rows)
+    is_number value (leaf_named names.value rows) && is_quality Good (leaf_named names.quality rows)
 
 -- the rows after a measured value; one that changes neither value nor quality changes nothing
 abbrev pub rows_after_measure : StatusNames → ℤ → ℕ → List Row → List Row
@@ -124,15 +124,15 @@ rows_after_measure names value now rows =
 
 -- the rows already have this measured value as invalid
 abbrev pub has_invalid_measure : StatusNames → List Row → Bool
-has_invalid_measure names rows = is_quality Invalid (leaf_of names.quality rows)
+has_invalid_measure names rows = is_quality Invalid (leaf_named names.quality rows)
 
 -- the rows after a report that a measured value is invalid, whose value stays; one that does not
 -- change the quality changes nothing
-abbrev pub rows_after_doubt : StatusNames → ℕ → List Row → List Row
-rows_after_doubt names now rows =
+abbrev pub rows_after_bad_measure : StatusNames → ℕ → List Row → List Row
+rows_after_bad_measure names now rows =
     if has_invalid_measure names rows then rows
-    else with_leaf_of names.time (leaf.Utc now)
-    (with_leaf_of names.quality (leaf.Quality Invalid) rows)
+    else with_leaf_named names.time (leaf.Utc now)
+    (with_leaf_named names.quality (leaf.Quality Invalid) rows)
 
 -- the number of a position; 0 without a position
 abbrev pub number_of_position : Option Leaf → ℤ
@@ -151,7 +151,7 @@ position_value EnableClose position = Truth false
 abbrev pub position_leaf : List Switch → List Row → ℕ → Option Switch → Option Leaf
 position_leaf switches rows k None = None
 position_leaf switches rows k (Some switch) =
-    leaf_of (switch_names switches k switch).position.value rows
+    leaf_named (switch_names switches k switch).position.value rows
 
 -- a measured value, as an integer
 abbrev pub number_of_leaf : Option Leaf → ℤ
@@ -161,7 +161,7 @@ number_of_leaf other = pos 0
 -- the value of a field of the meter at index k in the rows
 abbrev pub measure_leaf : List Row → ℕ → MeterField → Option (List ℕ) → Option Leaf
 measure_leaf rows k field None = None
-measure_leaf rows k field (Some id) = leaf_of (field_names field (meter_names k)).value rows
+measure_leaf rows k field (Some id) = leaf_named (field_names field (meter_names k)).value rows
 
 -- two points of a switch are equal
 abbrev pub same_point : SwitchPoint → SwitchPoint → Bool
@@ -192,7 +192,7 @@ output_of k point writes outputs = is_true (output_at (position (is_point k poin
 -- changes
 abbrev pub with_enabled : StatusNames → Bool → ℕ → List Row → List Row
 with_enabled names value now rows =
-    if is_truth value (leaf_of names.value rows) && is_quality Good (leaf_of names.quality rows)
+    if is_truth value (leaf_named names.value rows) && is_quality Good (leaf_named names.quality rows)
     then rows
     else with_status names (leaf.Truth value) Good now rows
 

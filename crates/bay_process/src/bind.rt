@@ -121,12 +121,12 @@ fn span_of(reads: &[Source], switch: usize) -> Span
         from: usize::MAX,
         to: 0,
     };
-    for place in 0..reads.len() {
-        if let Source::Switch { switch: at, .. } = reads[place] {
+    for index in 0..reads.len() {
+        if let Source::Switch { switch: at, .. } = reads[index] {
             if at == switch {
                 span = span.with(Span {
-                    from: place,
-                    to: place + 1,
+                    from: index,
+                    to: index + 1,
                 });
             }
         }

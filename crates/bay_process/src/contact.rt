@@ -2,9 +2,9 @@
 // OpCnt).
 ghost use Rattle.std.specs.Prelude.{◌≡◌, not};
 ghost use Rattle.bay_tree.specs.declared.leaf.LeafType.TheVariants as leaf_type;
-ghost use Rattle.bay_process.specs.Values.{operation_counted, rows_after_change, rows_after_contact};
+ghost use Rattle.bay_process.specs.Values.{rows_after_operation, rows_after_change, rows_after_contact};
 ghost use Rattle.bay_process.specs.Values as spec;
-ghost use Rattle.bay_process.specs.Layout.{layout_of, status_in, switch_in, AreStatusRows, AreSwitchRows};
+ghost use Rattle.bay_process.specs.Layout.{layout_of, status_names_in, switch_names_in, AreStatusRows, AreSwitchRows};
 
 use crate::rows::{StatusRows, SwitchRows, count_at, is_position, is_quality, put, put_status};
 use bay_base::position::Dbpos;
@@ -34,7 +34,7 @@ fn is_end_position(position: Dbpos) -> bool
 // Counts one more operation, unless the count has its maximum.
 fn count_operation(tree: &mut Tree, rows: StatusRows, now: u64)
     requires { AreStatusRows (layout_of tree.old) leaf_type.Int32 rows }
-    ensures rows { tree.new ≡ operation_counted (status_in (layout_of tree.old) rows) now tree.old }
+    ensures rows { tree.new ≡ rows_after_operation (status_names_in (layout_of tree.old) rows) now tree.old }
     ensures layout { layout_of tree.new ≡ layout_of tree.old }
 {
     let count = count_at(tree, rows.value);
@@ -47,7 +47,7 @@ fn count_operation(tree: &mut Tree, rows: StatusRows, now: u64)
 // Returns whether the rows already have this position, with its quality.
 fn has_position(tree: &Tree, rows: StatusRows, position: Dbpos) -> bool
     requires { AreStatusRows (layout_of tree.now) leaf_type.Dbpos rows }
-    ensures { result ≡ spec.has_position (status_in (layout_of tree.now) rows) position tree.now }
+    ensures { result ≡ spec.has_position (status_names_in (layout_of tree.now) rows) position tree.now }
 {
     let is_same = is_position(tree, rows.value, position);
     let has_same_quality = is_quality(tree, rows.quality, position_quality(position));
@@ -58,7 +58,7 @@ fn has_position(tree: &Tree, rows: StatusRows, position: Dbpos) -> bool
 // reaches an end position.
 fn put_position(tree: &mut Tree, rows: &SwitchRows, position: Dbpos, now: u64)
     requires { AreSwitchRows (layout_of tree.old) rows.now }
-    ensures rows { tree.new ≡ rows_after_change (switch_in (layout_of tree.old) rows.now) position
+    ensures rows { tree.new ≡ rows_after_change (switch_names_in (layout_of tree.old) rows.now) position
         now tree.old }
     ensures layout { layout_of tree.new ≡ layout_of tree.old }
 {
@@ -85,12 +85,12 @@ fn put_position(tree: &mut Tree, rows: &SwitchRows, position: Dbpos, now: u64)
 
 /// Applies the reported position of a switch, at `now` in milliseconds since 1970. Returns whether
 /// its value or its quality changed.
-pub fn take_position(tree: &mut Tree, rows: &SwitchRows, position: Dbpos, now: u64) -> bool
+pub fn apply_position(tree: &mut Tree, rows: &SwitchRows, position: Dbpos, now: u64) -> bool
     requires { AreSwitchRows (layout_of tree.old) rows.now }
     ensures changed { result
-        ≡ not (spec.has_position (status_in (layout_of tree.old) rows.now.position) position
+        ≡ not (spec.has_position (status_names_in (layout_of tree.old) rows.now.position) position
         tree.old) }
-    ensures rows { tree.new ≡ rows_after_contact (switch_in (layout_of tree.old) rows.now) position
+    ensures rows { tree.new ≡ rows_after_contact (switch_names_in (layout_of tree.old) rows.now) position
         now tree.old }
     ensures layout { layout_of tree.new ≡ layout_of tree.old }
 {

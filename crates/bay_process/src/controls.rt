@@ -71,8 +71,8 @@ pub fn control_rows(
     ensures named { IfOk result (λ controls. AreAllControlRows tree.now controls.items) }
 {
     let mut controls = Vec::new(alloc);
-    for place in 0..count {
-        let name = node_name(alloc, CONTROL, place + 1)?;
+    for index in 0..count {
+        let name = node_name(alloc, CONTROL, index + 1)?;
         let node = name.as_str();
         let selected = selected_at(alloc, tree, node)?;
         let select = handle_at(alloc, tree, node, SELECT)?;

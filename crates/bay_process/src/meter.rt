@@ -1,10 +1,10 @@
 // The measured values of a meter (IEC 61850-7-4, MMXU; IEC 61850-7-3, MV and CMV).
 ghost use Rattle.std.specs.Prelude.{◌≡◌, not};
 ghost use Rattle.bay_tree.specs.declared.leaf.LeafType.TheVariants as leaf_type;
-ghost use Rattle.bay_tree.specs.Rows.{leaf_of};
-ghost use Rattle.bay_process.specs.Values.{has_invalid_measure, has_measure, rows_after_doubt, rows_after_measure};
+ghost use Rattle.bay_tree.specs.Rows.{leaf_named};
+ghost use Rattle.bay_process.specs.Values.{has_invalid_measure, has_measure, rows_after_bad_measure, rows_after_measure};
 ghost use Rattle.bay_process.specs.Values as spec;
-ghost use Rattle.bay_process.specs.Layout.{layout_of, name_in, status_in, field_rows, HasLeafType, AreStatusRows};
+ghost use Rattle.bay_process.specs.Layout.{layout_of, row_name_in, status_names_in, field_rows, HasLeafType, AreStatusRows};
 
 use crate::rows::{StatusRows, count_at, is_quality, put, put_status};
 use bay_base::text::Text;
@@ -51,18 +51,18 @@ impl MeterRows {
 fn is_number(tree: &Tree, handle: Handle, number: i32) -> bool
     requires { HasLeafType (layout_of tree.now) handle leaf_type.Int32 }
     ensures { result ≡ spec.is_number number
-        (leaf_of (name_in (layout_of tree.now) handle) tree.now) }
+        (leaf_named (row_name_in (layout_of tree.now) handle) tree.now) }
 {
     number == count_at(tree, handle)
 }
 
 /// Applies a measured value, with good quality, at `now` in milliseconds since 1970. Returns
 /// whether the value or its quality changed.
-pub fn take_measure(tree: &mut Tree, rows: StatusRows, value: i32, now: u64) -> bool
+pub fn apply_measure(tree: &mut Tree, rows: StatusRows, value: i32, now: u64) -> bool
     requires { AreStatusRows (layout_of tree.old) leaf_type.Int32 rows }
     ensures changed { result
-        ≡ not (has_measure (status_in (layout_of tree.old) rows) value tree.old) }
-    ensures rows { tree.new ≡ rows_after_measure (status_in (layout_of tree.old) rows) value now
+        ≡ not (has_measure (status_names_in (layout_of tree.old) rows) value tree.old) }
+    ensures rows { tree.new ≡ rows_after_measure (status_names_in (layout_of tree.old) rows) value now
         tree.old }
     ensures layout { layout_of tree.new ≡ layout_of tree.old }
 {
@@ -77,11 +77,11 @@ pub fn take_measure(tree: &mut Tree, rows: StatusRows, value: i32, now: u64) -> 
 
 /// Applies the report that a measured value is invalid, at `now` in milliseconds since 1970. The
 /// value itself stays. Returns whether its quality changed.
-pub fn take_bad_measure(tree: &mut Tree, rows: StatusRows, now: u64) -> bool
+pub fn apply_bad_measure(tree: &mut Tree, rows: StatusRows, now: u64) -> bool
     requires { AreStatusRows (layout_of tree.old) leaf_type.Int32 rows }
     ensures changed { result
-        ≡ not (has_invalid_measure (status_in (layout_of tree.old) rows) tree.old) }
-    ensures rows { tree.new ≡ rows_after_doubt (status_in (layout_of tree.old) rows) now tree.old }
+        ≡ not (has_invalid_measure (status_names_in (layout_of tree.old) rows) tree.old) }
+    ensures rows { tree.new ≡ rows_after_bad_measure (status_names_in (layout_of tree.old) rows) now tree.old }
     ensures layout { layout_of tree.new ≡ layout_of tree.old }
 {
     if is_quality(tree, rows.quality, Quality::Invalid) {

@@ -2,10 +2,10 @@
 ghost use Rattle.std.specs.Prelude.{◌≡◌, length, map, IfOk};
 ghost use Rattle.bay_process.specs.Layout.{layout_of, AreMetersBound};
 ghost use Rattle.bay_nodes.specs.Names.{meter_names_of};
-ghost use Rattle.bay_process.specs.Nodes.{AreAllMeters, AreMeterRowsOf, HasMeterLeaves, HaveMeters};
+ghost use Rattle.bay_process.specs.Nodes.{AreMeterNodes, AreMeterRowsOf, HasMeterLeaves, HaveMeters};
 
 use crate::meter::{BoundMeter, MeterRows};
-use crate::nodes::status_rows;
+use crate::nodes::find_status_rows;
 use bay_base::text::Text;
 use bay_config::bay::Bay;
 use bay_config::nodes::meter_name;
@@ -17,27 +17,27 @@ use std::alloc::{AllocError, Global};
 /// Fails only if an allocation fails.
 pub fn all_meter_nodes(alloc: Global, bay: &Bay) -> Result<Vec<Text>, AllocError>
     ensures sized { IfOk result (λ nodes. length nodes.items ≡ length bay.now.meters) }
-    ensures named { IfOk result (λ nodes. AreAllMeters bay.now nodes.items) }
+    ensures named { IfOk result (λ nodes. AreMeterNodes bay.now nodes.items) }
 {
     let mut all = Vec::new(alloc);
-    for place in 0..bay.meters.as_slice().len() {
-        let node = meter_name(alloc, bay, place)?;
+    for index in 0..bay.meters.as_slice().len() {
+        let node = meter_name(alloc, bay, index)?;
         all.push(node)?;
     }
     Ok(all)
 }
 
 // Returns the rows of the meter with this node.
-fn meter_rows(alloc: Global, tree: &Tree, node: &str) -> Result<MeterRows, AllocError>
+fn find_meter_rows(alloc: Global, tree: &Tree, node: &str) -> Result<MeterRows, AllocError>
     requires { HasMeterLeaves tree.now (meter_names_of node.now) }
     ensures { IfOk result (AreMeterRowsOf (layout_of tree.now) (meter_names_of node.now)) }
 {
-    let tot_w = status_rows(alloc, tree, node, ACTIVE_POWER)?;
-    let tot_var = status_rows(alloc, tree, node, REACTIVE_POWER)?;
-    let hz = status_rows(alloc, tree, node, FREQUENCY)?;
-    let phase_a = status_rows(alloc, tree, node, PHASE_A)?;
-    let phase_b = status_rows(alloc, tree, node, PHASE_B)?;
-    let phase_c = status_rows(alloc, tree, node, PHASE_C)?;
+    let tot_w = find_status_rows(alloc, tree, node, ACTIVE_POWER)?;
+    let tot_var = find_status_rows(alloc, tree, node, REACTIVE_POWER)?;
+    let hz = find_status_rows(alloc, tree, node, FREQUENCY)?;
+    let phase_a = find_status_rows(alloc, tree, node, PHASE_A)?;
+    let phase_b = find_status_rows(alloc, tree, node, PHASE_B)?;
+    let phase_c = find_status_rows(alloc, tree, node, PHASE_C)?;
     Ok(MeterRows {
         tot_w,
         tot_var,
@@ -62,7 +62,7 @@ pub fn bind_meters(
 {
     let mut bound = Vec::new(alloc);
     for i in 0..meters.len() {
-        let rows = meter_rows(alloc, tree, nodes[i].as_str())?;
+        let rows = find_meter_rows(alloc, tree, nodes[i].as_str())?;
         let id = Text::from_str(alloc, meters[i].as_str())?;
         bound.push(BoundMeter { id, rows })?;
     }

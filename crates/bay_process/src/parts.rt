@@ -3,13 +3,13 @@ ghost use Rattle.std.specs.Prelude.{◌≡◌, length, IfOk};
 ghost use Rattle.bay_tree.specs.Rows.{IsTree};
 ghost use Rattle.il_scan.specs.Scans.{first_machine};
 ghost use Rattle.bay_process.specs.Layout.{layout_of};
-ghost use Rattle.bay_process.specs.Nodes.{AreAllMeters, AreAllNodes, HasSwitches, HaveMeters};
-ghost use Rattle.bay_process.specs.Parts.{AreBoundRows, AreBoundSwitches, IsWired};
+ghost use Rattle.bay_process.specs.Nodes.{AreMeterNodes, AreSwitchNodes, HasSwitches, HaveMeters};
+ghost use Rattle.bay_process.specs.Parts.{AreBoundRows, AreBoundSwitches, IsBoundMachine};
 
 use crate::bind::{bind_switches, sources_of};
 use crate::meter::BoundMeter;
 use crate::meters::{all_meter_nodes, bind_meters};
-use crate::nodes::{Nodes, all_nodes, all_switch_rows};
+use crate::nodes::{SwitchNodes, all_nodes, all_switch_rows};
 use crate::switch::BoundSwitch;
 use bay_base::text::Text;
 use bay_config::bay::{Bay, Point, Source, Switch};
@@ -39,12 +39,12 @@ fn machine_of(alloc: Global, verified: Verified) -> Result<Machine, AllocError>
 
 /// Creates a machine with a verified image, in its state before the first scan, and finds the
 /// sources of its points in the bay. Fails only if an allocation fails.
-pub fn bound_machine(
+pub fn bind_machine(
     alloc: Global,
     bay: &[Point],
     verified: Verified,
 ) -> Result<BoundMachine, AllocError>
-    ensures { IfOk result (IsWired bay.now verified) }
+    ensures { IfOk result (IsBoundMachine bay.now verified) }
 {
     let points = verified.image().points();
     let reads = sources_of(alloc, false, bay, points)?;
@@ -60,7 +60,7 @@ pub fn bound_machine(
 /// The names of the nodes of a bay's switches and meters, each in their order.
 #[derive(Drop)]
 pub struct NodeNames {
-    pub switches: Vec<Nodes>,
+    pub switches: Vec<SwitchNodes>,
     pub meters: Vec<Text>,
 }
 
@@ -69,10 +69,10 @@ pub struct NodeNames {
 pub fn node_names(alloc: Global, bay: &Bay) -> Result<NodeNames, AllocError>
     ensures switches_sized { IfOk result
         (λ nodes. length nodes.switches.items ≡ length bay.now.switches) }
-    ensures switches_named { IfOk result (λ nodes. AreAllNodes bay.now nodes.switches.items) }
+    ensures switches_named { IfOk result (λ nodes. AreSwitchNodes bay.now nodes.switches.items) }
     ensures meters_sized { IfOk result
         (λ nodes. length nodes.meters.items ≡ length bay.now.meters) }
-    ensures meters_named { IfOk result (λ nodes. AreAllMeters bay.now nodes.meters.items) }
+    ensures meters_named { IfOk result (λ nodes. AreMeterNodes bay.now nodes.meters.items) }
 {
     let switches = all_nodes(alloc, bay)?;
     let meters = all_meter_nodes(alloc, bay)?;
@@ -89,11 +89,11 @@ pub struct BoundRows {
 
 // Binds the switches of a bay to the rows below their nodes, and to the indices of their
 // interlocking values.
-fn bound_switches(
+fn bind_switch_rows(
     alloc: Global,
     tree: &Tree,
     switches: Vec<Switch>,
-    nodes: &[Nodes],
+    nodes: &[SwitchNodes],
     writes: &[Source],
 ) -> Result<Vec<BoundSwitch>, AllocError>
     requires sized { length nodes.now ≡ length switches.items }
@@ -108,7 +108,7 @@ fn bound_switches(
 
 /// Builds the tree of a bay's rows, and binds its switches and meters to the rows below their
 /// nodes. Fails only if an allocation fails.
-pub fn bound_rows(
+pub fn bind_rows(
     alloc: Global,
     rows: Vec<Row>,
     switches: Vec<Switch>,
@@ -125,7 +125,7 @@ pub fn bound_rows(
         nodes.now.switches.items writes.now) }
 {
     let tree = Tree::build(alloc, rows)?;
-    let switches = bound_switches(alloc, &tree, switches, nodes.switches.as_slice(), writes)?;
+    let switches = bind_switch_rows(alloc, &tree, switches, nodes.switches.as_slice(), writes)?;
     let meters = bind_meters(alloc, &tree, meters, nodes.meters.as_slice())?;
     Ok(BoundRows {
         tree,

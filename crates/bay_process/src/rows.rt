@@ -3,10 +3,10 @@ ghost use Rattle.std.specs.Prelude.{◌≡◌, ◌≢◌, None, Some};
 ghost use Rattle.bay_tree.specs.declared.leaf.LeafType.TheVariants as leaf_type;
 ghost use Rattle.bay_tree.specs.declared.leaf.Leaf.TheVariants as leaves;
 ghost use Rattle.bay_tree.specs.LeafTypes.{leaf_type_of};
-ghost use Rattle.bay_tree.specs.Rows.{leaf_of, with_leaf_of};
+ghost use Rattle.bay_tree.specs.Rows.{leaf_named, with_leaf_named};
 ghost use Rattle.bay_process.specs.Values.{with_status};
 ghost use Rattle.bay_process.specs.Values as spec;
-ghost use Rattle.bay_process.specs.Layout.{layout_of, name_in, status_in, HasLeafType, AreStatusRows};
+ghost use Rattle.bay_process.specs.Layout.{layout_of, row_name_in, status_names_in, HasLeafType, AreStatusRows};
 
 use bay_base::position::Dbpos;
 use bay_tree::leaf::{Leaf, Quality};
@@ -39,7 +39,7 @@ pub struct SwitchRows {
 #[inline(always)]
 pub fn put(tree: &mut Tree, handle: Handle, leaf: Leaf)
     requires { HasLeafType (layout_of tree.old) handle (leaf_type_of leaf) }
-    ensures rows { tree.new ≡ with_leaf_of (name_in (layout_of tree.old) handle) leaf tree.old }
+    ensures rows { tree.new ≡ with_leaf_named (row_name_in (layout_of tree.old) handle) leaf tree.old }
     ensures layout { layout_of tree.new ≡ layout_of tree.old }
 {
     match tree.set(handle, leaf) {
@@ -52,7 +52,7 @@ pub fn put(tree: &mut Tree, handle: Handle, leaf: Leaf)
 #[inline(always)]
 pub fn put_status(tree: &mut Tree, rows: StatusRows, value: Leaf, quality: Quality, now: u64)
     requires { AreStatusRows (layout_of tree.old) (leaf_type_of value) rows }
-    ensures rows { tree.new ≡ with_status (status_in (layout_of tree.old) rows) value quality now
+    ensures rows { tree.new ≡ with_status (status_names_in (layout_of tree.old) rows) value quality now
         tree.old }
     ensures layout { layout_of tree.new ≡ layout_of tree.old }
 {
@@ -64,7 +64,7 @@ pub fn put_status(tree: &mut Tree, rows: StatusRows, value: Leaf, quality: Quali
 /// Returns the position in a row.
 pub fn position_at(tree: &Tree, handle: Handle) -> Dbpos
     requires { HasLeafType (layout_of tree.now) handle leaf_type.Dbpos }
-    ensures { leaf_of (name_in (layout_of tree.now) handle) tree.now ≡ Some (leaves.Dbpos result) }
+    ensures { leaf_named (row_name_in (layout_of tree.now) handle) tree.now ≡ Some (leaves.Dbpos result) }
 {
     match tree.get(handle) {
         Some(Leaf::Dbpos(position)) => *position,
@@ -75,7 +75,7 @@ pub fn position_at(tree: &Tree, handle: Handle) -> Dbpos
 // Returns the quality in a row.
 fn quality_at(tree: &Tree, handle: Handle) -> Quality
     requires { HasLeafType (layout_of tree.now) handle leaf_type.Quality }
-    ensures { leaf_of (name_in (layout_of tree.now) handle) tree.now
+    ensures { leaf_named (row_name_in (layout_of tree.now) handle) tree.now
         ≡ Some (leaves.Quality result) }
 {
     match tree.get(handle) {
@@ -87,7 +87,7 @@ fn quality_at(tree: &Tree, handle: Handle) -> Quality
 // Returns the truth value in a row.
 fn truth_at(tree: &Tree, handle: Handle) -> bool
     requires { HasLeafType (layout_of tree.now) handle leaf_type.Truth }
-    ensures { leaf_of (name_in (layout_of tree.now) handle) tree.now ≡ Some (leaves.Truth result) }
+    ensures { leaf_named (row_name_in (layout_of tree.now) handle) tree.now ≡ Some (leaves.Truth result) }
 {
     match tree.get(handle) {
         Some(Leaf::Truth(truth)) => *truth,
@@ -98,7 +98,7 @@ fn truth_at(tree: &Tree, handle: Handle) -> bool
 /// Returns the number in a row.
 pub fn count_at(tree: &Tree, handle: Handle) -> i32
     requires { HasLeafType (layout_of tree.now) handle leaf_type.Int32 }
-    ensures { leaf_of (name_in (layout_of tree.now) handle) tree.now ≡ Some (leaves.Int32 result) }
+    ensures { leaf_named (row_name_in (layout_of tree.now) handle) tree.now ≡ Some (leaves.Int32 result) }
 {
     match tree.get(handle) {
         Some(Leaf::Int32(count)) => *count,
@@ -110,7 +110,7 @@ pub fn count_at(tree: &Tree, handle: Handle) -> i32
 pub fn is_position(tree: &Tree, handle: Handle, position: Dbpos) -> bool
     requires { HasLeafType (layout_of tree.now) handle leaf_type.Dbpos }
     ensures { result ≡ spec.is_position position
-        (leaf_of (name_in (layout_of tree.now) handle) tree.now) }
+        (leaf_named (row_name_in (layout_of tree.now) handle) tree.now) }
 {
     position == position_at(tree, handle)
 }
@@ -119,8 +119,8 @@ pub fn is_position(tree: &Tree, handle: Handle, position: Dbpos) -> bool
 pub fn is_quality(tree: &Tree, handle: Handle, quality: Quality) -> bool
     requires { HasLeafType (layout_of tree.now) handle leaf_type.Quality }
     ensures value { result ≡ spec.is_quality quality
-        (leaf_of (name_in (layout_of tree.now) handle) tree.now) }
-    ensures there { leaf_of (name_in (layout_of tree.now) handle) tree.now ≢ None }
+        (leaf_named (row_name_in (layout_of tree.now) handle) tree.now) }
+    ensures there { leaf_named (row_name_in (layout_of tree.now) handle) tree.now ≢ None }
 {
     quality == quality_at(tree, handle)
 }
@@ -129,8 +129,8 @@ pub fn is_quality(tree: &Tree, handle: Handle, quality: Quality) -> bool
 pub fn is_truth(tree: &Tree, handle: Handle, value: bool) -> bool
     requires { HasLeafType (layout_of tree.now) handle leaf_type.Truth }
     ensures value { result ≡ spec.is_truth value
-        (leaf_of (name_in (layout_of tree.now) handle) tree.now) }
-    ensures there { leaf_of (name_in (layout_of tree.now) handle) tree.now ≢ None }
+        (leaf_named (row_name_in (layout_of tree.now) handle) tree.now) }
+    ensures there { leaf_named (row_name_in (layout_of tree.now) handle) tree.now ≢ None }
 {
     truth_at(tree, handle) == value
 }

@@ -10,10 +10,10 @@ ghost use Rattle.bay_base.specs.declared.types.ElementaryType.TheVariants as ele
 ghost use Rattle.il_scan.specs.OutputValues.{is_true};
 ghost use Rattle.bay_process.specs.Values.{output_at, with_enabled, with_output};
 ghost use Rattle.bay_process.specs.Values as spec_values;
-ghost use Rattle.bay_process.specs.Layout.{layout_of, status_in, switch_in, switches_of, AreStatusRows, AreSwitchRows, AreLeafTyped, AreMetersLeafTyped};
+ghost use Rattle.bay_process.specs.Layout.{layout_of, status_names_in, switch_names_in, switches_of, AreStatusRows, AreSwitchRows, AreLeafTyped, AreMetersLeafTyped};
 ghost use Rattle.bay_process.specs.Sources.{type_of_source, type_of_switch_point};
 ghost use Rattle.bay_process.specs.ReportedRows.{AreEnabling, AreInterlocked, AreStored, AreValued, IsInterlocked, HoldsRelease};
-ghost use Rattle.bay_process.specs.Scans.{source_value, leaf_at, outputs_put};
+ghost use Rattle.bay_process.specs.Scans.{source_value, leaf_at_handle, rows_after_outputs};
 ghost use Rattle.bay_process.specs.Scans as spec;
 
 use crate::meter::BoundMeter;
@@ -21,7 +21,7 @@ use crate::releases::Releases;
 use crate::rows::{
     StatusRows, SwitchRows, count_at, is_quality, is_truth, position_at, put_status,
 };
-use crate::switch::{BoundSwitch, Enabled};
+use crate::switch::{BoundSwitch, SwitchEnables};
 use crate::values::InputValues;
 use bay_base::position::Dbpos;
 use bay_config::bay::{MeterField, Source, SwitchPoint};
@@ -46,7 +46,7 @@ pub fn value_at_position(point: SwitchPoint, position: Dbpos) -> Value
 // Returns the value of a point of a switch, from the position of the switch in the tree.
 fn position_value(tree: &Tree, rows: StatusRows, point: SwitchPoint) -> Value
     requires { AreStatusRows (layout_of tree.now) leaf_type.Dbpos rows }
-    ensures value { result ≡ spec_values.position_value point (leaf_at tree.now rows.value) }
+    ensures value { result ≡ spec_values.position_value point (leaf_at_handle tree.now rows.value) }
     ensures typed { type_of result ≡ type_of_switch_point point }
     ensures is_value { IsValue result }
 {
@@ -137,13 +137,13 @@ impl<'a> Inputs for ReadPoints<'a> {
         points.meters.now) points.reads.now };
 
     #[inline(always)]
-    fn input(&self, place: usize) -> Value {
+    fn input(&self, index: usize) -> Value {
         point_value(
             self.tree,
             self.switches,
             self.inputs,
             self.meters,
-            self.reads[place],
+            self.reads[index],
         )
     }
 
@@ -155,10 +155,10 @@ impl<'a> Inputs for ReadPoints<'a> {
 // Writes an interlocking value, with good quality.
 fn set_enabled(tree: &mut Tree, rows: StatusRows, value: bool, now: u64)
     requires { AreStatusRows (layout_of tree.old) leaf_type.Truth rows }
-    ensures rows { tree.new ≡ with_enabled (status_in (layout_of tree.old) rows) value now
+    ensures rows { tree.new ≡ with_enabled (status_names_in (layout_of tree.old) rows) value now
         tree.old }
     ensures layout { layout_of tree.new ≡ layout_of tree.old }
-    ensures valued { AreValued tree.old (status_in (layout_of tree.old) rows) }
+    ensures valued { AreValued tree.old (status_names_in (layout_of tree.old) rows) }
 {
     let is_same = is_truth(tree, rows.value, value);
     let is_good = is_quality(tree, rows.quality, Quality::Good);
@@ -169,22 +169,22 @@ fn set_enabled(tree: &mut Tree, rows: StatusRows, value: bool, now: u64)
 }
 
 // Returns the value of an output; FALSE if the program does not name the point.
-fn output(outputs: &Outputs<'_>, place: Option<usize>) -> bool
-    ensures { result ≡ is_true (output_at place outputs.now) }
+fn output(outputs: &Outputs<'_>, index: Option<usize>) -> bool
+    ensures { result ≡ is_true (output_at index outputs.now) }
 {
-    match place {
-        Some(place) => outputs.is_true(place),
+    match index {
+        Some(index) => outputs.is_true(index),
         None => false,
     }
 }
 
 // Writes the interlocking values to the rows of a switch.
-fn write_output(tree: &mut Tree, rows: &SwitchRows, enabled: Enabled, now: u64)
+fn write_output(tree: &mut Tree, rows: &SwitchRows, enabled: SwitchEnables, now: u64)
     requires { AreSwitchRows (layout_of tree.old) rows.now }
-    ensures rows { tree.new ≡ with_output (switch_in (layout_of tree.old) rows.now) enabled.may_open
+    ensures rows { tree.new ≡ with_output (switch_names_in (layout_of tree.old) rows.now) enabled.may_open
         enabled.may_close now tree.old }
     ensures layout { layout_of tree.new ≡ layout_of tree.old }
-    ensures told { (k : ℕ) → AreEnabling (layout_of tree.old) k rows.now
+    ensures holds_release { (k : ℕ) → AreEnabling (layout_of tree.old) k rows.now
         → HoldsRelease tree.new k enabled }
 {
     set_enabled(tree, rows.ena_opn, enabled.may_open, now);
@@ -197,21 +197,21 @@ fn write_output(tree: &mut Tree, rows: &SwitchRows, enabled: Enabled, now: u64)
 fn write_interlocking(
     tree: &mut Tree,
     kept: &mut Releases,
-    place: usize,
+    index: usize,
     rows: &SwitchRows,
-    enabled: Enabled,
+    enabled: SwitchEnables,
     now: u64,
 )
-    requires rows { IsInterlocked (layout_of tree.old) place rows.now }
-    requires kept { (ss : List Switch) × AreStored tree.old ss place kept.old
-        × (place < length ss) }
-    ensures rows { tree.new ≡ with_output (switch_in (layout_of tree.old) rows.now) enabled.may_open
+    requires rows { IsInterlocked (layout_of tree.old) index rows.now }
+    requires kept { (ss : List Switch) × AreStored tree.old ss index kept.old
+        × (index < length ss) }
+    ensures rows { tree.new ≡ with_output (switch_names_in (layout_of tree.old) rows.now) enabled.may_open
         enabled.may_close now tree.old }
     ensures layout { layout_of tree.new ≡ layout_of tree.old }
-    ensures kept { (ss : List Switch) → AreStored tree.old ss place kept.old → place < length ss
-        → AreStored tree.new ss (place + 1) kept.new }
+    ensures kept { (ss : List Switch) → AreStored tree.old ss index kept.old → index < length ss
+        → AreStored tree.new ss (index + 1) kept.new }
 {
-    let stood = kept.get(place);
+    let stood = kept.get(index);
     if kept.is_written
         && enabled.may_open == stood.may_open
         && enabled.may_close == stood.may_close
@@ -219,7 +219,7 @@ fn write_interlocking(
         return;
     }
     write_output(tree, rows, enabled, now);
-    kept.set(place, enabled);
+    kept.set(index, enabled);
 }
 
 /// Writes the outputs of a scan to the interlocking values of all switches, at `now` in
@@ -233,18 +233,18 @@ pub fn write_outputs(
 )
     requires interlocked { AreInterlocked (layout_of tree.old) switches.now }
     requires kept { AreStored tree.old (switches_of switches.now) 0 kept.old }
-    ensures rows { tree.new ≡ outputs_put (layout_of tree.old) switches.now outputs.now now
+    ensures rows { tree.new ≡ rows_after_outputs (layout_of tree.old) switches.now outputs.now now
         tree.old }
     ensures layout { layout_of tree.new ≡ layout_of tree.old }
     ensures kept { AreStored tree.new (switches_of switches.now) 0 kept.new }
 {
-    for place in 0..switches.len() {
-        let bound = &switches[place];
-        let enabled = Enabled {
+    for index in 0..switches.len() {
+        let bound = &switches[index];
+        let enabled = SwitchEnables {
             may_open: output(outputs, bound.outputs.ena_opn),
             may_close: output(outputs, bound.outputs.ena_cls),
         };
-        write_interlocking(tree, kept, place, &bound.rows, enabled, now);
+        write_interlocking(tree, kept, index, &bound.rows, enabled, now);
     }
     kept.is_written = true;
 }

@@ -12,7 +12,7 @@ pub struct SwitchOutputs {
 
 /// Whether a switch may be opened and closed (IEC 61850-7-4, CILO: EnaOpn and EnaCls).
 #[derive(Clone, Copy)]
-pub struct Enabled {
+pub struct SwitchEnables {
     pub may_open: bool,
     pub may_close: bool,
 }

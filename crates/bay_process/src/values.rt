@@ -33,10 +33,10 @@ impl InputValues {
     }
 
     /// Returns the value at an index; `None` if there is none.
-    pub fn get(&self, place: usize) -> Option<bool>
-        ensures { result ≡ slice_get self.now place }
+    pub fn get(&self, index: usize) -> Option<bool>
+        ensures { result ≡ slice_get self.now index }
     {
-        self.values.as_slice().get(place).copied()
+        self.values.as_slice().get(index).copied()
     }
 
     /// Returns the index of the first value that is TRUE; `None` if none is.
@@ -47,19 +47,19 @@ impl InputValues {
     }
 
     /// Sets the value at an index.
-    pub fn set(&mut self, place: usize, value: bool)
-        requires { place < length self.old }
-        ensures { self.new ≡ slice_set self.old place value }
+    pub fn set(&mut self, index: usize, value: bool)
+        requires { index < length self.old }
+        ensures { self.new ≡ slice_set self.old index value }
     {
-        self.values[place] = value;
+        self.values[index] = value;
     }
 
     /// Sets each value to FALSE.
     pub fn clear(&mut self)
         ensures { self.new ≡ map (λ _. false) self.old }
     {
-        for place in 0..self.values.len() {
-            self.values[place] = false;
+        for index in 0..self.values.len() {
+            self.values[index] = false;
         }
     }
 }

@@ -3,7 +3,7 @@ use Rattle.std.proofs.Common.{◌≡◌, ℕ, ◌+◌, ◌-◌, ◌==◌, ◌≤
 use Rattle.std.proofs.lemmas.Bool.Decides.{nat_tests}
 use Rattle.std.specs.List.{position}
 use Rattle.std.specs.declared.net.socket_addr.SocketAddrV4.{SocketAddrV4}
-use Rattle.bay_lines.specs.FirstLines.{LineSearchData, Overlong, Waiting, Whole, first_line_of, first_line_at, is_end}
+use Rattle.bay_lines.specs.FirstLines.{LineSearchData, Overlong, Waiting, Whole, first_line_of, first_line_at, is_lf}
 use Rattle.bay_server_turn.proofs.TalkLemmas.{Talks-append}
 use Rattle.bay_process_port.specs.Polling.{Attended, all_output, Attends, ClosesDismissed, Does, Leads, AttendedPart, Script, accepted_in, attendance, attended_here, and_then, close_dismissed, first_part, greet_part, left_alone, offer_part, offered_of, after_write, read_by, exchange_part, with_report_queued, after_greeting}
 use Rattle.bay_server_turn.specs.Calls.{Call, Accepts, Closes, ReadOutcome, Octets, Silence, Reads, Writes, MakesCalls}
@@ -20,7 +20,7 @@ use Rattle.bay_process_port.specs.declared.port.Presence.TheVariants.{Away, Leav
 
 -- octets without a whole line are few
 pub waiting-short : (xs : List ℕ) → is_waiting (first_line_of xs) ≡ true → length xs ≤ 256
-waiting-short xs e = by-place (position is_end (take 257 xs)) e
+waiting-short xs e = by-place (position is_lf (take 257 xs)) e
   where
     by-long : (v : Bool) → nat_lt 256 (length xs) ≡ v
         → is_waiting (if v then Overlong else Waiting) ≡ true → length xs ≤ 256

@@ -2,7 +2,7 @@
 use Rattle.std.proofs.Common.{◌≡◌, ℕ, false, List, [], ◌∷◌, ◌++◌, None, refl, ap, ◌∙◌, append-nil, arith}
 use Rattle.std.specs.declared.net.socket_addr.SocketAddrV4.{SocketAddrV4}
 use Rattle.bay_device.specs.Device.{State}
-use Rattle.bay_lines.specs.Cuttings.{AreLines}
+use Rattle.bay_lines.specs.LineRemovals.{AreLines}
 use Rattle.bay_server_turn.specs.Calls.{Over, Silence}
 use Rattle.bay_process_port.specs.Examples.{sent_after_a}
 use Rattle.bay_process_port.specs.ProcessOutput.{ReportedTurn}

@@ -3,7 +3,7 @@ use Rattle.std.proofs.Common.{◌≡◌, ℕ, ◌-◌, min, Bool, true, false, n
 use Rattle.std.proofs.lemmas.Bool.{and_parts}
 use Rattle.std.proofs.lemmas.Bool.Decides.{nat_tests}
 use Rattle.bay_device.specs.Device.{State}
-use Rattle.bay_lines.specs.Cuttings.{AreLines, Cutting, LosesNothing, cutting_of}
+use Rattle.bay_lines.specs.LineRemovals.{AreLines, RemovedLines, LosesNothing, removed_lines}
 use Rattle.bay_lines.specs.FirstLines.{LineSearchData, Waiting, Overlong, Whole, first_line_of}
 use Rattle.bay_lines.proofs.FrontLemmas.{nothing-is-lost}
 use Rattle.bay_process_port.specs.Introduction.{introduced_at}
@@ -214,7 +214,7 @@ module _ (w : Watched) (domain revision : List ℕ) (new : w.introduced ≡ fals
       → judged_at s now jump p ≡ r → first_line_of p.kept ≡ f → p.presence ≡ Here
       → p.watch ≡ Some w → s.domain ≡ domain → s.revision ≡ revision
       → (reading_by now r f p).port.presence ≡ Here → StaysHere us (reading_by now r f p).port
-      → (StaysHere us p → UsesBegin us p (cutting_of (moves_of us p) p.kept).lines)
+      → (StaysHere us p → UsesBegin us p (removed_lines (moves_of us p) p.kept).lines)
       → (let q = (reading_by now r f p).port in
       UsesBegin us q (cut_by r f p.kept (moves_of us q)).lines)
   taken-begin s now jump us p (Err why) f e there here is d v still stays more = absurd cc
@@ -237,7 +237,7 @@ module _ (w : Watched) (domain revision : List ℕ) (new : w.introduced ≡ fals
             ∙ known-duties said.word
             (record w { heard = min now said.moment; last = said.moment });
         starts = λ i.
-            judged-starts w s now domain revision line (cutting_of (moves_of us q) rest).lines said
+            judged-starts w s now domain revision line (removed_lines (moves_of us q) rest).lines said
             new d v judges;
       }
 
@@ -245,7 +245,7 @@ module _ (w : Watched) (domain revision : List ℕ) (new : w.introduced ≡ fals
 begins-uses : (w : Watched) (domain revision : List ℕ) (us : List Use) (p : PortData)
     → w.introduced ≡ false → p.presence ≡ Here → p.watch ≡ Some w → StaysHere us p
     → AreOf domain revision us
-    → Begins w.duties domain revision (cutting_of (moves_of us p) p.kept).lines
+    → Begins w.duties domain revision (removed_lines (moves_of us p) p.kept).lines
     (after_uses us p).watch
 unfolding moves_of
 begins-uses w domain revision [] p new here is stays of = record {
@@ -263,7 +263,7 @@ begins-uses w domain revision (Takes s now jump ∷ us) p new here is stays of =
     (ap (λ (t : PortReading). t.port.presence) (sym whole) ∙ stays.0)
     (subst (λ (t : PortReading). StaysHere us t.port) whole stays.1)
     (λ again. begins-uses w domain revision us p new here is again of.2) in
-    subst (λ (c : Cutting). Begins w.duties domain revision c.lines
+    subst (λ (c : RemovedLines). Begins w.duties domain revision c.lines
     (after_uses us (reading_at s now jump p).port).watch)
     (sym (cut-is r f p.kept (moves_of us (reading_at s now jump p).port) refl))
     (subst (λ (t : PortReading). Begins w.duties domain revision
@@ -277,11 +277,11 @@ begins-uses w domain revision (Attends t s script ∷ us) p new here is stays of
     of in
     let kept = attends-keep t s script p here stays.0 in
     let at : Begins h.later.duties domain revision
-    (cutting_of (moves_of us q) (p.kept ++ octets_read u p)).lines (after_uses us q).watch =
-    subst (λ k. Begins h.later.duties domain revision (cutting_of (moves_of us q) k).lines
+    (removed_lines (moves_of us q) (p.kept ++ octets_read u p)).lines (after_uses us q).watch =
+    subst (λ k. Begins h.later.duties domain revision (removed_lines (moves_of us q) k).lines
     (after_uses us q).watch) kept more in
     subst (λ d. Begins d domain revision
-    (cutting_of (moves_of us q) (p.kept ++ octets_read u p)).lines (after_uses us q).watch)
+    (removed_lines (moves_of us q) (p.kept ++ octets_read u p)).lines (after_uses us q).watch)
     h.duties at
 
 -- from the acceptance on
@@ -289,7 +289,7 @@ begins-away : (tells : Bool) (duties : SupervisionSettings) (domain revision : L
     (us : List Use)
     → StaysHere us (empty_port tells (Some duties) Away) → AreOf domain revision us
     → Begins duties domain revision
-    (cutting_of (moves_of us (empty_port tells (Some duties) Away)) []).lines
+    (removed_lines (moves_of us (empty_port tells (Some duties) Away)) []).lines
     (after_uses us (empty_port tells (Some duties) Away)).watch
 unfolding moves_of
 begins-away tells duties domain revision [] stays of = record {
@@ -310,11 +310,11 @@ begins-away tells duties domain revision (Attends t s script ∷ us) stays of =
     let kept =
     comes-keep tells (Some duties) t.now s script.accepted (script.heard, script.again) stays.0 in
     let at : Begins h.later.duties domain revision
-    (cutting_of (moves_of us q) (octets_read u p0)).lines (after_uses us q).watch =
-    subst (λ k. Begins h.later.duties domain revision (cutting_of (moves_of us q) k).lines
+    (removed_lines (moves_of us q) (octets_read u p0)).lines (after_uses us q).watch =
+    subst (λ k. Begins h.later.duties domain revision (removed_lines (moves_of us q) k).lines
     (after_uses us q).watch) kept more in
     subst (λ d. Begins d domain revision
-    (cutting_of (moves_of us q) (octets_read u p0)).lines (after_uses us q).watch) h.duties at
+    (removed_lines (moves_of us q) (octets_read u p0)).lines (after_uses us q).watch) h.duties at
 
 pub is-of-this-bay : (tells : Bool) (duties : SupervisionSettings) (domain revision : List ℕ)
     (us : List Use)

@@ -3,8 +3,8 @@ use Rattle.std.proofs.Common.{◌≡◌, ℕ, ◌-◌, nat_le, Bool, true, false
 use Rattle.std.specs.Option.{option_to_list}
 use Rattle.std.specs.declared.net.socket_addr.SocketAddrV4.{SocketAddrV4}
 use Rattle.bay_device.specs.Device.{State}
-use Rattle.bay_lines.specs.Cuttings.{Comes, Cutting, LosesNothing, Move, all_of, cutting_of, took, with_line}
-use Rattle.bay_lines.specs.Cuttings as cuttings
+use Rattle.bay_lines.specs.LineRemovals.{Comes, RemovedLines, LosesNothing, BufferStep, arrived_octets, removed_lines, after_removal, with_line}
+use Rattle.bay_lines.specs.LineRemovals as cuttings
 use Rattle.bay_lines.specs.FirstLines.{LineSearchData, Overlong, Waiting, Whole, first_line_of}
 use Rattle.bay_lines.proofs.FrontLemmas.{nothing-is-lost}
 use Rattle.bay_server_turn.specs.Calls.{Call, Accepts, Reads, Writes, Closes, ReadOutcome, Octets, Silence, Over, Broken}
@@ -182,40 +182,40 @@ comes-keep tells duties now s (Some (Some from)) heard here =
 
 -- ---- uses are moves
 
-abbrev pub line_moves : LineSearchData → List Move → List Move
+abbrev pub line_moves : LineSearchData → List BufferStep → List BufferStep
 line_moves Waiting moves = moves
 line_moves Overlong moves = moves
 line_moves (Whole line rest) moves = cuttings.Takes ∷ moves
 
 -- what was judged takes a line, or none
-abbrev pub moves_by : Result (Option TimedMessage) DisconnectReason → LineSearchData → List Move
-    → List Move
+abbrev pub moves_by : Result (Option TimedMessage) DisconnectReason → LineSearchData → List BufferStep
+    → List BufferStep
 moves_by (Err why) f moves = moves
 moves_by (Ok None) f moves = moves
 moves_by (Ok (Some said)) f moves = line_moves f moves
 
-abbrev pub line_cut : LineSearchData → List ℕ → List Move → Cutting
-line_cut Waiting kept moves = cutting_of moves kept
-line_cut Overlong kept moves = cutting_of moves kept
-line_cut (Whole line rest) kept moves = with_line line (cutting_of moves rest)
+abbrev pub line_cut : LineSearchData → List ℕ → List BufferStep → RemovedLines
+line_cut Waiting kept moves = removed_lines moves kept
+line_cut Overlong kept moves = removed_lines moves kept
+line_cut (Whole line rest) kept moves = with_line line (removed_lines moves rest)
 
 abbrev pub cut_by : Result (Option TimedMessage) DisconnectReason → LineSearchData → List ℕ
-    → List Move → Cutting
-cut_by (Err why) f kept moves = cutting_of moves kept
-cut_by (Ok None) f kept moves = cutting_of moves kept
+    → List BufferStep → RemovedLines
+cut_by (Err why) f kept moves = removed_lines moves kept
+cut_by (Ok None) f kept moves = removed_lines moves kept
 cut_by (Ok (Some said)) f kept moves = line_cut f kept moves
 
 pub cut-is : (r : Result (Option TimedMessage) DisconnectReason) (f : LineSearchData)
-    (kept : List ℕ) (moves : List Move) → first_line_of kept ≡ f
-    → cutting_of (moves_by r f moves) kept ≡ cut_by r f kept moves
+    (kept : List ℕ) (moves : List BufferStep) → first_line_of kept ≡ f
+    → removed_lines (moves_by r f moves) kept ≡ cut_by r f kept moves
 cut-is (Err why) f kept moves is = refl
 cut-is (Ok None) f kept moves is = refl
 cut-is (Ok (Some said)) Waiting kept moves is = refl
 cut-is (Ok (Some said)) Overlong kept moves is = refl
 cut-is (Ok (Some said)) (Whole line rest) kept moves is =
-    ap (λ f. took f kept (cutting_of moves)) is
+    ap (λ f. after_removal f kept (removed_lines moves)) is
 
-unfoldable pub moves_of : List Use → PortData → List Move
+unfoldable pub moves_of : List Use → PortData → List BufferStep
 moves_of [] p = []
 moves_of (Takes s now jump ∷ us) p =
     moves_by (judged_at s now jump p) (first_line_of p.kept)
@@ -225,15 +225,15 @@ moves_of (Attends t s script ∷ us) p =
     ∷ moves_of us (port_after (Attends t s script) p)
 
 -- What is kept, the lines that turns had, and what came are those of a cutting.
-pub record Follows (moves : List Move) (c : Cutting) (kept all : List ℕ) (had : List (List ℕ))
+pub record Follows (moves : List BufferStep) (c : RemovedLines) (kept all : List ℕ) (had : List (List ℕ))
     : Type 0 where
   pub keeps : c.kept ≡ kept
   pub had_is : had ≡ filter has_process_event c.lines
-  pub all_is : all_of moves ≡ all
+  pub all_is : arrived_octets moves ≡ all
 
 abbrev pub UseFollows : List Use → PortData → Type 0
 UseFollows us p =
-    Follows (moves_of us p) (cutting_of (moves_of us p) p.kept) (after_uses us p).kept
+    Follows (moves_of us p) (removed_lines (moves_of us p) p.kept) (after_uses us p).kept
     (all_octets_read us p) (all_lines_read us p)
 
 -- a line is had where it tells something
@@ -247,11 +247,11 @@ had-told line had lines e = by-told (has_process_event line) refl
     by-told false is = rw is e
 
 -- what a turn takes, and the uses behind it
-record TakeFollows (c : Cutting) (moves : List Move) (us : List Use) (t : PortReading)
+record TakeFollows (c : RemovedLines) (moves : List BufferStep) (us : List Use) (t : PortReading)
     : Type 0 where
   keeps : c.kept ≡ (after_uses us t.port).kept
   had_is : option_to_list t.line ++ all_lines_read us t.port ≡ filter has_process_event c.lines
-  all_is : all_of moves ≡ all_octets_read us t.port
+  all_is : arrived_octets moves ≡ all_octets_read us t.port
 
 takes-follow : (s : State) (now jump : ℕ) (us : List Use) (p : PortData)
     (r : Result (Option TimedMessage) DisconnectReason) (f : LineSearchData)
@@ -273,7 +273,7 @@ takes-follow s now jump us p (Ok (Some said)) (Whole line rest) is there here h 
       had_is =
           ap (λ o. option_to_list o ++ all_lines_read us q)
           (judged-line p.watch s now line said (line-judged s now jump p line rest said there is))
-          ∙ had-told line (all_lines_read us q) (cutting_of (moves_of us q) rest).lines h.had_is;
+          ∙ had-told line (all_lines_read us q) (removed_lines (moves_of us q) rest).lines h.had_is;
       all_is = h.all_is;
     }
 
@@ -298,8 +298,8 @@ uses-follow (Takes s now jump ∷ us) p here stays =
     (subst (λ (t : PortReading). UseFollows us t.port) is later)) in
     let cut = cut-is r f p.kept moves refl in
     record {
-      keeps = ap (λ (c : Cutting). c.kept) cut ∙ t.keeps;
-      had_is = t.had_is ∙ ap (λ (c : Cutting). filter has_process_event c.lines) (sym cut);
+      keeps = ap (λ (c : RemovedLines). c.kept) cut ∙ t.keeps;
+      had_is = t.had_is ∙ ap (λ (c : RemovedLines). filter has_process_event c.lines) (sym cut);
       all_is = t.all_is;
     }
 uses-follow (Attends t s script ∷ us) p here stays =
@@ -308,9 +308,9 @@ uses-follow (Attends t s script ∷ us) p here stays =
     let later : UseFollows us q = uses-follow us q stays.0 stays.1 in
     let same = attends-keep t s script p here stays.0 in
     record {
-      keeps = ap (λ k. (cutting_of (moves_of us q) k).kept) (sym same) ∙ later.keeps;
+      keeps = ap (λ k. (removed_lines (moves_of us q) k).kept) (sym same) ∙ later.keeps;
       had_is =
-          later.had_is ∙ ap (λ k. filter has_process_event (cutting_of (moves_of us q) k).lines)
+          later.had_is ∙ ap (λ k. filter has_process_event (removed_lines (moves_of us q) k).lines)
           same;
       all_is = ap (λ l. octets_read u p ++ l) later.all_is;
     }
@@ -329,9 +329,9 @@ starts-follow tells duties (Attends t s script ∷ us) stays =
     let same =
     comes-keep tells duties t.now s script.accepted (script.heard, script.again) stays.0 in
     record {
-      keeps = ap (λ k. (cutting_of (moves_of us q) k).kept) (sym same) ∙ later.keeps;
+      keeps = ap (λ k. (removed_lines (moves_of us q) k).kept) (sym same) ∙ later.keeps;
       had_is =
-          later.had_is ∙ ap (λ k. filter has_process_event (cutting_of (moves_of us q) k).lines)
+          later.had_is ∙ ap (λ k. filter has_process_event (removed_lines (moves_of us q) k).lines)
           same;
       all_is = ap (λ l. octets_read u p0 ++ l) later.all_is;
     }
@@ -343,7 +343,7 @@ loses-no-line tells duties us stays =
     let f : UseFollows us p = starts-follow tells duties us stays in
     let cut : LosesNothing (moves_of us p) = nothing-is-lost (moves_of us p) in
     record {
-      lines = (cutting_of (moves_of us p) []).lines;
+      lines = (removed_lines (moves_of us p) []).lines;
       text = cut.text;
       are = cut.lines;
       given = sym f.all_is ∙ cut.whole ∙ ap (λ l. cut.text ++ l) f.keeps;

@@ -2,7 +2,7 @@
 use Rattle.std.specs.Prelude.{◌≡◌, ℕ, ◌-◌, nat_le, nat_lt, Bool, true, false, List, [], Option, None, Some, is_some, option_map, unwrap_or, Result, Ok, Err, if◌then◌else◌}
 use Rattle.bay_device.specs.Device.{State}
 use Rattle.bay_lines.specs.FirstLines.{LineSearchData, Waiting, Overlong, Whole, first_line_of}
-use Rattle.bay_lines.specs.Escaped.{shown_text}
+use Rattle.bay_lines.specs.Escaped.{escaped_text}
 use Rattle.bay_process_port.specs.Releases.{Release, no_releases_sent}
 use Rattle.bay_process_port.specs.Supervised.{SupervisionSettings, Watched, settings_in, event_in, judge_line, watched_after, line_in, overlong_reason, initial_watch}
 use Rattle.bay_process_port.specs.declared.connection_event.DisconnectReason.{DisconnectReason}
@@ -168,4 +168,4 @@ loss_reading s now jump p = loss_in (reading_at s now jump p) p
 
 -- the line, escaped
 abbrev pub shown_line : Option (List ℕ) → List ℕ
-shown_line line = shown_text (unwrap_or line [])
+shown_line line = escaped_text (unwrap_or line [])

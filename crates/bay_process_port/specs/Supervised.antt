@@ -1,7 +1,7 @@
 -- The supervision settings, what is known of a supervised process, and how its lines are read.
 use Rattle.std.specs.Prelude.{ℕ, ◌-◌, Bool, true, false, ◌&&◌, min, nat_le, nat_lt, List, [], ◌∷◌, Option, None, Some, option_map, Result, Ok, Err, if◌then◌else◌}
 use Rattle.bay_device.specs.Device.{State}
-use Rattle.bay_lines.specs.Escaped.{shown_text}
+use Rattle.bay_lines.specs.Escaped.{escaped_text}
 use Rattle.bay_process_port.specs.declared.connection_event.DisconnectReason.{DisconnectReason}
 use Rattle.bay_process_port.specs.declared.connection_event.DisconnectReason.TheVariants.{BadLine, Foreign, OutOfOrder, Untimely}
 use Rattle.bay_process_port.specs.declared.supervision.ProcessMessage.{ProcessMessage}
@@ -70,7 +70,7 @@ word_of (Some event) = Reports event
 -- was taken ends the connection
 abbrev pub judge_later_line : List ℕ → Watched → ℕ → Option TimedLine
     → Result TimedMessage DisconnectReason
-judge_later_line line w now None = Err (BadLine (shown_text line))
+judge_later_line line w now None = Err (BadLine (escaped_text line))
 judge_later_line line w now (Some timed) =
     if nat_lt timed.moment w.last then Err OutOfOrder
     else judge_moment w.duties.limit now timed.moment (word_of timed.event)
@@ -79,7 +79,7 @@ judge_later_line line w now (Some timed) =
 abbrev pub judge_plain_line : ℕ → List ℕ → Option ProcessEvent
     → Result TimedMessage DisconnectReason
 judge_plain_line now [] event = Ok (record { moment = now; word = Blank })
-judge_plain_line now (b ∷ bs) None = Err (BadLine (shown_text (b ∷ bs)))
+judge_plain_line now (b ∷ bs) None = Err (BadLine (escaped_text (b ∷ bs)))
 judge_plain_line now (b ∷ bs) (Some event) = Ok (record { moment = now; word = Reports event })
 
 -- The message of a line at a moment, with the moment from which it counts, or why the connection
@@ -92,8 +92,8 @@ judge_line (Some w) s now line =
 
 -- why the connection must be closed if there are more octets than a line may have, without an end
 abbrev pub overlong_reason : Option Watched → List ℕ → DisconnectReason
-overlong_reason None kept = BadLine (shown_text kept)
-overlong_reason (Some w) kept = if w.introduced then BadLine (shown_text kept) else Foreign
+overlong_reason None kept = BadLine (escaped_text kept)
+overlong_reason (Some w) kept = if w.introduced then BadLine (escaped_text kept) else Foreign
 
 -- ---- what a turn takes of it
 

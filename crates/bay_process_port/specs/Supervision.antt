@@ -2,7 +2,7 @@
 -- silent.
 use Rattle.std.specs.Prelude.{◌≡◌, ◌⊎◌, ℕ, ◌-◌, ◌≤◌, Bool, false, true, List, [], ◌∷◌, ◌++◌, Some}
 use Rattle.bay_device.specs.Device.{State}
-use Rattle.bay_lines.specs.Cuttings.{AreLines}
+use Rattle.bay_lines.specs.LineRemovals.{AreLines}
 use Rattle.bay_lines.specs.FirstLines.{Whole, first_line_of}
 use Rattle.bay_process_port.specs.Ports.{PortData, empty_port, reading_at}
 use Rattle.bay_process_port.specs.Uses.{Attends, Takes, Use, all_octets_read}

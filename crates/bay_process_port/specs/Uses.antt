@@ -3,7 +3,7 @@ use Rattle.std.specs.Prelude.{◌≡◌, ℕ, ◌<◌, Bool, true, List, [], ◌
 use Rattle.std.specs.Option.{option_to_list}
 use Rattle.bay_device.specs.Device.{State}
 use Rattle.bay_device.specs.LookUps.{may_open, may_close}
-use Rattle.bay_lines.specs.Cuttings.{AreLines}
+use Rattle.bay_lines.specs.LineRemovals.{AreLines}
 use Rattle.bay_server_turn.specs.Calls.{Call, Accepts, Reads, Writes, Closes, ReadOutcome, Octets, Silence, Over, Broken}
 use Rattle.bay_process_port.specs.Polling.{Script, attendance}
 use Rattle.bay_process_port.specs.Fit.{has_process_event}

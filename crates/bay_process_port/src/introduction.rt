@@ -4,7 +4,7 @@ ghost use Rattle.std.specs.Cmp.Lexicographic.{pointwise};
 ghost use Rattle.bay_process_port.specs.Introduction as spec;
 ghost use Rattle.bay_server_turn.specs.Supervised.{text_without_end};
 
-use bay_base::decimal::decimal;
+use bay_base::decimal::read_decimal;
 
 // Compares all octets, so that the time of the comparison does not reveal where they differ.
 fn is_same_key(given: &[u8], key: &[u8]) -> bool
@@ -44,5 +44,5 @@ pub fn introduced_at(key: &[u8], domain: &str, revision: &str, line: &[u8]) -> O
     let rest = rest.strip_suffix(domain.as_bytes())?;
     let rest = rest.strip_suffix(b" ")?;
     let rest = before_key(rest, key)?;
-    decimal(rest.strip_suffix(b" bay ")?)
+    read_decimal(rest.strip_suffix(b" bay ")?)
 }

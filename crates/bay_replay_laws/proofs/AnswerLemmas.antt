@@ -5,20 +5,20 @@ use Rattle.std.specs.Borrow.{Bor}
 use Rattle.std.specs.Fmt.{decimal}
 use Rattle.std.specs.List.{Contains}
 use Rattle.hex.specs.Hex.{encode_lower}
-use Rattle.bay_connection.specs.ConnectionStates.{Indication, ConnectionState, Terms, answers, ends, fails, indications, releases, octets_to_send, tells}
-use Rattle.bay_mms_services.specs.Accepted.{AreNamedAlike, accepted_in}
+use Rattle.bay_connection.specs.ConnectionStates.{Indication, ConnectionState, Terms, answers, ends, fails, indications, releases, octets_to_send, delivers}
+use Rattle.bay_mms_services.specs.ObservedEntries.{AreNamedAlike, observed_in_pdu}
 use Rattle.bay_mms_services.specs.Bay.{Bay}
 use Rattle.bay_mms_services.specs.Entries.{operates_in}
 use Rattle.bay_mms_services.specs.declared.answer.Command.{Command}
 use Rattle.bay_device.specs.Device.{State, bay_of, device_at}
 use Rattle.bay_device.specs.Entries.{IsIdle}
-use Rattle.bay_device.specs.Fresh.{Past}
-use Rattle.bay_device.specs.Receiving.{ReceiveResult, Done, after_indications, after_pdu, on_indication, sent_on, with_sent}
+use Rattle.bay_device.specs.Fresh.{PastEvent}
+use Rattle.bay_device.specs.Receiving.{ReceiveResult, StepState, after_indications, after_pdu, on_indication, sent_on, with_sent}
 use Rattle.bay_device.specs.Operates.{AreOperates, AreReplied, AreRepliedForEvent, IsReplied}
-use Rattle.bay_device.specs.Outcomes.{Outcome, connection_at, last_moment, nothing_done, outcome, slot_of, recv_outcome, refusal_of}
+use Rattle.bay_device.specs.Outcomes.{Outcome, connection_at, last_moment, step_start, outcome, slot_of, recv_outcome, refusal_outcome}
 use Rattle.bay_device.specs.Remote.{AreAtRemote, IsAtRemote}
 use Rattle.bay_device.specs.Steps.{Steps}
-use Rattle.bay_device.specs.EntriesTold.{AreAgreed, pdu_in, pdus_in, connection_state_at}
+use Rattle.bay_device.specs.ObservedRuns.{HaveAgreedSize, pdu_in, pdus_in, connection_state_at}
 use Rattle.bay_device.specs.declared.event.Event.{Event}
 use Rattle.bay_device.specs.declared.event.Event.TheVariants.{Open, Recv, Close, Contact, Input, Measure, BadMeasure, Lost, Scan}
 use Rattle.bay_device.specs.declared.event.Sent.{Sent}
@@ -54,7 +54,7 @@ use Rattle.bay_replay_laws.proofs.WithinLemmas.{known-run}
 -- what leads to the next event's
 record Heard (names : Bay) (s : State) : Type 0 where
   alike : AreNamedAlike names (bay_of s)
-  sized : AreAgreed s.connections
+  sized : HaveAgreedSize s.connections
   eight : length s.connections ≡ 8
 
 abbrev OperatesAt : Bay → ℕ → Event → State → Result Step StepFault → State → Type 0
@@ -139,20 +139,20 @@ module _ (now a : ℕ) where
   on-pdus terms [] = All-nil IsOn
   on-pdus terms (pdu ∷ pdus) = All-cons IsOn _ _ refl (on-pdus terms pdus)
 
-  on-more : (octets : List ℕ) (d : Done) → All IsOn d.sent → All IsOn (with_sent a octets d).sent
+  on-more : (octets : List ℕ) (d : StepState) → All IsOn d.sent → All IsOn (with_sent a octets d).sent
   on-more octets d on = All-append IsOn d.sent _ on (All-cons IsOn _ [] refl (All-nil IsOn))
 
-  on-next : (i : Indication) (d : Done) (later : Done → ReceiveResult) → All IsOn d.sent
-      → ((e : Done) → All IsOn e.sent → All IsOn (later e).done.sent)
+  on-next : (i : Indication) (d : StepState) (later : StepState → ReceiveResult) → All IsOn d.sent
+      → ((e : StepState) → All IsOn e.sent → All IsOn (later e).done.sent)
       → All IsOn (on_indication now a i d later).done.sent
   on-next (answers octets) d later on so = so (with_sent a octets d) (on-more octets d on)
-  on-next (tells terms pdu) d later on so =
+  on-next (delivers terms pdu) d later on so =
       so (after_pdu now a terms pdu d) (All-append IsOn d.sent _ on (on-pdus terms _))
   on-next (releases octets) d later on so = on-more octets d on
   on-next ends d later on so = on
   on-next (fails code) d later on so = on
 
-  on-heard : (choice : Option ℕ) (is : List Indication) (d : Done) → All IsOn d.sent
+  on-heard : (choice : Option ℕ) (is : List Indication) (d : StepState) → All IsOn d.sent
       → All IsOn (after_indications choice now a is d).done.sent
   on-heard None [] d on = on
   on-heard None (i ∷ is) d on =
@@ -167,12 +167,12 @@ module _ (now a : ℕ) where
   on-recv choice octets s None = tt
   on-recv choice [] s (Some talk) = All-nil IsOn
   on-recv choice (octet ∷ octets) s (Some talk) =
-      on-heard choice (indications talk (octet ∷ octets)) (nothing_done (device_at now s))
+      on-heard choice (indications talk (octet ∷ octets)) (step_start (device_at now s))
       (All-nil IsOn)
 
   on-if : (late early : Bool) (o : Outcome) (s : State) → IfOk o.answer AllOn
-      → let r : Outcome = cond late (refusal_of MomentTooLarge s)
-      (cond early (refusal_of TimeWentBack s) o) in IfOk r.answer AllOn
+      → let r : Outcome = cond late (refusal_outcome MomentTooLarge s)
+      (cond early (refusal_outcome TimeWentBack s) o) in IfOk r.answer AllOn
   on-if true early o s on = tt
   on-if false true o s on = tt
   on-if false false o s on = on
@@ -269,16 +269,16 @@ sent-stands now answer s ids step done front x back split =
 -- ---- a command
 
 -- what the events before one of a history say of the keys
-remote-in : (first : State) (later : List Past) (p : Past) (earlier past : List Past)
+remote-in : (first : State) (later : List PastEvent) (p : PastEvent) (earlier past : List PastEvent)
     → past ≡ later ++ p ∷ earlier → AllRemote first past → AreAtRemote first earlier p.answer
 remote-in first later p earlier past split all = at later (subst (AllRemote first) split all)
   where
-    at : (later : List Past) → AllRemote first (later ++ p ∷ earlier)
+    at : (later : List PastEvent) → AllRemote first (later ++ p ∷ earlier)
         → AreAtRemote first earlier p.answer
     at [] all = all.0
     at (x ∷ later) all = at later all.1
 
-module _ (first : State) (past : List Past) (steps : EachPast Steps first past)
+module _ (first : State) (past : List PastEvent) (steps : EachPast Steps first past)
     (ids : HaveIds first.switches) (begin load_text : List ℕ)
     (load_is : begin ≡ load_text ++ 10 ∷ []) (heard : Heard (bay_of first) first)
     (keys : AllRemote first past) where
@@ -287,7 +287,7 @@ module _ (first : State) (past : List Past) (steps : EachPast Steps first past)
       → (command : PrintedCommand) → printed_command line ≡ Some command
       → IsAnswered begin first past (load_text ∷ before) line command
   command-answered before line at l command reads =
-      let order : Past = at.order in
+      let order : PastEvent = at.order in
       let old : State = device_after first at.earlier in
       let all : EachPast (OperatesAt (bay_of first)) first past =
       (past-does (OperatesAt (bay_of first)) (Heard (bay_of first)) (operates-so (bay_of first))
@@ -345,7 +345,7 @@ module _ (first : State) (past : List Past) (steps : EachPast Steps first past)
             (hex-free 32 x.octets refl)
             ∙ ap (λ a. let o : Option PrintedSend =
             Some (record { association = decimal a; octets = encode_lower x.octets }) in o) on;
-        accepts = subst (λ response. Contains (operates_in (accepted_in order.now from.association
+        accepts = subst (λ response. Contains (operates_in (observed_in_pdu order.now from.association
             from.replied.pdu (bay_of first) response)) l.command) (sym sent.1.1.2)
             from.replied.accepts;
         remote = All-contains (IsAtRemote first at.earlier) l.step.commands l.command

@@ -17,7 +17,7 @@ use Rattle.il_compile.specs.Compiled.{point_of}
 use Rattle.il_image.specs.declared.value.Value.{Value}
 use Rattle.il_scan.specs.Scans.{outputs_of}
 use Rattle.bay_device.specs.Device.{State, device_at}
-use Rattle.bay_device.specs.Fresh.{Past}
+use Rattle.bay_device.specs.Fresh.{PastEvent}
 use Rattle.bay_device.specs.Meaning.{Means, MeansAt}
 use Rattle.bay_device.specs.Outcomes.{last_moment}
 use Rattle.bay_device.specs.Steps.{Steps}
@@ -73,7 +73,7 @@ scan-told s outputs now count few many both k less =
     outputs-told s.switches s.writes outputs now count few 0 s.switches s.rows both
     (omega (arith, many)) k less (λ none. absurd (omega arith)) (omega (arith, many, less))
 
-past-both : (first : State) (past : List Past) → length first.switches ≤ 32
+past-both : (first : State) (past : List PastEvent) → length first.switches ≤ 32
     → AllBoth first.rows (length first.switches) → EachPast Steps first past
     → AllBoth (device_after first past).rows (length first.switches)
 past-both first [] few both steps = both
@@ -115,7 +115,7 @@ are-values s writes outputs k (switch ∷ switches) told =
       are-values s writes outputs (k + 1) switches (λ j less. told j (omega (arith, less))),
     )
 
-scan-of : (now : ℕ) (steps : ℕ) (p : Past) (old : State)
+scan-of : (now : ℕ) (steps : ℕ) (p : PastEvent) (old : State)
     → Steps p.now p.event old p.answer p.after → scan_told p.answer ≡ Some steps
     → Scanned p.now p.event old p.answer p.after
 scan-of now steps p old did told = elim (turned p.now p.event old p.answer p.after did) [
@@ -124,9 +124,9 @@ scan-of now steps p old did told = elim (turned p.now p.event old p.answer p.aft
   | inr scan ↦ scan
 ]
 
-module _ (first : State) (past : List Past) (steps : EachPast Steps first past)
+module _ (first : State) (past : List PastEvent) (steps : EachPast Steps first past)
     (ids : HaveIds first.switches) (few : EachPast AreFew first past) where
-  abbrev scan_said : (p : Past) → ℕ → PrintedScan
+  abbrev scan_said : (p : PastEvent) → ℕ → PrintedScan
   scan_said p count = record {
     moment = p.now;
     steps = count;
@@ -138,7 +138,7 @@ module _ (first : State) (past : List Past) (steps : EachPast Steps first past)
       (l : IsScanLine at.order.now at.order.answer at.order.after line) (read : PrintedScan)
       → printed_scan line ≡ Some read → scan_said at.order l.steps ≡ read
   scan-reads before line at l read reads =
-      let p : Past = at.order in
+      let p : PastEvent = at.order in
       let here : EachPast Steps first (p ∷ at.earlier) =
       past-in Steps first at.later p at.earlier past at.split steps in
       let scan =
@@ -155,7 +155,7 @@ module _ (first : State) (past : List Past) (steps : EachPast Steps first past)
       (told-plain p.after 0 p.after.switches (subst HaveIds
       (sym (past-fixed first (p ∷ at.earlier) here).switches) ids))) ∙ reads)
 
-module _ (c : Checked) (first : State) (past : List Past) (steps : EachPast Steps first past)
+module _ (c : Checked) (first : State) (past : List PastEvent) (steps : EachPast Steps first past)
     (ids : HaveIds first.switches) (few : EachPast AreFew first past)
     (means : EachPast (MeansAt c) first past) (most : length first.switches ≤ 32)
     (both : AllBoth first.rows (length first.switches)) (begin load_text : List ℕ)
@@ -164,7 +164,7 @@ module _ (c : Checked) (first : State) (past : List Past) (steps : EachPast Step
       (l : IsScanLine at.order.now at.order.answer at.order.after line) (read : PrintedScan)
       → printed_scan line ≡ Some read → IsMeant c begin first past (load_text ∷ before) line read
   scan-meant before line at l read reads =
-      let p : Past = at.order in
+      let p : PastEvent = at.order in
       let old : State = device_after first at.earlier in
       let here : EachPast Steps first (p ∷ at.earlier) =
       past-in Steps first at.later p at.earlier past at.split steps in

@@ -5,7 +5,7 @@ use Rattle.std.specs.List.{list_all}
 use Rattle.std.specs.Str.{is_utf8}
 use Rattle.toml.specs.Data.{Data, Members, as_str, get_member}
 use Rattle.bay_config.specs.Bay.{bay_of}
-use Rattle.bay_config.specs.Key.{Key, begins_with_letter, entry_refusal, held_refusal, identifier, is_identifier, is_name_character, key_refusal, passes, unknown_refusal}
+use Rattle.bay_config.specs.Key.{Key, begins_with_letter, entry_refusal, value_refusal, identifier, is_identifier, is_name_character, key_refusal, passes, unknown_refusal}
 use Rattle.bay_config.specs.Switch.{control_key, control_of, id_key, kind_key, kind_of, optional_keys, switch_in, switch_keys, time_keys}
 use Rattle.bay_config.specs.declared.bay.Bay.{Bay}
 use Rattle.bay_config.specs.declared.fault.BayFault.{BayFault}
@@ -48,7 +48,7 @@ text-named : (o : Option (List ℕ)) → passes (is_identifier 16) o ≡ true
 text-named None passed = absurd cc
 text-named (Some s) passed = passed
 
-held-named : (o : Option Data) → held_refusal (identifier 16) o ≡ None
+held-named : (o : Option Data) → value_refusal (identifier 16) o ≡ None
     → is_identifier 16 (unwrap_or (option_and_then as_str o) []) ≡ true
 held-named None none = absurd cc
 held-named (Some d) none =

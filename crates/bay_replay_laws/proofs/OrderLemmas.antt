@@ -3,7 +3,7 @@ use Rattle.std.proofs.Common.{◌≡◌, ℕ, ◌<◌, ◌≤◌, ◌^◌, List,
 use Rattle.std.specs.Fmt.{decimal}
 use Rattle.std.specs.List.{Contains}
 use Rattle.bay_device.specs.Device.{State}
-use Rattle.bay_device.specs.Fresh.{Past}
+use Rattle.bay_device.specs.Fresh.{PastEvent}
 use Rattle.bay_device.specs.Outcomes.{last_moment}
 use Rattle.bay_device.specs.Steps.{Steps}
 use Rattle.bay_device.specs.declared.event.Step.{Step}
@@ -34,7 +34,7 @@ use Rattle.bay_replay_laws.proofs.ScanLemmas.{past-in, some-same}
 use Rattle.bay_replay_laws.proofs.WithinLemmas.{ending-lines, known-run, load-free, no-parts-lines, refused-lines}
 
 -- the lines of all events
-past-groups : (first : State) (past : List Past) → EachPast Steps first past
+past-groups : (first : State) (past : List PastEvent) → EachPast Steps first past
     → HaveIds first.switches → (gs : Groups) × AreGroups past gs
 past-groups first [] steps ids = ([], tt)
 past-groups first (p ∷ past) steps ids =
@@ -47,7 +47,7 @@ past-groups first (p ∷ past) steps ids =
 -- ---- where lines stand
 
 module _ (begin load : List ℕ) (load_is : begin ≡ load ++ 10 ∷ []) where
-  behind-is : (past : List Past) (gs : Groups) (part : List (List ℕ)) → AreGroups past gs
+  behind-is : (past : List PastEvent) (gs : Groups) (part : List (List ℕ)) → AreGroups past gs
       → ended (load ∷ (flat gs ++ part)) ≡ begin ++ (printed_of past ++ ended part)
   behind-is past gs part are =
       ap (λ t. load ++ 10 ∷ t) (ended-append (flat gs) part
@@ -55,7 +55,7 @@ module _ (begin load : List ℕ) (load_is : begin ≡ load ++ 10 ∷ []) where
       ∙ sym (append_assoc load (10 ∷ []) (printed_of past ++ ended part))
       ∙ ap (λ t. t ++ (printed_of past ++ ended part)) (sym load_is)
 
-  pub printed-for : (p : Past) (earlier : List Past) (gs : Groups) (part rest : List (List ℕ))
+  pub printed-for : (p : PastEvent) (earlier : List PastEvent) (gs : Groups) (part rest : List (List ℕ))
       (line : List ℕ) → AreGroups earlier gs
       → step_text p.now p.answer p.after ≡ ended (part ++ line ∷ rest)
       → IsCommandLineFor begin p earlier (load ∷ (flat gs ++ part)) line
@@ -68,7 +68,7 @@ module _ (begin load : List ℕ) (load_is : begin ≡ load ++ 10 ∷ []) where
 
 -- ---- what a command's line says
 
-module _ (first : State) (past : List Past) (steps : EachPast Steps first past)
+module _ (first : State) (past : List PastEvent) (steps : EachPast Steps first past)
     (ids : HaveIds first.switches) (before : List (List ℕ)) (line : List ℕ)
     (at : Placed past before line)
     (l : IsCommandLine at.order.now at.order.answer at.order.after line) where
@@ -105,7 +105,7 @@ pub each-none : (Is : List ℕ → Type 0) (lines : List (List ℕ)) → Each Is
 each-none Is [] all = tt
 each-none Is (line ∷ lines) all = ((all.0.0, tt), each-none Is lines all.1)
 
-flat-each : (past : List Past) (gs : Groups) → AreGroups past gs
+flat-each : (past : List PastEvent) (gs : Groups) → AreGroups past gs
     → Each (λ l. Unit {0}) (flat gs)
 flat-each [] [] are = tt
 flat-each [] (g ∷ gs) are = absurd are
@@ -122,7 +122,7 @@ each-other lines part after line each e = at part (subst (λ ls. Each IsOther ls
     at (x ∷ part) all = at part all.1
 
 -- Before a line stands the line of the load, and it is one of those of an event.
-pub record Standing (load : List ℕ) (past : List Past) (before : List (List ℕ)) (line : List ℕ)
+pub record Standing (load : List ℕ) (past : List PastEvent) (before : List (List ℕ)) (line : List ℕ)
     : Type 0 where
   pub behind : List (List ℕ)
   pub begins : before ≡ load ∷ behind
@@ -162,7 +162,7 @@ module _ {A : Type 0} (read : List ℕ → Option A)
   no-read line x none is =
       absurd (let no : ◌≡◌ {A = Option A} None (Some x) = sym none ∙ is in cc)
 
-  by-place : (r : Report) (past : List Past) (gs : Groups) (rest before after : List (List ℕ))
+  by-place : (r : Report) (past : List PastEvent) (gs : Groups) (rest before after : List (List ℕ))
       (line : List ℕ) (x : A) → read line ≡ Some x → AreGroups past gs → Each IsOther rest
       → load_line r.instructions r.depth r.budget ∷ (flat gs ++ rest)
       ≡ before ++ line ∷ after

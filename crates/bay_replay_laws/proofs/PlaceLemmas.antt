@@ -2,7 +2,7 @@
 use Rattle.std.proofs.Common.{◌≡◌, ℕ, ◌==◌, List, [], ◌∷◌, ◌++◌, ◌⊎◌, inl, inr, refl, ap, ap₂, sym, subst, ◌∙◌, append_assoc, append-nil}
 use Rattle.std.proofs.lemmas.List.{append_cancel_right}
 use Rattle.std.specs.List.{slice_split}
-use Rattle.bay_device.specs.Fresh.{Past}
+use Rattle.bay_device.specs.Fresh.{PastEvent}
 use Rattle.bay_report.specs.Lines.{step_text}
 use Rattle.bay_replay_laws.specs.Printed.{ended}
 use Rattle.cmd_replay.specs.Runs.{printed_of}
@@ -66,18 +66,18 @@ abbrev pub flat : Groups → List (List ℕ)
 flat [] = []
 flat (g ∷ gs) = flat gs ++ g
 
-pub record IsGroup (p : Past) (g : List (List ℕ)) : Type 0 where
+pub record IsGroup (p : PastEvent) (g : List (List ℕ)) : Type 0 where
   pub whole : step_text p.now p.answer p.after ≡ ended g
   pub each : Each (λ line. IsLineOf p.now p.answer p.after line) g
 
 -- each group is what is printed for the event at its place
-abbrev pub AreGroups : List Past → Groups → Type 0
+abbrev pub AreGroups : List PastEvent → Groups → Type 0
 AreGroups [] [] = Unit {0}
 AreGroups [] (g ∷ gs) = ⊥
 AreGroups (p ∷ past) [] = ⊥
 AreGroups (p ∷ past) (g ∷ gs) = IsGroup p g × AreGroups past gs
 
-pub groups-whole : (past : List Past) (gs : Groups) → AreGroups past gs
+pub groups-whole : (past : List PastEvent) (gs : Groups) → AreGroups past gs
     → printed_of past ≡ ended (flat gs)
 groups-whole [] [] are = refl
 groups-whole [] (g ∷ gs) are = absurd are
@@ -92,10 +92,10 @@ flat-append (x ∷ xs) ys =
 
 -- ---- whose line it is
 
-pub record Placed (past : List Past) (before : List (List ℕ)) (line : List ℕ) : Type 0 where
-  pub later : List Past
-  pub order : Past
-  pub earlier : List Past
+pub record Placed (past : List PastEvent) (before : List (List ℕ)) (line : List ℕ) : Type 0 where
+  pub later : List PastEvent
+  pub order : PastEvent
+  pub earlier : List PastEvent
   pub split : past ≡ later ++ order ∷ earlier
   pub groups : Groups
   pub are : AreGroups earlier groups
@@ -113,7 +113,7 @@ each-cut Is (x ∷ part) line rest each =
     let there = each-cut Is part line rest each.1 in ((each.0, there.0), there.1)
 
 -- a printed line belongs to one event, with the lines before it
-pub placed : (past : List Past) (gs : Groups) (before after : List (List ℕ)) (line : List ℕ)
+pub placed : (past : List PastEvent) (gs : Groups) (before after : List (List ℕ)) (line : List ℕ)
     → AreGroups past gs → flat gs ≡ before ++ line ∷ after → Placed past before line
 placed [] [] [] after line are e = absurd cc
 placed [] [] (x ∷ before) after line are e = absurd cc
@@ -158,7 +158,7 @@ placed (p ∷ past) (g ∷ gs) before after line are e = elim (cut (flat gs) g b
 
 -- ---- the group of one of the events
 
-pub record OneGroup (since : List Past) (q : Past) (earlier : List Past) (gs : Groups)
+pub record OneGroup (since : List PastEvent) (q : PastEvent) (earlier : List PastEvent) (gs : Groups)
     : Type 0 where
   pub own : List (List ℕ)
   pub is : IsGroup q own
@@ -168,7 +168,7 @@ pub record OneGroup (since : List Past) (q : Past) (earlier : List Past) (gs : G
   pub ours : AreGroups since between
   pub split : flat gs ≡ (flat others ++ own) ++ flat between
 
-pub one-group : (since : List Past) (q : Past) (earlier : List Past) (gs : Groups)
+pub one-group : (since : List PastEvent) (q : PastEvent) (earlier : List PastEvent) (gs : Groups)
     → AreGroups (since ++ q ∷ earlier) gs → OneGroup since q earlier gs
 one-group [] q earlier [] are = absurd are
 one-group [] q earlier (g ∷ gs) are = record {

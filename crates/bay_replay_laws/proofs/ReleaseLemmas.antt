@@ -10,10 +10,10 @@ use Rattle.bay_process.specs.Values.{is_truth}
 use Rattle.bay_process.proofs.ToldLemmas.{Keeps}
 use Rattle.bay_mms_services.specs.Released.{enable_name}
 use Rattle.bay_mms_services.specs.declared.answer.Command.{Command}
-use Rattle.bay_tree.specs.Rows.{leaf_of}
+use Rattle.bay_tree.specs.Rows.{leaf_named}
 use Rattle.bay_device.specs.Commands.{AreCommanded, CommandsReleased, IsReleasedAt}
-use Rattle.bay_device.specs.Device.{State, device_at, ended_at, ran_at}
-use Rattle.bay_device.specs.Fresh.{HasScan, IsFresh, Past}
+use Rattle.bay_device.specs.Device.{State, device_at, expiry_report, run_result_at}
+use Rattle.bay_device.specs.Fresh.{HasScan, IsFresh, PastEvent}
 use Rattle.bay_device.specs.LookUps.{may_close, may_open}
 use Rattle.bay_device.specs.Outcomes.{last_moment}
 use Rattle.bay_device.specs.Steps.{Steps}
@@ -40,11 +40,11 @@ use Rattle.bay_replay_laws.proofs.OrderLemmas.{each-none, load, load-no-command,
 
 -- ---- freshness
 
-fresh-in : (age : ℕ) (later : List Past) (p : Past) (earlier past : List Past)
+fresh-in : (age : ℕ) (later : List PastEvent) (p : PastEvent) (earlier past : List PastEvent)
     → past ≡ later ++ p ∷ earlier → AllFresh age past → IsFresh p.now age earlier p.answer
 fresh-in age later p earlier past split all = at later (subst (AllFresh age) split all)
   where
-    at : (later : List Past) → AllFresh age (later ++ p ∷ earlier)
+    at : (later : List PastEvent) → AllFresh age (later ++ p ∷ earlier)
         → IsFresh p.now age earlier p.answer
     at [] all = all.0
     at (x ∷ later) all = at later all.1
@@ -84,7 +84,7 @@ told-first s k switches switch here =
     (told-at s 0 k switches switch here)
 
 released-as : (s t : State) (id : List ℕ) (k : ℕ) (operation : Operation) → Keeps s.rows t.rows
-    → is_truth true (leaf_of (enable_name k operation) t.rows) ≡ true
+    → is_truth true (leaf_named (enable_name k operation) t.rows) ≡ true
     → lets operation (record { id = id; opens = may_open s k; closes = may_close s k }) ≡ true
 released-as s t id k operations.Open keeps enabled = ap (is_truth true) (sym (keeps k _)) ∙ enabled
 released-as s t id k operations.Close keeps enabled = ap (is_truth true) (sym (keeps k _)) ∙ enabled
@@ -106,11 +106,11 @@ scan_answer ended steps = Ok (record {
 })
 
 -- What is printed for a scan is what tells of an end, and its line.
-record ScanLines (q : Past) (steps : ℕ) (own : List (List ℕ)) : Type 0 where
+record ScanLines (q : PastEvent) (steps : ℕ) (own : List (List ℕ)) : Type 0 where
   before : List (List ℕ)
   is : own ≡ before ++ scan_line q.now steps (switches_digits q.after 0 q.after.switches) ∷ []
 
-scan-lines : (q : Past) (ended_by : Option Sent) (steps : ℕ) (own : List (List ℕ))
+scan-lines : (q : PastEvent) (ended_by : Option Sent) (steps : ℕ) (own : List (List ℕ))
     → HaveIds q.after.switches → q.answer ≡ scan_answer ended_by steps
     → step_text q.now q.answer q.after ≡ ended own
     → Each (λ line. IsLineOf q.now q.answer q.after line) own → ScanLines q steps own
@@ -134,7 +134,7 @@ scan-lines q ended_by steps own ids answered whole each =
 -- ---- a command
 
 -- what is known of a history
-record Known (age : ℕ) (first : State) (past : List Past) : Type 0 where
+record Known (age : ℕ) (first : State) (past : List PastEvent) : Type 0 where
   steps : EachPast Steps first past
   ids : HaveIds first.switches
   unscanned : first.last_scan ≡ None
@@ -155,8 +155,8 @@ none-told : (r : Result Step StepFault) → scan_told r ≡ None → NoneDone r
 none-told (Ok step) none = none
 none-told (Err fault) none = tt
 
-all-none : (ps : List Past) → AllByRecursion (λ (p : Past). scan_told p.answer ≡ None) ps
-    → AllByRecursion (λ (p : Past). NoneDone p.answer) ps
+all-none : (ps : List PastEvent) → AllByRecursion (λ (p : PastEvent). scan_told p.answer ≡ None) ps
+    → AllByRecursion (λ (p : PastEvent). NoneDone p.answer) ps
 all-none [] none = none
 all-none (p ∷ ps) none = (none-told p.answer none.0, all-none ps none.1)
 
@@ -165,7 +165,7 @@ all-none (p ∷ ps) none = (none-told p.answer none.0, all-none ps none.1)
 abbrev NoScan : List ℕ → Type 0
 NoScan line = printed_scan line ≡ None
 
-no-scan-of : (p : Past) (line : List ℕ) → scan_told p.answer ≡ None
+no-scan-of : (p : PastEvent) (line : List ℕ) → scan_told p.answer ≡ None
     → IsLineOf p.now p.answer p.after line → NoScan line
 no-scan-of p line none (inl scan) =
     absurd (let no : ◌≡◌ {A = Option ℕ} None (Some scan.steps) = sym none ∙ scan.told in cc)
@@ -175,7 +175,7 @@ no-scan-of p line none (inr (inl l)) =
     (l.switch.id ++ 32 ∷ order_word l.command.operation) (decimal-free 32 p.now no-space) refl refl
 no-scan-of p line none (inr (inr other)) = other.no_scan
 
-no-scans-of : (p : Past) (lines : List (List ℕ)) → scan_told p.answer ≡ None
+no-scans-of : (p : PastEvent) (lines : List (List ℕ)) → scan_told p.answer ≡ None
     → Each (λ line. IsLineOf p.now p.answer p.after line) lines → All NoScan lines
 no-scans-of p lines none each = All-from_recursion NoScan lines (at lines each)
   where
@@ -184,8 +184,8 @@ no-scans-of p lines none each = All-from_recursion NoScan lines (at lines each)
     at [] each = tt
     at (line ∷ lines) each = (no-scan-of p line none each.0.1, at lines each.1)
 
-no-scans : (past : List Past) (gs : Groups) → AreGroups past gs
-    → AllByRecursion (λ (p : Past). scan_told p.answer ≡ None) past → All NoScan (flat gs)
+no-scans : (past : List PastEvent) (gs : Groups) → AreGroups past gs
+    → AllByRecursion (λ (p : PastEvent). scan_told p.answer ≡ None) past → All NoScan (flat gs)
 no-scans [] [] are none = All-from_recursion NoScan [] tt
 no-scans [] (g ∷ gs) are none = absurd are
 no-scans (p ∷ past) [] are none = absurd are
@@ -198,7 +198,7 @@ commands_told (Ok step) = step.commands
 commands_told (Err fault) = []
 
 -- an event with a command is no scan
-ordered-no-scan : (p : Past) (old : State) → Steps p.now p.event old p.answer p.after
+ordered-no-scan : (p : PastEvent) (old : State) → Steps p.now p.event old p.answer p.after
     → (step : Step) (command : Command) → p.answer ≡ Ok step → Contains step.commands command
     → scan_told p.answer ≡ None
 ordered-no-scan p old steps step command done has =
@@ -213,15 +213,15 @@ regroup : {A : Type 0} (a b : List A) (x : A) (c d : List A)
     → ((a ++ (b ++ x ∷ [])) ++ c) ++ d ≡ (a ++ b) ++ x ∷ (c ++ d)
 regroup a b x c d = simp append_assoc
 
-module _ (age : ℕ) (first : State) (past : List Past) (known : Known age first past)
+module _ (age : ℕ) (first : State) (past : List PastEvent) (known : Known age first past)
     (begin load : List ℕ) (load_is : begin ≡ load ++ 10 ∷ []) where
   command-released : (before : List (List ℕ)) (line : List ℕ) (at : Placed past before line)
       (l : IsCommandLine at.order.now at.order.answer at.order.after line)
       → (command : PrintedCommand) → printed_command line ≡ Some command
       → IsReleasedBy age begin past (load ∷ before) line command
   command-released before line at l command reads =
-      let order : Past = at.order in
-      let earlier : List Past = at.earlier in
+      let order : PastEvent = at.order in
+      let earlier : List PastEvent = at.earlier in
       let old : State = device_after first earlier in
       let here : EachPast Steps first (order ∷ earlier) =
       order-steps first past known.steps known.ids before line at l in
@@ -241,11 +241,11 @@ module _ (age : ℕ) (first : State) (past : List Past) (known : Known age first
       l.done fresh (not-none l.step.commands l.command l.has) in
       let unchanged =
       same-since first earlier order.now first.scan_max_age_ms f.0 here.1 has s in
-      let q : Past = s.scan in
+      let q : PastEvent = s.scan in
       let old_q : State = device_after first s.earlier in
       let scans : EachPast Steps first (q ∷ s.earlier) =
       past-in Steps first s.since q s.earlier earlier s.split here.1 in
-      let steps : ℕ = (ran_at q.now (device_at q.now old_q)).steps in
+      let steps : ℕ = (run_result_at q.now (device_at q.now old_q)).steps in
       let told : scan_told q.answer ≡ Some steps = ap scan_told s.done.answered in
       let few : steps < 2 ^ 64 =
       (past-in AreFew first s.since q s.earlier earlier s.split
@@ -259,7 +259,7 @@ module _ (age : ℕ) (first : State) (past : List Past) (known : Known age first
       one-group s.since q s.earlier at.groups
       (subst (λ ps. AreGroups ps at.groups) s.split at.are) in
       let lines : ScanLines q steps g.own =
-      scan-lines q (ended_at q.now old_q) steps g.own ids s.done.answered g.is.whole g.is.each in
+      scan-lines q (expiry_report q.now old_q) steps g.own ids s.done.answered g.is.whole g.is.each in
       let k : ℕ = l.command.switch in
       let switch_is : slice_get q.after.switches k ≡ Some l.switch =
       ap (λ ss. slice_get ss k) (switches
@@ -320,7 +320,7 @@ module _ (age : ℕ) (first : State) (past : List Past) (known : Known age first
             let at_scan : q.now ≡ f.0 = s.at in
             let recent : order.now ≤ f.0 + old.scan_max_age_ms = f.2 in
             omega arith);
-        last = All-from_recursion (λ (p : Past). NoneDone p.answer) s.since
+        last = All-from_recursion (λ (p : PastEvent). NoneDone p.answer) s.since
             (all-none s.since s.none);
         last_line = All-append NoScan (flat g.between) at.part
             (no-scans s.since g.between g.ours s.none) (no-scans-of order at.part

@@ -6,8 +6,8 @@ use Rattle.std.proofs.lemmas.List.Elements.{All-from_recursion, recursion_from_A
 use Rattle.std.specs.List.{AllByRecursion}
 use Rattle.bay_process.proofs.ToldLemmas.{Keeps}
 use Rattle.bay_device.specs.Device.{State, is_fresh, is_recent}
-use Rattle.bay_device.specs.Fresh.{HasScan, IsSameProcess, Past}
-use Rattle.bay_device.specs.Outcomes.{Outcome, last_moment, outcome, refusal_of, scan_outcome}
+use Rattle.bay_device.specs.Fresh.{HasScan, IsSameProcess, PastEvent}
+use Rattle.bay_device.specs.Outcomes.{Outcome, last_moment, outcome, refusal_outcome, scan_outcome}
 use Rattle.bay_device.specs.Steps.{Steps}
 use Rattle.bay_device.specs.declared.event.Event.{Event}
 use Rattle.bay_device.specs.declared.event.Event.TheVariants.{Scan}
@@ -20,13 +20,13 @@ use Rattle.cmd_replay.proofs.KeptLemmas.{Scanned, scan_told, turned}
 -- ---- the last scan
 
 -- no event of these is a scan that was done
-abbrev NoScans : List Past → Type 0
-NoScans past = AllByRecursion (λ (p : Past). scan_told p.answer ≡ None) past
+abbrev NoScans : List PastEvent → Type 0
+NoScans past = AllByRecursion (λ (p : PastEvent). scan_told p.answer ≡ None) past
 
-pub record LastScan (first : State) (past : List Past) (m : ℕ) : Type 0 where
-  pub since : List Past
-  pub scan : Past
-  pub earlier : List Past
+pub record LastScan (first : State) (past : List PastEvent) (m : ℕ) : Type 0 where
+  pub since : List PastEvent
+  pub scan : PastEvent
+  pub earlier : List PastEvent
   pub split : past ≡ since ++ scan ∷ earlier
   pub done : Scanned scan.now scan.event (device_after first earlier) scan.answer scan.after
   pub at : scan.now ≡ m
@@ -36,7 +36,7 @@ pub record LastScan (first : State) (past : List Past) (m : ℕ) : Type 0 where
 pub some-same : {A : Type 0} (x y : A) → ◌≡◌ {A = Option A} (Some x) (Some y) → x ≡ y
 some-same x y e = cc
 
-pub last-scan : (first : State) (past : List Past) (m : ℕ) → first.last_scan ≡ None
+pub last-scan : (first : State) (past : List PastEvent) (m : ℕ) → first.last_scan ≡ None
     → EachPast Steps first past → (device_after first past).last_scan ≡ Some m
     → LastScan first past m
 last-scan first [] m none steps is =
@@ -105,41 +105,41 @@ same-none s = record {
 }
 
 -- behind a scan that was done the process has not changed
-abbrev Unchanged : Past → List Past → Type 0
-Unchanged q ps = AllByRecursion (λ (p : Past). IsSameProcess q.after p.after) ps
+abbrev Unchanged : PastEvent → List PastEvent → Type 0
+Unchanged q ps = AllByRecursion (λ (p : PastEvent). IsSameProcess q.after p.after) ps
 
-heads : (a b : Past) (xs ys : List Past) → a ∷ xs ≡ b ∷ ys → a ≡ b
+heads : (a b : PastEvent) (xs ys : List PastEvent) → a ∷ xs ≡ b ∷ ys → a ≡ b
 heads a b xs ys e = cc
 
-tails : (a b : Past) (xs ys : List Past) → a ∷ xs ≡ b ∷ ys → xs ≡ ys
+tails : (a b : PastEvent) (xs ys : List PastEvent) → a ∷ xs ≡ b ∷ ys → xs ≡ ys
 tails a b xs ys e = cc
 
-module _ (q : Past) (others : List Past) (scan : Past) (earlier : List Past)
+module _ (q : PastEvent) (others : List PastEvent) (scan : PastEvent) (earlier : List PastEvent)
     (scanned : scan_told q.answer ≢ None) where
-  found : (before since : List Past) → before ++ q ∷ others ≡ since ++ scan ∷ earlier
+  found : (before since : List PastEvent) → before ++ q ∷ others ≡ since ++ scan ∷ earlier
       → NoScans since → Unchanged q before → IsSameProcess q.after scan.after
   found [] [] e none same =
-      subst (λ (p : Past). IsSameProcess q.after p.after) (heads q scan others earlier e)
+      subst (λ (p : PastEvent). IsSameProcess q.after p.after) (heads q scan others earlier e)
       (same-none q.after)
   found (y ∷ before) [] e none same =
-      subst (λ (p : Past). IsSameProcess q.after p.after)
+      subst (λ (p : PastEvent). IsSameProcess q.after p.after)
       (heads y scan (before ++ q ∷ others) earlier e) same.0
   found [] (x ∷ since) e none same =
-      absurd (scanned (subst (λ (p : Past). scan_told p.answer ≡ None)
+      absurd (scanned (subst (λ (p : PastEvent). scan_told p.answer ≡ None)
       (sym (heads q x others (since ++ scan ∷ earlier) e)) none.0))
   found (y ∷ before) (x ∷ since) e none same =
       found before since
       (tails y x (before ++ q ∷ others) (since ++ scan ∷ earlier) e) none.1 same.1
 
-  each-since : (before since : List Past) → before ++ q ∷ others ≡ since ++ scan ∷ earlier
+  each-since : (before since : List PastEvent) → before ++ q ∷ others ≡ since ++ scan ∷ earlier
       → NoScans since → Unchanged q before → IsSameProcess q.after scan.after
       → Unchanged scan since
   each-since before [] e none same here = tt
   each-since [] (x ∷ since) e none same here =
-      absurd (scanned (subst (λ (p : Past). scan_told p.answer ≡ None)
+      absurd (scanned (subst (λ (p : PastEvent). scan_told p.answer ≡ None)
       (sym (heads q x others (since ++ scan ∷ earlier) e)) none.0))
   each-since (y ∷ before) (x ∷ since) e none same here = (
-    subst (λ (p : Past). IsSameProcess scan.after p.after)
+    subst (λ (p : PastEvent). IsSameProcess scan.after p.after)
         (heads y x (before ++ q ∷ others) (since ++ scan ∷ earlier) e)
         (same-from q.after scan.after y.after here same.0),
     each-since before since (tails y x (before ++ q ∷ others) (since ++ scan ∷ earlier) e) none.1
@@ -150,12 +150,12 @@ module _ (q : Past) (others : List Past) (scan : Past) (earlier : List Past)
 
 -- what is so of each event of a history is so of one and of those before it
 pub past-in : (Does : ℕ → Event → State → Result Step StepFault → State → Type 0)
-    (first : State) (since : List Past) (q : Past) (earlier past : List Past)
+    (first : State) (since : List PastEvent) (q : PastEvent) (earlier past : List PastEvent)
     → past ≡ since ++ q ∷ earlier → EachPast Does first past → EachPast Does first (q ∷ earlier)
 past-in Does first since q earlier past split all =
     at since (subst (λ ps. EachPast Does first ps) split all)
   where
-    at : (since : List Past) → EachPast Does first (since ++ q ∷ earlier)
+    at : (since : List PastEvent) → EachPast Does first (since ++ q ∷ earlier)
         → EachPast Does first (q ∷ earlier)
     at [] all = all
     at (x ∷ since) all = at since all.1
@@ -164,8 +164,8 @@ abbrev Tells : Result Step StepFault → Type 0
 Tells answer = scan_told answer ≢ None
 
 tells-if : (late early : Bool) (now : ℕ) (s : State)
-    → let o : Outcome = cond late (refusal_of MomentTooLarge s)
-    (cond early (refusal_of TimeWentBack s) (scan_outcome now s)) in IsOk o.answer
+    → let o : Outcome = cond late (refusal_outcome MomentTooLarge s)
+    (cond early (refusal_outcome TimeWentBack s) (scan_outcome now s)) in IsOk o.answer
     → Tells o.answer
 tells-if true early now s ok = absurd cc
 tells-if false true now s ok = absurd cc
@@ -181,9 +181,9 @@ done-tells now event old answer new steps is ok =
     (tells-if (nat_lt last_moment now) (nat_lt now old.moment) now old (subst IsOk same ok))
 
 -- Since the last scan the process has not changed, where there is some scan since which it has not.
-pub same-since : (first : State) (past : List Past) (now age m : ℕ) → EachPast Steps first past
+pub same-since : (first : State) (past : List PastEvent) (now age m : ℕ) → EachPast Steps first past
     → HasScan now age past → (l : LastScan first past m)
-    → All (λ (p : Past). IsSameProcess l.scan.after p.after) l.since
+    → All (λ (p : PastEvent). IsSameProcess l.scan.after p.after) l.since
 same-since first past now age m steps h l =
     let is : h.since ++ h.scan ∷ h.earlier ≡ l.since ++ l.scan ∷ l.earlier =
     sym h.split ∙ l.split in
@@ -191,7 +191,7 @@ same-since first past now age m steps h l =
     done-tells h.scan.now h.scan.event (device_after first h.earlier) h.scan.answer h.scan.after
     (past-in Steps first h.since h.scan h.earlier past h.split steps).0 h.scanned h.done in
     let same : Unchanged h.scan h.since =
-    recursion_from_All (λ (p : Past). IsSameProcess h.scan.after p.after) h.since h.unchanged in
+    recursion_from_All (λ (p : PastEvent). IsSameProcess h.scan.after p.after) h.since h.unchanged in
     let here = found h.scan h.earlier l.scan l.earlier tells h.since l.since is l.none same in
-    All-from_recursion (λ (p : Past). IsSameProcess l.scan.after p.after) l.since
+    All-from_recursion (λ (p : PastEvent). IsSameProcess l.scan.after p.after) l.since
     (each-since h.scan h.earlier l.scan l.earlier tells h.since l.since is l.none same here)

@@ -5,7 +5,7 @@ use Rattle.il_check.specs.Program.{Checked}
 use Rattle.il_check.proofs.TypedLemmas.{typed-of}
 use Rattle.il_verify.specs.Verdicts.{IsBudget}
 use Rattle.bay_device.specs.Device.{State}
-use Rattle.bay_device.specs.Fresh.{Past}
+use Rattle.bay_device.specs.Fresh.{PastEvent}
 use Rattle.bay_device.specs.Meaning.{Runs}
 use Rattle.bay_device.specs.Steps.{Steps}
 use Rattle.bay_device.specs.declared.event.Event.{Event}
@@ -37,7 +37,7 @@ AreFew now event old answer new = (steps : ℕ) → scan_told answer ≡ Some st
 
 module _ (first : State) (budget : ℕ) (small : budget < 2 ^ 64) (ids : HaveIds first.switches)
     (b : IsBudget first.machine.image.code budget) where
-  pub past-few : (past : List Past) → EachPast Steps first past → EachPast IsWithin first past
+  pub past-few : (past : List PastEvent) → EachPast Steps first past → EachPast IsWithin first past
       → EachPast AreFew first past
   past-few [] steps within = tt
   past-few (p ∷ past) steps within = (
@@ -117,7 +117,7 @@ load-none i d b =
     (codes "budget=" ++ decimal b) (decimal-free 32 i no-space) (decimal-free 32 d no-space) refl
 
 -- what is known of a run
-pub record KnownRun (first : State) (past : List Past) (report : Report) : Type 0 where
+pub record KnownRun (first : State) (past : List PastEvent) (report : Report) : Type 0 where
   pub small : report.budget < 2 ^ 64
   pub ids : HaveIds first.switches
   pub within : EachPast IsWithin first past

@@ -5,15 +5,15 @@ use Rattle.std.specs.Fmt.{decimal}
 use Rattle.std.specs.List.{Contains}
 use Rattle.hex.specs.Hex.{encode_lower}
 use Rattle.bay_nodes.specs.declared.switch.Switch.{Switch}
-use Rattle.bay_connection.specs.ConnectionStates.{ConnectionState, Terms, indications, tells}
-use Rattle.bay_mms_services.specs.Accepted.{accepted_in}
+use Rattle.bay_connection.specs.ConnectionStates.{ConnectionState, Terms, indications, delivers}
+use Rattle.bay_mms_services.specs.ObservedEntries.{observed_in_pdu}
 use Rattle.bay_mms_services.specs.Entries.{operates_in}
 use Rattle.bay_mms_services.specs.declared.answer.Command.{Command}
 use Rattle.bay_device.specs.Device.{State, bay_of}
-use Rattle.bay_device.specs.Fresh.{Past}
+use Rattle.bay_device.specs.Fresh.{PastEvent}
 use Rattle.bay_device.specs.Outcomes.{connection_at, slot_of}
 use Rattle.bay_device.specs.Remote.{IsAtRemote}
-use Rattle.bay_device.specs.EntriesTold.{pdu_in}
+use Rattle.bay_device.specs.ObservedRuns.{pdu_in}
 use Rattle.bay_device.specs.declared.event.Event.TheVariants.{Recv}
 use Rattle.bay_report.specs.Lines.{step_text}
 use Rattle.bay_report.specs.Report.{report_text}
@@ -29,11 +29,11 @@ use Rattle.cmd_replay.specs.Runs.{IsRun}
 -- of octets sent on the same association, by their digits, whose PDU, read as the response to that
 -- request, has a success as its result. If the switch has a key, the events before these octets say
 -- that it is at remote.
-pub record IsAnswered (begin : List ℕ) (first : State) (past : List Past)
+pub record IsAnswered (begin : List ℕ) (first : State) (past : List PastEvent)
     (before : List (List ℕ)) (line : List ℕ) (command : PrintedCommand) : Type 0 where
-  pub later : List Past
-  pub order : Past
-  pub earlier : List Past
+  pub later : List PastEvent
+  pub order : PastEvent
+  pub earlier : List PastEvent
   pub split : past ≡ later ++ order ∷ earlier
   pub ordered : IsCommandLineFor begin order earlier before line
   pub moment : command.moment ≡ order.now
@@ -49,13 +49,13 @@ pub record IsAnswered (begin : List ℕ) (first : State) (past : List Past)
   pub connected : connection_at (slot_of association) (device_after first earlier) ≡ Some talk
   pub terms : Terms
   pub pdu : List ℕ
-  pub asked : Contains (indications talk octets.now) (tells terms pdu)
+  pub asked : Contains (indications talk octets.now) (delivers terms pdu)
   pub told : List ℕ
   pub stands : Contains (lines_in (step_text order.now order.answer order.after)) told
   pub sent : List ℕ
   pub digits : printed_send told
       ≡ Some (record { association = decimal association; octets = encode_lower sent })
-  pub accepts : Contains (operates_in (accepted_in order.now association pdu (bay_of first)
+  pub accepts : Contains (operates_in (observed_in_pdu order.now association pdu (bay_of first)
       (pdu_in sent))) operate
   pub remote : IsAtRemote first earlier operate
 

@@ -8,7 +8,7 @@
 -- What public clauses cite of the crates below.
 pub use Rattle.bay_device.specs.Fresh
 pub use Rattle.bay_device.specs.Meaning
-pub use Rattle.bay_device.specs.EntriesTold
+pub use Rattle.bay_device.specs.ObservedRuns
 pub use Rattle.cmd_replay.specs.Replay
 pub use Rattle.cmd_replay.specs.Runs
 -- Its own definitions.

@@ -10,7 +10,7 @@ use Rattle.il_compile.specs.Meaning.{Memory, mean}
 use Rattle.il_image.specs.declared.value.Value.{Value}
 use Rattle.il_scan.specs.Scans.{outputs_of}
 use Rattle.bay_device.specs.Device.{State}
-use Rattle.bay_device.specs.Fresh.{Past}
+use Rattle.bay_device.specs.Fresh.{PastEvent}
 use Rattle.bay_device.specs.Meaning.{memory_before}
 use Rattle.bay_device.specs.declared.event.Event.TheVariants.{Scan}
 use Rattle.bay_report.specs.Report.{report_text}
@@ -37,11 +37,11 @@ AreValues writes outputs k (switch ∷ switches) told =
 -- A scan's line is one of the lines for a scan of this history, and has what the program means:
 -- from the variables that the device retains, and from the positions, inputs and measured values
 -- that it has by then.
-pub record IsMeant (c : Checked) (begin : List ℕ) (first : State) (past : List Past)
+pub record IsMeant (c : Checked) (begin : List ℕ) (first : State) (past : List PastEvent)
     (before : List (List ℕ)) (line : List ℕ) (read : PrintedScan) : Type 0 where
-  pub later : List Past
-  pub scan : Past
-  pub earlier : List Past
+  pub later : List PastEvent
+  pub scan : PastEvent
+  pub earlier : List PastEvent
   pub split : past ≡ later ++ scan ∷ earlier
   pub printed : IsCommandLineFor begin scan earlier before line
   pub scanned : scan.event ≡ Scan

@@ -4,7 +4,7 @@ use Rattle.std.specs.List.{Contains}
 use Rattle.bay_base.specs.declared.switch.Operation.{Operation}
 use Rattle.bay_base.specs.declared.switch.Operation.TheVariants as operations
 use Rattle.bay_device.specs.Device.{State}
-use Rattle.bay_device.specs.Fresh.{IsSameProcess, Past}
+use Rattle.bay_device.specs.Fresh.{IsSameProcess, PastEvent}
 use Rattle.bay_device.specs.declared.event.Event.TheVariants.{Scan}
 use Rattle.bay_report.specs.Lines.{step_text}
 use Rattle.bay_report.specs.Report.{report_text}
@@ -15,7 +15,7 @@ use Rattle.cmd_replay.specs.Runs.{IsRun, printed_of}
 
 -- A line that follows these lines of a text, which begins with `begin`, is one of the lines for an
 -- event, which follows these events.
-pub record IsCommandLineFor (begin : List ℕ) (p : Past) (earlier : List Past)
+pub record IsCommandLineFor (begin : List ℕ) (p : PastEvent) (earlier : List PastEvent)
     (before : List (List ℕ)) (line : List ℕ) : Type 0 where
   pub part : List ℕ
   pub rest : List ℕ
@@ -38,13 +38,13 @@ pub record Releases (scan : PrintedScan) (command : PrintedCommand) : Type 0 whe
 -- most `age` milliseconds before; both are lines for events of this history. Of the events between
 -- the two, none is a scan that was accepted, and none has changed the process; and no line between
 -- the two is read as that of a scan.
-pub record IsReleasedBy (age : ℕ) (begin : List ℕ) (past : List Past) (before : List (List ℕ))
+pub record IsReleasedBy (age : ℕ) (begin : List ℕ) (past : List PastEvent) (before : List (List ℕ))
     (line : List ℕ) (command : PrintedCommand) : Type 0 where
-  pub later : List Past
-  pub order : Past
-  pub since : List Past
-  pub scan : Past
-  pub earlier : List Past
+  pub later : List PastEvent
+  pub order : PastEvent
+  pub since : List PastEvent
+  pub scan : PastEvent
+  pub earlier : List PastEvent
   pub split : past ≡ later ++ order ∷ (since ++ scan ∷ earlier)
   pub ordered : IsCommandLineFor begin order (since ++ scan ∷ earlier) before line
   pub scanned : scan.event ≡ Scan
@@ -57,9 +57,9 @@ pub record IsReleasedBy (age : ℕ) (begin : List ℕ) (past : List Past) (befor
   pub is : printed_scan told ≡ Some read
   pub releases : Releases read command
   pub recent : command.moment ≤ read.moment + age
-  pub last : All (λ (p : Past). IfOk p.answer (λ step. step.scan ≡ None)) since
+  pub last : All (λ (p : PastEvent). IfOk p.answer (λ step. step.scan ≡ None)) since
   pub last_line : All (λ between. printed_scan between ≡ None) back
-  pub unchanged : All (λ (p : Past). IsSameProcess scan.after p.after) since
+  pub unchanged : All (λ (p : PastEvent). IsSameProcess scan.after p.after) since
 
 -- Each line of a command in the text of a run is released so.
 abbrev pub AreReleased : (parts : ScenarioParts) (first : State) (text : List ℕ) (status : ℕ)

@@ -7,8 +7,8 @@ use Rattle.bay_device.specs.Device.{State}
 use Rattle.bay_device.specs.declared.event.Sent.{Sent}
 use Rattle.bay_io.proofs.AskedLemmas.{Asked-then}
 use Rattle.bay_io.proofs.SentLemmas.{SendsPart-more, Sends-rest, Sends-rest_part}
-use Rattle.bay_io.specs.Sent.{Ends, Finishes, Puts, Sends, SendsPart}
-use Rattle.bay_io.specs.Watched.{Writing}
+use Rattle.bay_io.specs.Sent.{FlushOutcome, Finishes, Puts, Sends, SendsPart}
+use Rattle.bay_io.specs.Watched.{WriterState}
 use Rattle.bay_io.specs.declared.outbox.WriteFault.{WriteFault}
 use Rattle.bay_report.specs.Lines.{command_text, commands_text, send_text, sends_text}
 use Rattle.bay_report.specs.LogLines.{IsReported, LogsSome, PrintsLogs}
@@ -40,9 +40,9 @@ nil-from-length (x ∷ xs) e = absurd (omega arith)
 
 module _ {W : Type 0} {contents : W → Option (List ℕ)} {asks : W → WriteCall → W → Type 0}
     (May : List ℕ → ℕ → Type 0) where
-  last-printed : {old mid : Writing W} {text : List ℕ} (new : Writing W) (status : ℕ)
+  last-printed : {old mid : WriterState W} {text : List ℕ} (new : WriterState W) (status : ℕ)
       (r : Result ℕ WriteFault) → May text status → Puts contents asks old text mid
-      → Ends contents mid new r → IfOk r (λ s. s ≡ status) → Printed contents May old new r
+      → FlushOutcome contents mid new r → IfOk r (λ s. s ≡ status) → Printed contents May old new r
   last-printed {old} {mid} {text} new status (Ok s) told put ends is = by_failed mid.has_failed
       refl put.sent
     where
@@ -82,19 +82,19 @@ module _ {W : Type 0} {contents : W → Option (List ℕ)} {asks : W → WriteCa
           (old.pending ++ text) mid.pending sent ends.0
 
   -- a text was put, and all was written out
-  pub Prints-last : {old mid : Writing W} {text : List ℕ} (new : Writing W) (status : ℕ)
+  pub Prints-last : {old mid : WriterState W} {text : List ℕ} (new : WriterState W) (status : ℕ)
       (r : Result ℕ WriteFault) → May text status → Puts contents asks old text mid
       → Finishes contents asks mid new r → IfOk r (λ s. s ≡ status)
       → Prints contents asks May old new r
   Prints-last {old} {mid} {text} new status r told put f is = record {
     printed = last-printed new status r told put f.ends is;
-    asked = Asked-then old.inner mid.inner new.inner old.has_failed mid.has_failed new.has_failed
-        put.asked f.asked;
+    calls_made = Asked-then old.inner mid.inner new.inner old.has_failed mid.has_failed new.has_failed
+        put.calls_made f.calls_made;
     same_logs = f.same_logs ∙ put.same_logs;
   }
 
   -- a front of a text was put, and a write has failed
-  pub Prints-cut : {old new : Writing W} {front : List ℕ} (more : List ℕ) (status : ℕ)
+  pub Prints-cut : {old new : WriterState W} {front : List ℕ} (more : List ℕ) (status : ℕ)
       (fault : WriteFault) → May (front ++ more) status → Puts contents asks old front new
       → new.has_failed ≡ true → Prints contents asks May old new (Err fault)
   Prints-cut {old} {new} {front} more status fault told put failed = record {
@@ -109,7 +109,7 @@ module _ {W : Type 0} {contents : W → Option (List ℕ)} {asks : W → WriteCa
       },
       failed,
     );
-    asked = put.asked;
+    calls_made = put.calls_made;
     same_logs = put.same_logs;
   }
     where
@@ -121,7 +121,7 @@ module _ {W : Type 0} {contents : W → Option (List ℕ)} {asks : W → WriteCa
       by_failed false e sent = absurd cc
 
 weaker : {W : Type 0} (contents : W → Option (List ℕ)) (May Might : List ℕ → ℕ → Type 0)
-    (old new : Writing W) (r : Result ℕ WriteFault)
+    (old new : WriterState W) (r : Result ℕ WriteFault)
     → ((text : List ℕ) (status : ℕ) → May text status → Might text status)
     → Printed contents May old new r → Printed contents Might old new r
 weaker contents May Might old new (Ok status) wider p = (
@@ -139,21 +139,21 @@ weaker contents May Might old new (Err fault) wider p = (
 )
 
 pub Prints-weaker : {W : Type 0} (contents : W → Option (List ℕ))
-    (asks : W → WriteCall → W → Type 0) (May Might : List ℕ → ℕ → Type 0) (old new : Writing W)
+    (asks : W → WriteCall → W → Type 0) (May Might : List ℕ → ℕ → Type 0) (old new : WriterState W)
     (r : Result ℕ WriteFault)
     → ((text : List ℕ) (status : ℕ) → May text status → Might text status)
     → Prints contents asks May old new r → Prints contents asks Might old new r
 Prints-weaker contents asks May Might old new r wider p =
     record {
       printed = weaker contents May Might old new r wider p.printed;
-      asked = p.asked;
+      calls_made = p.calls_made;
       same_logs = p.same_logs;
     }
 
 -- ---- with a line for the log
 
 module _ {W : Type 0} {contents : W → Option (List ℕ)} {asks : W → WriteCall → W → Type 0}
-    {May : Option (List ℕ) → List ℕ → ℕ → Type 0} {old new : Writing W} where
+    {May : Option (List ℕ) → List ℕ → ℕ → Type 0} {old new : WriterState W} where
   -- where none goes with the text nothing is logged
   pub Prints-alone : (r : Result ℕ WriteFault) → Prints contents asks (May None) old new r
       → PrintsLogs contents asks May old new r
@@ -173,7 +173,7 @@ module _ {W : Type 0} {contents : W → Option (List ℕ)} {asks : W → WriteCa
   }
 
 module _ {W : Type 0} {contents : W → Option (List ℕ)} {asks : W → WriteCall → W → Type 0}
-    {last : List ℕ} {status : ℕ} {old between : Writing W} where
+    {last : List ℕ} {status : ℕ} {old between : WriterState W} where
   -- a text goes with its line
   pub with-line : {r : Result ℕ WriteFault} (line : Option (List ℕ))
       → Prints contents asks (IsLast last status) old between r
@@ -182,7 +182,7 @@ module _ {W : Type 0} {contents : W → Option (List ℕ)} {asks : W → WriteCa
       (IsReported line last status line) old between r (λ text answered told. (refl, told)) p
 
   -- a text was printed, and its line was logged
-  pub PrintsLogs-told : {new : Writing W} (line : Option (List ℕ)) (answered : ℕ)
+  pub PrintsLogs-told : {new : WriterState W} (line : Option (List ℕ)) (answered : ℕ)
       → Prints contents asks (IsLast last status) old between (Ok answered)
       → LogsSome contents asks between line new
       → PrintsLogs contents asks (IsReported line last status) old new (Ok answered)
@@ -199,13 +199,13 @@ module _ {W : Type 0} {contents : W → Option (List ℕ)} {asks : W → WriteCa
 
 -- a fault is answered where a write or a flush failed
 pub Prints-fault : {W : Type 0} {contents : W → Option (List ℕ)} {asks : W → WriteCall → W → Type 0}
-    {May : List ℕ → ℕ → Type 0} (old new : Writing W) (r : Result ℕ WriteFault)
+    {May : List ℕ → ℕ → Type 0} (old new : WriterState W) (r : Result ℕ WriteFault)
     (p : Prints contents asks May old new r) → old.has_failed ≡ false
-    → is_err r ≡ some_call write_failed p.asked.calls
+    → is_err r ≡ some_call write_failed p.calls_made.calls
 Prints-fault old new (Ok status) p e =
-    sym p.printed.1.1 ∙ p.asked.failed ∙ ap (λ b. b || some_call write_failed p.asked.calls) e
+    sym p.printed.1.1 ∙ p.calls_made.failed ∙ ap (λ b. b || some_call write_failed p.calls_made.calls) e
 Prints-fault old new (Err fault) p e =
-    sym p.printed.1 ∙ p.asked.failed ∙ ap (λ b. b || some_call write_failed p.asked.calls) e
+    sym p.printed.1 ∙ p.calls_made.failed ∙ ap (λ b. b || some_call write_failed p.calls_made.calls) e
 
 -- of two, the first where the condition holds
 pub chosen : {A : Type 0} (B : Type 0) (b : Bool) → b ≡ true → A → MatchBool b A B

@@ -5,18 +5,18 @@ use Rattle.std.specs.declared.io.ErrorKind.{ErrorKind}
 use Rattle.std.specs.declared.io.ErrorKind.TheVariants as kind
 use Rattle.bay_io.specs.Calls.{WriteCall}
 use Rattle.bay_io.specs.Sent.{Logs}
-use Rattle.bay_io.specs.Watched.{Writing}
+use Rattle.bay_io.specs.Watched.{WriterState}
 use Rattle.bay_io.specs.declared.input.ReadFault.{ReadFault}
 use Rattle.bay_io.specs.declared.input.ReadFault.TheVariants as unread
 use Rattle.bay_io.specs.declared.outbox.WriteFault.{WriteFault}
-use Rattle.bay_lines.specs.Escaped.{shown_text}
+use Rattle.bay_lines.specs.Escaped.{escaped_text}
 use Rattle.bay_load.specs.Errors.{code_of, line_of, words_of}
 use Rattle.bay_load.specs.declared.error.LoadError.{LoadError}
 use Rattle.bay_report.specs.Report.{IsLast, Prints, refusal_of}
 
 -- a line is logged, if there is one
 abbrev pub LogsSome : {W : Type 0} → (W → Option (List ℕ)) → (W → WriteCall → W → Type 0)
-    → Writing W → Option (List ℕ) → Writing W → Type 0
+    → WriterState W → Option (List ℕ) → WriterState W → Type 0
 LogsSome contents asks old None new = new ≡ old
 LogsSome contents asks old (Some line) new = Logs contents asks old line new
 
@@ -24,9 +24,9 @@ LogsSome contents asks old (Some line) new = Logs contents asks old line new
 -- be printed, nothing is logged.
 pub record PrintsLogs {W : Type 0} (contents : W → Option (List ℕ))
     (asks : W → WriteCall → W → Type 0) (May : Option (List ℕ) → List ℕ → ℕ → Type 0)
-    (old new : Writing W) (result : Result ℕ WriteFault) : Type 0 where
+    (old new : WriterState W) (result : Result ℕ WriteFault) : Type 0 where
   pub line : Option (List ℕ)
-  pub between : Writing W
+  pub between : WriterState W
   pub printed : Prints contents asks (May line) old between result
   pub logged : MatchResult result (λ status. LogsSome contents asks between line new)
       (λ fault. new ≡ between)
@@ -91,7 +91,7 @@ Refuses error = IsReported (refused_line error) (refusal_of error) 1
 abbrev pub unreadable_line : ℕ → List ℕ → List ℕ
 unreadable_line k line =
     codes "bayctl: fault 120 line " ++ (decimal k
-    ++ (codes ": " ++ (shown_text line ++ codes "\n")))
+    ++ (codes ": " ++ (escaped_text line ++ codes "\n")))
 
 -- ---- writing
 

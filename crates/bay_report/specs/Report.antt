@@ -1,11 +1,11 @@
 -- The text that is printed for a load and for a fault, with which status, and how it reached a
 -- writer.
-use Rattle.bay_io.specs.Calls.{CallsMade, Unlogged, WriteCall, write_failed}
+use Rattle.bay_io.specs.Calls.{SomeCalls, Unlogged, WriteCall, write_failed}
 use Rattle.bay_load.specs.Errors as error
 use Rattle.bay_load.specs.declared.error.LoadError.{LoadError}
 use Rattle.bay_load.specs.declared.report.Report.{Report}
 use Rattle.bay_io.specs.Sent.{SendsPart}
-use Rattle.bay_io.specs.Watched.{Writing}
+use Rattle.bay_io.specs.Watched.{WriterState}
 use Rattle.bay_io.specs.declared.outbox.WriteFault.{WriteFault}
 use Rattle.bay_report.specs.declared.output.Status.{Status}
 use Rattle.bay_report.specs.declared.output.Status.TheVariants.{Clean, Refused as Refuses, Usage, Fault, Unproved}
@@ -64,8 +64,8 @@ IsLast last answered text status = (text ≡ last) × (status ≡ answered)
 
 -- The result is the status of a text that may be printed, and all of the text reached the writer
 -- and was flushed; or a write or a flush failed, and the writer received a prefix of such a text.
-abbrev pub Printed : {W : Type 0} → (W → Option (List ℕ)) → (List ℕ → ℕ → Type 0) → Writing W
-    → Writing W → Result ℕ WriteFault → Type 0
+abbrev pub Printed : {W : Type 0} → (W → Option (List ℕ)) → (List ℕ → ℕ → Type 0) → WriterState W
+    → WriterState W → Result ℕ WriteFault → Type 0
 Printed contents May old new (Ok status) =
     Reports May old.pending (contents old.inner) (contents new.inner) status
     × ((new.pending ≡ []) × (new.has_failed ≡ false) × (new.is_flushed ≡ true))
@@ -75,9 +75,9 @@ Printed contents May old new (Err fault) =
 
 -- A text was printed (`Printed`) by these calls on the writer, none of which logs.
 pub record Prints {W : Type 0} (contents : W → Option (List ℕ)) (asks : W → WriteCall → W → Type 0)
-    (May : List ℕ → ℕ → Type 0) (old new : Writing W) (result : Result ℕ WriteFault)
+    (May : List ℕ → ℕ → Type 0) (old new : WriterState W) (result : Result ℕ WriteFault)
     : Type 0 where
   pub printed : Printed contents May old new result
-  pub asked : CallsMade (Unlogged asks) write_failed old.inner old.has_failed new.inner
+  pub calls_made : SomeCalls (Unlogged asks) write_failed old.inner old.has_failed new.inner
       new.has_failed
   pub same_logs : new.logs ≡ old.logs

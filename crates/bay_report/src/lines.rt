@@ -9,7 +9,7 @@ ghost use Rattle.bay_report.specs.Lines.{scan_text, ran_text, send_text, sends_t
 
 use bay_base::switch::Operation;
 use bay_device::device::Device;
-use bay_device::event::{Scanned, Sent, Step, Why};
+use bay_device::event::{ScanResult, Sent, Step, Why};
 use bay_device::fault::StepFault;
 use bay_io::calls::Sink;
 use bay_io::writer::WatchedWriter;
@@ -272,7 +272,7 @@ pub fn put_scanned<W: Sink>(
     device: &Device,
     moment: u64,
     digits: Option<&[u8]>,
-    answer: &Result<Scanned, StepFault>,
+    answer: &Result<ScanResult, StepFault>,
 )
     requires { IfSome digits (λ d. d.now ≡ decimal moment) }
     ensures { Puts W.contents W.does writer.old

@@ -4,7 +4,7 @@ use Rattle.std.proofs.Common.{◌≡◌, ◌⊎◌, ℕ, suc, ◌+◌, ◌==◌,
 use Rattle.std.proofs.lemmas.Bool.Decides.{nat_tests}
 use Rattle.bay_device.specs.Device.{State}
 use Rattle.bay_io.specs.Sent.{Logs}
-use Rattle.bay_io.specs.Watched.{Writing}
+use Rattle.bay_io.specs.Watched.{WriterState}
 use Rattle.bay_io.specs.declared.outbox.WriteFault.{WriteFault}
 use Rattle.bay_report.proofs.ReportLemmas.{nil-from-length}
 use Rattle.bay_server.specs.Clock.{ClockData, after_reading, jump_of, moment_read, shift_of}
@@ -121,7 +121,7 @@ module _ {L B H W : Type 0} (below : B → L) (does : L → Call → L → Type 
       (lines-before lines-after : List (ℕ × List ℕ)) (clocks : Clocks) (clock now : ℕ)
       (next : NextInput)
       (shift : Option ClockShift) (device : State) (before : BayView)
-      (old begun told-to new : Writing W) (end : Option RecordEnd) (turn : Turn) (s : State)
+      (old begun told-to new : WriterState W) (end : Option RecordEnd) (turn : Turn) (s : State)
       (jump : ℕ) (count-before count-after : LineCount) (answer : Result ℕ WriteFault)
       → clock-after ≡ after_reading clocks clock-before → clock ≡ clock-after.moment
       → now ≡ moment_at clock held-before
@@ -247,7 +247,7 @@ module _ {L H W : Type 0} (step : L → Call → L → Type 0) (acts : H → Hos
       (host-before host-after : H)
       (process-before : Option (ProcessData L)) (lines-before : List (ℕ × List ℕ)) (clocks : Clocks)
       (clock now : ℕ) (next : NextInput) (shift : Option ClockShift) (device : State) (jump : ℕ)
-      (count : LineCount) (old begun new : Writing W) (fault : ServeFault)
+      (count : LineCount) (old begun new : WriterState W) (fault : ServeFault)
       (answer : Result ℕ WriteFault)
       → clock ≡ moment_read clocks clock-before → now ≡ moment_at clock held
       → shift ≡ shift_of clock-before.side (moment_read clocks clock-before) clocks.system
@@ -308,7 +308,7 @@ module _ {L H W : Type 0} (step : L → Call → L → Type 0) (acts : H → Hos
   -- which fault it is makes no difference
   tells-cut : (now : ℕ) (count : LineCount) (next : NextInput) (before : BayView) (turn : Turn)
       (s : State)
-      (old new : Writing W) (one other : WriteFault)
+      (old new : WriterState W) (one other : WriteFault)
       → ReportsTurn contents asks now count next before turn s old new (Err one)
       → ReportsTurn contents asks now count next before turn s old new (Err other)
   tells-cut now count next before turn s old new one other tells = record {
@@ -325,7 +325,7 @@ module _ {L H W : Type 0} (step : L → Call → L → Type 0) (acts : H → Hos
       by-quiet true stays = let e = stays.1 in absurd cc
       by-quiet false prints = prints
 
-  news-cut : (now : ℕ) (news : Option ConnectionEvent) (old new : Writing W)
+  news-cut : (now : ℕ) (news : Option ConnectionEvent) (old new : WriterState W)
       (one other : WriteFault)
       → ReportsConnectionEvent contents asks now news old new (Err one)
       → ReportsConnectionEvent contents asks now news old new (Err other)
@@ -333,7 +333,7 @@ module _ {L H W : Type 0} (step : L → Call → L → Type 0) (acts : H → Hos
   news-cut now (Some news) old new one other prints = prints
 
   hears-cut : (now : ℕ) (turn : Turn) (s : State) (before after : Option (ProcessData L))
-      (old new : Writing W) (one other : WriteFault)
+      (old new : WriterState W) (one other : WriteFault)
       → PollsProcess step contents asks now turn s before after old new (Err one)
       → PollsProcess step contents asks now turn s before after old new (Err other)
   hears-cut now turn s None None old new one other stays = let e = stays.1 in absurd cc
@@ -347,7 +347,7 @@ module _ {L H W : Type 0} (step : L → Call → L → Type 0) (acts : H → Hos
 
   reports-cut : (now : ℕ) (count : LineCount) (next : NextInput) (seen : BayView) (turn : Turn)
       (s : State)
-      (before after : Option (ProcessData L)) (old new : Writing W) (one other : WriteFault)
+      (before after : Option (ProcessData L)) (old new : WriterState W) (one other : WriteFault)
       → ReportsAndPolls step contents asks now count next seen turn s before after old new (Err one)
       → ReportsAndPolls step contents asks now count next seen turn s before after old new
       (Err other)
@@ -378,7 +378,7 @@ module _ {L H W : Type 0} (step : L → Call → L → Type 0) (acts : H → Hos
   -- its lines could not be printed, so the process was not attended to
   pub report-cut : (now : ℕ) (count : LineCount) (next : NextInput) (seen : BayView) (turn : Turn)
       (s : State)
-      (process : Option (ProcessData L)) (old new : Writing W) (fault : WriteFault)
+      (process : Option (ProcessData L)) (old new : WriterState W) (fault : WriteFault)
       (r : Result ℕ WriteFault) → IsErr r
       → ReportsTurn contents asks now count next seen turn s old new (Err fault)
       → ReportsAndPolls step contents asks now count next seen turn s process process old new r
@@ -392,7 +392,7 @@ module _ {L H W : Type 0} (step : L → Call → L → Type 0) (acts : H → Hos
 
   -- The views are compared only if lines are logged.
   pub reports-seen : (now : ℕ) (count : LineCount) (next : NextInput) (one other : BayView)
-      (turn : Turn) (s : State) (before after : Option (ProcessData L)) (old new : Writing W)
+      (turn : Turn) (s : State) (before after : Option (ProcessData L)) (old new : WriterState W)
       (answer : Result ℕ WriteFault) → MatchBool old.logs (one ≡ other) (Unit {0})
       → ReportsAndPolls step contents asks now count next one turn s before after old new answer
       → ReportsAndPolls step contents asks now count next other turn s before after old new answer
@@ -416,8 +416,8 @@ module _ {L H W : Type 0} (step : L → Call → L → Type 0) (acts : H → Hos
         hears = goes.hears;
       }
 
-  goes-cut : (before : Serving L H) (old : Writing W)
-      (after : Serving L H) (new : Writing W) (one other : WriteFault)
+  goes-cut : (before : Serving L H) (old : WriterState W)
+      (after : Serving L H) (new : WriterState W) (one other : WriteFault)
       → TurnGoes step acts contents asks before old after new (Err one)
       → TurnGoes step acts contents asks before old after new (Err other)
   goes-cut before old after new one other goes = record {
@@ -441,7 +441,7 @@ module _ {L H W : Type 0} (step : L → Call → L → Type 0) (acts : H → Hos
   }
 
   -- its lines could not be written
-  pub tried-cut : (before : Serving L H) (old : Writing W) (after : Serving L H) (new : Writing W)
+  pub tried-cut : (before : Serving L H) (old : WriterState W) (after : Serving L H) (new : WriterState W)
       (fault : WriteFault) (r : Result TurnAttempt WriteFault) → IsErr r
       → TurnGoes step acts contents asks before old after new (Err fault)
       → TriesTurn step acts contents asks before old after new r
@@ -449,7 +449,7 @@ module _ {L H W : Type 0} (step : L → Call → L → Type 0) (acts : H → Hos
   tried-cut before old after new fault (Err f) e goes =
       inl (goes-cut before old after new fault f goes)
 
-  fails-cut : (before : Serving L H) (old : Writing W) (host : H) (new : Writing W)
+  fails-cut : (before : Serving L H) (old : WriterState W) (host : H) (new : WriterState W)
       (one other : WriteFault) → TurnFails step acts contents asks before old host new (Err one)
       → TurnFails step acts contents asks before old host new (Err other)
   fails-cut before old host new one other fails = record {
@@ -462,7 +462,7 @@ module _ {L H W : Type 0} (step : L → Call → L → Type 0) (acts : H → Hos
   }
 
   -- why it was not done could not be written
-  pub failed-cut : (before : Serving L H) (old : Writing W) (after : Serving L H) (new : Writing W)
+  pub failed-cut : (before : Serving L H) (old : WriterState W) (after : Serving L H) (new : WriterState W)
       (fault : WriteFault) (r : Result TurnAttempt WriteFault) → IsErr r
       → TurnFails step acts contents asks before old after.host new (Err fault)
       → TriesTurn step acts contents asks before old after new r
@@ -483,27 +483,27 @@ module _ {L H W : Type 0} (step : L → Call → L → Type 0) (acts : H → Hos
 module _ {L H W : Type 0} (step : L → Call → L → Type 0) (acts : H → HostCall L → H → Type 0)
     (contents : W → Option (List ℕ)) (asks : W → WriteCall → W → Type 0) where
   -- what is left to be served goes on to all of it
-  pub record Reached (turns : ℕ) (before : Serving L H) (old : Writing W) (left : ℕ)
-      (here : Serving L H) (mid : Writing W) : Type 0 where
-    pub goes : (host : H) (new : Writing W) (answer : Result ℕ WriteFault)
+  pub record Reached (turns : ℕ) (before : Serving L H) (old : WriterState W) (left : ℕ)
+      (here : Serving L H) (mid : WriterState W) : Type 0 where
+    pub goes : (host : H) (new : WriterState W) (answer : Result ℕ WriteFault)
         → ServesTurns step acts contents asks left here mid host new answer
         → ServesTurns step acts contents asks turns before old host new answer
 
-  pub Reached-start : (turns : ℕ) (before : Serving L H) (old : Writing W)
+  pub Reached-start : (turns : ℕ) (before : Serving L H) (old : WriterState W)
       → Reached turns before old turns before old
   Reached-start turns before old = record { goes = λ host new answer s. s }
 
-  module _ (turns : ℕ) (before : Serving L H) (old : Writing W) (left more : ℕ)
-      (here : Serving L H) (mid : Writing W)
+  module _ (turns : ℕ) (before : Serving L H) (old : WriterState W) (left more : ℕ)
+      (here : Serving L H) (mid : WriterState W)
       (reached : Reached turns before old left here mid) (e : left ≡ suc more) where
     -- the next is not done
-    Reached-stop : (host : H) (new : Writing W) (answer : Result ℕ WriteFault)
+    Reached-stop : (host : H) (new : WriterState W) (answer : Result ℕ WriteFault)
         → TurnFails step acts contents asks here mid host new answer
         → ServesTurns step acts contents asks turns before old host new answer
     Reached-stop host new answer fails = reached.goes host new answer (rw e (inl fails))
 
     -- one turn was tried, and done
-    pub Reached-done : (after next : Serving L H) (new : Writing W) (t : TurnAttempt)
+    pub Reached-done : (after next : Serving L H) (new : WriterState W) (t : TurnAttempt)
         (was_idle : Bool)
         → t ≡ tried.Done was_idle
         → TriesTurn step acts contents asks here mid after new (Ok t)
@@ -516,7 +516,7 @@ module _ {L H W : Type 0} (step : L → Call → L → Type 0) (acts : H → Hos
     Reached-done after next new (tried.Ends s) was_idle is fails pause = absurd cc
 
     -- it was not done
-    pub Reached-ends : (after : Serving L H) (new : Writing W) (t : TurnAttempt) (status : ℕ)
+    pub Reached-ends : (after : Serving L H) (new : WriterState W) (t : TurnAttempt) (status : ℕ)
         → t ≡ tried.Ends status → TriesTurn step acts contents asks here mid after new (Ok t)
         → ServesTurns step acts contents asks turns before old after.host new (Ok status)
     Reached-ends after new (tried.Done w) status is goes = absurd cc
@@ -529,7 +529,7 @@ module _ {L H W : Type 0} (step : L → Call → L → Type 0) (acts : H → Hos
         status-of (tried.Ends n) = n
 
     -- what is to be printed for it could not be written
-    pub Reached-fails : (after : Serving L H) (new : Writing W) (fault : WriteFault)
+    pub Reached-fails : (after : Serving L H) (new : WriterState W) (fault : WriteFault)
         (r : Result ℕ WriteFault) → IsErr r
         → TriesTurn step acts contents asks here mid after new (Err fault)
         → ServesTurns step acts contents asks turns before old after.host new r
@@ -548,8 +548,8 @@ module _ {L H W : Type 0} (step : L → Call → L → Type 0) (acts : H → Hos
         (fails-cut step acts contents asks here mid after.host new fault f fails)
 
   -- there is none left
-  pub Reached-end : (turns : ℕ) (before : Serving L H) (old : Writing W) (left : ℕ)
-      (here : Serving L H) (mid new : Writing W)
+  pub Reached-end : (turns : ℕ) (before : Serving L H) (old : WriterState W) (left : ℕ)
+      (here : Serving L H) (mid new : WriterState W)
       → Reached turns before old left here mid → left ≡ 0
       → Logs contents asks mid (used_up_log here.held.device.moment) new
       → ServesTurns step acts contents asks turns before old here.host new (Ok 0)

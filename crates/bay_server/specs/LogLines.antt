@@ -9,7 +9,7 @@ use Rattle.bay_io.specs.Moments.{utc_text}
 use Rattle.bay_control.specs.Causes as causes
 use Rattle.bay_control.specs.declared.cause.AddCause.{AddCause}
 use Rattle.bay_device.specs.Device.{State}
-use Rattle.bay_lines.specs.Escaped.{shown_text}
+use Rattle.bay_lines.specs.Escaped.{escaped_text}
 use Rattle.bay_base.specs.declared.switch.Operation.{Operation}
 use Rattle.bay_base.specs.declared.switch.Operation.TheVariants as operations
 use Rattle.bay_nodes.specs.declared.switch.Switch.{Switch}
@@ -141,11 +141,11 @@ id_of s k = unwrap_or (option_map (λ (switch : Switch). switch.id) (slice_get s
 
 -- what was written to a control, with its orIdent escaped, and the decision
 abbrev pub written_line : ℕ → List ℕ → List ℕ → ControlDecision → ControlRequest → List ℕ
-written_line now id ident decision asked =
+written_line now id ident decision request =
     concat (utc_text now ∷ codes " association " ∷ decimal decision.association
-    ∷ service_words decision.part ∷ id ∷ position_words asked.operation ∷ sign_text asked.origin.cat
-    ∷ decimal (unsigned_abs asked.origin.cat) ∷ codes " orIdent="
-    ∷ ident ∷ codes " ctlNum=" ∷ decimal asked.ctl_num
+    ∷ service_words decision.part ∷ id ∷ position_words request.operation ∷ sign_text request.origin.cat
+    ∷ decimal (unsigned_abs request.origin.cat) ∷ codes " orIdent="
+    ∷ ident ∷ codes " ctlNum=" ∷ decimal request.ctl_num
     ∷ verdict_texts decision.answer)
 
 -- a select by a read
@@ -157,12 +157,12 @@ selected_line now id decision =
 -- the line of a decision on what was written, or on a select by a read
 abbrev pub line_of : ℕ → List ℕ → ControlDecision → Option ControlRequest → List ℕ
 line_of now id decision None = selected_line now id decision
-line_of now id decision (Some asked) =
-    written_line now id (shown_text asked.origin.ident) decision asked
+line_of now id decision (Some request) =
+    written_line now id (escaped_text request.origin.ident) decision request
 
 -- the line of a decision
 abbrev pub decision_line : ℕ → State → ControlDecision → List ℕ
-decision_line now s decision = line_of now (id_of s decision.switch) decision decision.asked
+decision_line now s decision = line_of now (id_of s decision.switch) decision decision.request
 
 -- the decisions on what an association requested, if the device handled octets of it
 abbrev pub decisions_log : ℕ → State → Option (List ControlDecision) → List (List ℕ)

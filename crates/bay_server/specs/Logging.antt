@@ -2,11 +2,11 @@
 use Rattle.std.specs.Prelude.{◌≡◌, ℕ, List, [], ◌∷◌, Option}
 use Rattle.bay_io.specs.Calls.{WriteCall}
 use Rattle.bay_io.specs.Sent.{Logs}
-use Rattle.bay_io.specs.Watched.{Writing}
+use Rattle.bay_io.specs.Watched.{WriterState}
 
 -- each of these lines was logged
 abbrev pub LogsAll : {W : Type 0} → (W → Option (List ℕ)) → (W → WriteCall → W → Type 0)
-    → Writing W → List (List ℕ) → Writing W → Type 0
+    → WriterState W → List (List ℕ) → WriterState W → Type 0
 LogsAll contents asks old [] new = new ≡ old
 LogsAll {W} contents asks old (line ∷ lines) new =
-    (mid : Writing W) × Logs contents asks old line mid × LogsAll contents asks mid lines new
+    (mid : WriterState W) × Logs contents asks old line mid × LogsAll contents asks mid lines new

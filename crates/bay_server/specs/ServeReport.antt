@@ -4,7 +4,7 @@ use Rattle.std.specs.Prelude.{◌≡◌, ℕ, zero, suc, ◌+◌, List, ◌∷�
 use Rattle.std.specs.Borrow.{Bor}
 use Rattle.bay_device.specs.Device.{State}
 use Rattle.bay_io.specs.Sent.{Logs}
-use Rattle.bay_io.specs.Watched.{Writing}
+use Rattle.bay_io.specs.Watched.{WriterState}
 use Rattle.bay_io.specs.declared.outbox.WriteFault.{WriteFault}
 use Rattle.bay_server.specs.Clock.{ClockData, after_reading, jump_of, moment_read, shift_of}
 use Rattle.bay_server.specs.Host.{HostCall, Tells, Pauses}
@@ -16,7 +16,7 @@ use Rattle.bay_server.specs.ConnectionLines.{count_after}
 use Rattle.bay_server.specs.LogLines.{connection_event_log, shift_log, unserved_log, used_up_log}
 use Rattle.bay_server.specs.RecordLine.{record_log}
 use Rattle.bay_process_port.specs.Polling.{Attends, attendance}
-use Rattle.bay_lines.specs.Escaped.{shown_text}
+use Rattle.bay_lines.specs.Escaped.{escaped_text}
 use Rattle.bay_process_port.specs.Ports.{PortData, shown_line, reading_at, loss_reading}
 use Rattle.bay_process_port.specs.ProcessOutput.{reported_turn}
 use Rattle.bay_process_port.specs.declared.connection_event.ConnectionEvent.{ConnectionEvent}
@@ -43,13 +43,13 @@ line_view None = None
 line_view (Some line) = Some (line.0, line.1.now)
 
 -- a writer is not used
-abbrev pub Stays : {W : Type 0} → Writing W → Writing W → Result ℕ WriteFault → Type 0
+abbrev pub Stays : {W : Type 0} → WriterState W → WriterState W → Result ℕ WriteFault → Type 0
 Stays old new answer = (new ≡ old) × (answer ≡ Ok 0)
 
 -- the lines of a turn are printed and flushed; if there are none, the writer is not used
 abbrev pub PrintsTurn : {W : Type 0} → (W → Option (List ℕ)) → (W → WriteCall → W → Type 0) → ℕ
-    → Turn → State → Writing W
-    → Writing W → Result ℕ WriteFault → Type 0
+    → Turn → State → WriterState W
+    → WriterState W → Result ℕ WriteFault → Type 0
 PrintsTurn contents asks now turn s old new answer =
     MatchBool (is_quiet turn) (Stays old new answer)
     (Prints contents asks (IsLast (turn_text now turn s) 0) old new answer)
@@ -58,16 +58,16 @@ PrintsTurn contents asks now turn s old new answer =
 pub record ReportsTurn {W : Type 0} (contents : W → Option (List ℕ))
     (asks : W → WriteCall → W → Type 0)
     (now : ℕ) (count : LineCount) (next : NextInput) (before : BayView) (turn : Turn) (s : State)
-    (old new : Writing W) (answer : Result ℕ WriteFault) : Type 0 where
-  pub mid : Writing W
+    (old new : WriterState W) (answer : Result ℕ WriteFault) : Type 0 where
+  pub mid : WriterState W
   pub logged : LogsAll contents asks old (turn_log now count next before s turn) mid
   pub printed : PrintsTurn contents asks now turn s mid new answer
 
 -- why a turn is refused is logged, printed and flushed
 pub record ReportsTurnRefusal {W : Type 0} (contents : W → Option (List ℕ))
     (asks : W → WriteCall → W → Type 0) (fault : ServeFault) (number : ℕ) (shown : List ℕ)
-    (old new : Writing W) (answer : Result ℕ WriteFault) : Type 0 where
-  pub mid : Writing W
+    (old new : WriterState W) (answer : Result ℕ WriteFault) : Type 0 where
+  pub mid : WriterState W
   pub logged : Logs contents asks old (unserved_log fault number shown) mid
   pub printed : Prints contents asks (IsLast (turn_refusal_text fault number) 3) mid new answer
 
@@ -122,7 +122,7 @@ with_loss is_lost (Ok given) =
 abbrev pub next_by : State → Bool → ℕ × List ℕ → NextInput
 next_by s is_lost line = record {
   number = line.0;
-  shown = shown_text line.1;
+  shown = escaped_text line.1;
   given = with_loss is_lost (turn_input_of_line s line.1);
 }
 
@@ -176,7 +176,7 @@ choice_of clocks b =
 -- The host's clocks were read. If the side of the system's time changed, that was logged.
 pub record ReadsClocks {L H W : Type 0} (acts : H → HostCall L → H → Type 0)
     (contents : W → Option (List ℕ)) (asks : W → WriteCall → W → Type 0) (clocks : Clocks)
-    (before : Serving L H) (host : H) (old new : Writing W) : Type 0 where
+    (before : Serving L H) (host : H) (old new : WriterState W) : Type 0 where
   pub told : acts before.host (Tells clocks.system clocks.steady) host
   pub logged : LogsAll contents asks old (shift_log (moment_of clocks before)
       (shift_of before.clock.side (moment_read clocks before.clock) clocks.system)) new
@@ -190,18 +190,18 @@ MayPause acts before after = (after ≡ before)
 -- an event of the process's connection is logged, printed and flushed
 abbrev pub ReportsConnectionEvent : {W : Type 0} → (W → Option (List ℕ))
     → (W → WriteCall → W → Type 0) → ℕ
-    → Option ConnectionEvent → Writing W
-    → Writing W → Result ℕ WriteFault → Type 0
+    → Option ConnectionEvent → WriterState W
+    → WriterState W → Result ℕ WriteFault → Type 0
 ReportsConnectionEvent contents asks now None old new answer = Stays old new answer
 ReportsConnectionEvent {W} contents asks now (Some news) old new answer =
-    (mid : Writing W) × Logs contents asks old (connection_event_log now news) mid
+    (mid : WriterState W) × Logs contents asks old (connection_event_log now news) mid
     × Prints contents asks (IsLast (connection_event_text now news) 0) mid new answer
 
 module _ {L W : Type 0} (step : L → Call → L → Type 0) (contents : W → Option (List ℕ))
     (asks : W → WriteCall → W → Type 0) where
   -- the process's connection is served, if there is one, and its event is reported
   pub record AttendsTo (now : ℕ) (turn : Turn) (s : State) (before after : ProcessData L)
-      (old new : Writing W) (answer : Result ℕ WriteFault) : Type 0 where
+      (old new : WriterState W) (answer : Result ℕ WriteFault) : Type 0 where
     pub news : Option ConnectionEvent
     pub attends : Attends step
         (λ script. attendance (reported_turn now turn s) s script before.port)
@@ -211,8 +211,8 @@ module _ {L W : Type 0} (step : L → Call → L → Type 0) (contents : W → O
   -- The process's connection is served, if there is a process; without one the writer stays as it
   -- is.
   abbrev pub PollsProcess : ℕ → Turn → State → Option (ProcessData L) → Option (ProcessData L)
-      → Writing W
-      → Writing W → Result ℕ WriteFault → Type 0
+      → WriterState W
+      → WriterState W → Result ℕ WriteFault → Type 0
   PollsProcess now turn s None None old new answer = Stays old new answer
   PollsProcess now turn s None (Some after) old new answer = ⊥
   PollsProcess now turn s (Some before) None old new answer = ⊥
@@ -222,9 +222,9 @@ module _ {L W : Type 0} (step : L → Call → L → Type 0) (contents : W → O
   -- What a turn reports is logged and printed, and then the process is attended to; or the lines
   -- could not be printed.
   pub record ReportsAndPolls (now : ℕ) (count : LineCount) (next : NextInput) (seen : BayView)
-      (turn : Turn) (s : State) (before after : Option (ProcessData L)) (old new : Writing W)
+      (turn : Turn) (s : State) (before after : Option (ProcessData L)) (old new : WriterState W)
       (answer : Result ℕ WriteFault) : Type 0 where
-    pub between : Writing W
+    pub between : WriterState W
     pub outcome : Result ℕ WriteFault
     pub printed : ReportsTurn contents asks now count next seen turn s old between outcome
     pub hears : AfterTurn outcome
@@ -235,10 +235,10 @@ module _ {L H W : Type 0} (step : L → Call → L → Type 0) (acts : H → Hos
     (contents : W → Option (List ℕ)) (asks : W → WriteCall → W → Type 0) where
   -- The clock was read for the moment of a turn, and the input of the turn was chosen. The turn was
   -- refused: the reason is reported, and nothing has changed.
-  pub record TurnFails (before : Serving L H) (old : Writing W) (host : H) (new : Writing W)
+  pub record TurnFails (before : Serving L H) (old : WriterState W) (host : H) (new : WriterState W)
       (answer : Result ℕ WriteFault) : Type 0 where
     pub clocks : Clocks
-    pub begun : Writing W
+    pub begun : WriterState W
     pub asked : ReadsClocks acts contents asks clocks before host old begun
     pub fault : ServeFault
     pub is : turn_refusal (moment_read clocks before.clock) (choice_of clocks before).next.given
@@ -249,10 +249,10 @@ module _ {L H W : Type 0} (step : L → Call → L → Type 0) (acts : H → Hos
   -- The clock was read, the input of the turn was chosen, the turn was done, its report was
   -- printed, and the process was attended to; or it could not be printed. Then the record was
   -- written: if it has ended, that was logged.
-  pub record TurnGoes (before : Serving L H) (old : Writing W) (after : Serving L H)
-      (new : Writing W) (answer : Result ℕ WriteFault) : Type 0 where
+  pub record TurnGoes (before : Serving L H) (old : WriterState W) (after : Serving L H)
+      (new : WriterState W) (answer : Result ℕ WriteFault) : Type 0 where
     pub clocks : Clocks
-    pub begun : Writing W
+    pub begun : WriterState W
     pub asked : ReadsClocks acts contents asks clocks before after.host old begun
     pub clock : after.clock ≡ after_reading clocks before.clock
     pub lines : after.lines ≡ (choice_of clocks before).lines
@@ -261,7 +261,7 @@ module _ {L H W : Type 0} (step : L → Call → L → Type 0) (acts : H → Hos
         before.held ≡ None
     pub serves : Serves step before.link after.link (moment_of clocks before)
         (reported_in (choice_of clocks before).next.given) before.held after.held turn
-    pub told : Writing W
+    pub told : WriterState W
     pub reports : ReportsAndPolls step contents asks (moment_of clocks before) before.count
         (choice_of clocks before).next (bay_seen before.held.device) turn after.held.device
         (choice_of clocks before).process after.process begun told answer
@@ -271,14 +271,14 @@ module _ {L H W : Type 0} (step : L → Call → L → Type 0) (acts : H → Hos
 
   -- `turns` turns are served: all of them, which is logged; up to one that is refused; or up to one
   -- whose lines could not be written.
-  abbrev pub ServesTurns : ℕ → Serving L H → Writing W → H → Writing W → Result ℕ WriteFault
+  abbrev pub ServesTurns : ℕ → Serving L H → WriterState W → H → WriterState W → Result ℕ WriteFault
       → Type 0
   ServesTurns zero before old host new answer =
       (host ≡ before.host) × Logs contents asks old (used_up_log before.held.device.moment) new
       × (answer ≡ Ok 0)
   ServesTurns (suc turns) before old host new answer =
       TurnFails before old host new answer
-      ⊎ ((after : Serving L H) × (mid : Writing W) × (told : Result ℕ WriteFault)
+      ⊎ ((after : Serving L H) × (mid : WriterState W) × (told : Result ℕ WriteFault)
       × TurnGoes before old after mid told
       × AfterTurn told ((host ≡ after.host) × (new ≡ mid) × (answer ≡ told))
       ((next : Serving L H) × MayPause acts after next

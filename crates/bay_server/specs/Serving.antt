@@ -1,7 +1,7 @@
 -- The result of trying one turn.
 use Rattle.bay_io.specs.Calls.{WriteCall}
 use Rattle.std.specs.Prelude.{ℕ, List, Option, Result, Ok, Err, ◌⊎◌}
-use Rattle.bay_io.specs.Watched.{Writing}
+use Rattle.bay_io.specs.Watched.{WriterState}
 use Rattle.bay_io.specs.declared.outbox.WriteFault.{WriteFault}
 use Rattle.bay_server.specs.Host.{HostCall}
 use Rattle.bay_server.specs.ServeReport.{Serving, TurnFails, TurnGoes}
@@ -26,7 +26,7 @@ module _ {L H W : Type 0} (step : L → Call → L → Type 0) (acts : H → Hos
     (contents : W → Option (List ℕ)) (asks : W → WriteCall → W → Type 0) where
   -- a turn was done, or it was refused, and what must be printed for it was; or that could not be
   -- written
-  abbrev pub TriesTurn : Serving L H → Writing W → Serving L H → Writing W
+  abbrev pub TriesTurn : Serving L H → WriterState W → Serving L H → WriterState W
       → Result TurnAttempt WriteFault → Type 0
   TriesTurn before old after new (Ok (tried.Done was_idle)) =
       (status : ℕ) × TurnGoes step acts contents asks before old after new (Ok status)

@@ -88,10 +88,10 @@ fn log_written<'a, W: Sink>(
     id: &'a [u8],
     ident: &'a [u8],
     decision: &ControlDecision,
-    asked: &ControlRequest,
+    request: &ControlRequest,
 )
     ensures { Logs W.contents W.does writer.old
-        (written_line moment id.now ident.now decision.now asked.now) writer.new }
+        (written_line moment id.now ident.now decision.now request.now) writer.new }
 {
     let (verdict, number, colon, cause) = verdict_parts(decision.answer);
     writer.log(&[
@@ -100,13 +100,13 @@ fn log_written<'a, W: Sink>(
         LinePart::Number(u64::from(decision.association)),
         LinePart::Text(service_words(decision.part)),
         LinePart::Text(id),
-        LinePart::Text(position_words(asked.operation)),
-        LinePart::Text(sign(asked.origin.cat)),
-        LinePart::Number(u64::from(asked.origin.cat.unsigned_abs())),
+        LinePart::Text(position_words(request.operation)),
+        LinePart::Text(sign(request.origin.cat)),
+        LinePart::Number(u64::from(request.origin.cat.unsigned_abs())),
         LinePart::Text(b" orIdent="),
         LinePart::Text(ident),
         LinePart::Text(b" ctlNum="),
-        LinePart::Number(u64::from(asked.ctl_num)),
+        LinePart::Number(u64::from(request.ctl_num)),
         verdict,
         number,
         colon,
@@ -151,10 +151,10 @@ fn log_decision<W: Sink>(
         writer.new }
 {
     let id = id(device, decision.switch);
-    match &decision.asked {
-        Some(asked) => {
-            let ident = EscapedText::new(asked.origin.ident.as_slice());
-            log_written(writer, moment, id, ident.as_slice(), decision, asked)
+    match &decision.request {
+        Some(request) => {
+            let ident = EscapedText::new(request.origin.ident.as_slice());
+            log_written(writer, moment, id, ident.as_slice(), decision, request)
         }
         None => log_selected(writer, moment, id, decision),
     }
@@ -197,13 +197,13 @@ pub fn log_controls<W: Sink>(
     writer: &mut WatchedWriter<W>,
     device: &Device,
     moment: u64,
-    asked: &[Option<Listing<ControlDecision>>],
+    request: &[Option<Listing<ControlDecision>>],
 )
     ensures { LogsAll W.contents W.does writer.old
-        (flat_map (decisions_log moment device.now) asked.now)
+        (flat_map (decisions_log moment device.now) request.now)
         writer.new }
 {
-    for decisions in asked {
+    for decisions in request {
         log_requests(writer, device, moment, decisions);
     }
 }

@@ -7,7 +7,7 @@ use Rattle.bay_server_turn.specs.Served.{Performs, PerformsEach, Offers, Opens, 
 use Rattle.bay_server_turn.specs.AssociationStates.{is_draining}
 use Rattle.bay_server_turn.specs.Turns.{ServerData, TurnData, Script, TurnState, accept_calls_at, after_accept, after_each, after_first, after_line, first_of, after_reads, after_scan, turn_begin, calls_of_each, close_at_once, lowest_free_association, calls_on_read, after_end, is_up, line_calls, with_line, offer_calls, offer_end, offer_of, offer_one, on_accept, on_read, opening_at, after_opening, after_closing, queue_of, read_calls, read_one, scan_calls, after_turn_scan, after_closing_full, calls_closing_full, state_at, after_turn, turn_state, with_queue}
 use Rattle.bay_server_turn.specs.declared.link.ReadResult.{ReadResult}
-use Rattle.bay_device.specs.Device.{over_at}
+use Rattle.bay_device.specs.Device.{expired_at}
 use Rattle.bay_server_turn.specs.declared.process_input.ProcessEvent.{ProcessEvent}
 use Rattle.bay_server_turn.specs.declared.process_input.ProcessReport.{ProcessReport}
 use Rattle.bay_server_turn.specs.declared.turn_report.CloseReason.TheVariants.{LinkFailed}
@@ -228,7 +228,7 @@ module _ {L : Type 0} (step : L → Call → L → Type 0) where
       → MakesCalls step m (line_calls now given.event t) p → u ≡ with_line now given.event t
       → MakesCalls step p (scan_calls now u) q → v ≡ after_turn_scan now u
       → PerformsEach step (offer_one now) (offer_calls now) q new 8 v (turn_state after noted)
-      → over ≡ over_at now before.device
+      → over ≡ expired_at now before.device
       → turn ≡ record {
         opened = opened;
         over = over;
@@ -307,7 +307,7 @@ module _ {L : Type 0} (step : L → Call → L → Type 0) where
       → MakesCalls step m (line_calls now given.event t) p → u ≡ with_line now given.event t
       → MakesCalls step p (scan_calls now u) q → v ≡ after_turn_scan now u
       → PerformsEach step (offer_one now) (offer_calls now) q new 8 v (turn_state after noted)
-      → over ≡ over_at now before.device
+      → over ≡ expired_at now before.device
       → turn ≡ record {
         opened = opened;
         over = over;

@@ -2,7 +2,7 @@
 use Rattle.std.specs.Prelude.{◌≡◌, ℕ, nat_lt, Bool, false, true, List, ◌++◌, length, drop, Option, Some, None, option_and_then, option_map, unwrap_or, Result, Ok, Err, if◌then◌else◌}
 use Rattle.std.specs.Borrow.{Bor}
 use Rattle.std.specs.declared.net.socket_addr.SocketAddrV4.{SocketAddrV4}
-use Rattle.bay_device.specs.Device.{State, over_at}
+use Rattle.bay_device.specs.Device.{State, expired_at}
 use Rattle.bay_device.specs.LookUps.{input_index, meter_index, switch_index}
 use Rattle.bay_device.specs.Outcomes.{associations, last_moment}
 use Rattle.bay_trace.specs.Trace.{LineData, NamedData, blank, at_moment, connects, receives, disconnects, contact, input, measure, bad_measure, lost, scan, process_of, trace_line_of}
@@ -154,7 +154,7 @@ module _ {L : Type 0} (step : L → Call → L → Type 0) where
     pub talks : MakesCalls step old (turn_calls now given script before) new
     pub server : after ≡ (after_turn now given script before).server
     pub opened : turn.opened ≡ opening_of script.accepted before
-    pub over : turn.over ≡ over_at now before.device
+    pub over : turn.over ≡ expired_at now before.device
     pub refused : turn.refused ≡ (after_turn now given script before).noted.refused
     pub commands : turn.commands ≡ (after_turn now given script before).noted.commands
     pub decisions : turn.decisions ≡ (after_turn now given script before).noted.decisions

@@ -3,7 +3,7 @@ ghost use Rattle.std.specs.Prelude.{◌≡◌};
 ghost use Rattle.bay_server_turn.specs.Supervised.{timed_line_of};
 
 use crate::process_input::{ProcessEvent, resolve_process_event};
-use bay_base::decimal::decimal;
+use bay_base::decimal::read_decimal;
 use bay_device::device::Device;
 use bay_trace::trace::{TraceLine, read_trace_line};
 
@@ -23,7 +23,7 @@ pub fn read_timed_line(device: &Device, line: &[u8]) -> Option<TimedLine>
     ensures { result ≡ timed_line_of device.now line.now }
 {
     if let Some(digits) = line.strip_suffix(b" alive") {
-        let moment = decimal(digits)?;
+        let moment = read_decimal(digits)?;
         return Some(TimedLine {
             moment,
             event: None,

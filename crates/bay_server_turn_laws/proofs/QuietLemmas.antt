@@ -5,7 +5,7 @@ use Rattle.bay_nodes.specs.declared.switch.Switch.{Switch}
 use Rattle.bay_base.specs.declared.point.MeterField.{MeterField}
 use Rattle.bay_connection.specs.ConnectionStates.{ConnectionState}
 use Rattle.bay_device.specs.Device.{State}
-use Rattle.bay_device.specs.Outcomes.{Outcome, close_outcome, connection_at, contact_outcome, event_outcome, doubt_outcome, input_outcome, last_moment, measure_outcome, octets_outcome, open_outcome, outcome, slot_of, recv_outcome, refusal_of}
+use Rattle.bay_device.specs.Outcomes.{Outcome, close_outcome, connection_at, contact_outcome, event_outcome, bad_measure_outcome, input_outcome, last_moment, measure_outcome, octets_outcome, open_outcome, outcome, slot_of, recv_outcome, refusal_outcome}
 use Rattle.bay_device.specs.Steps.{IsWithoutOctets}
 use Rattle.bay_device.specs.declared.event.Event.{Event}
 use Rattle.bay_device.specs.declared.event.Event.TheVariants.{Open, Recv, Close, Contact, Input, Measure, BadMeasure, Lost, Scan}
@@ -44,7 +44,7 @@ measure-quiet now k field value s None = tt
 measure-quiet now k field value s (Some id) = record { sent = refl; commands = refl; closed = refl }
 
 bad-measure-quiet : (now k : ℕ) (field : MeterField) (s : State) (id : Option (List ℕ))
-    → IsQuiet (doubt_outcome now k field s id).answer
+    → IsQuiet (bad_measure_outcome now k field s id).answer
 bad-measure-quiet now k field s None = tt
 bad-measure-quiet now k field s (Some id) =
     record { sent = refl; commands = refl; closed = refl }
@@ -86,15 +86,15 @@ event-quiet choice now Scan s h = record { sent = refl; commands = refl; closed 
 
 -- what holds of a refusal and of what else an event does holds of it at any moment
 pub at_any_moment : (P : Outcome → Type 0) (choice : Option ℕ) (now : ℕ) (event : Event) (s : State)
-    → ((fault : StepFault) → P (refusal_of fault s)) → P (event_outcome choice now event s)
+    → ((fault : StepFault) → P (refusal_outcome fault s)) → P (event_outcome choice now event s)
     → P (outcome choice now event s)
 at_any_moment P choice now event s f g =
     elim (nat_lt last_moment now) as
-    (λ b. P (if b then refusal_of MomentTooLarge s else if nat_lt now s.moment
-    then refusal_of TimeWentBack s else event_outcome choice now event s)) [
+    (λ b. P (if b then refusal_outcome MomentTooLarge s else if nat_lt now s.moment
+    then refusal_outcome TimeWentBack s else event_outcome choice now event s)) [
       | true ↦ f MomentTooLarge
       | false ↦ elim (nat_lt now s.moment) as
-          (λ b. P (if b then refusal_of TimeWentBack s else event_outcome choice now event s))
+          (λ b. P (if b then refusal_outcome TimeWentBack s else event_outcome choice now event s))
           [ true ↦ f TimeWentBack | false ↦ g ]
     ]
 

@@ -4,11 +4,11 @@ use Rattle.std.proofs.lemmas.Bool.{and_left, le-ltb, lt-ltb}
 use Rattle.bay_base.specs.declared.point.MeterField.{MeterField}
 use Rattle.bay_base.specs.declared.position.Dbpos.{Dbpos}
 use Rattle.bay_nodes.specs.declared.switch.Switch.{Switch}
-use Rattle.bay_connection.specs.ConnectionStates.{Indication, ConnectionState, answers, ends, fails, indications, connection_after, releases, tells}
+use Rattle.bay_connection.specs.ConnectionStates.{Indication, ConnectionState, answers, ends, fails, indications, connection_after, releases, delivers}
 use Rattle.bay_device.proofs.LostLemmas.{Fixed, lost-fixed}
-use Rattle.bay_device.specs.Device.{State, device_at, ended_at}
-use Rattle.bay_device.specs.Receiving.{ReceiveResult, Done, after_indications, after_pdu, on_indication, with_sent}
-use Rattle.bay_device.specs.Outcomes.{Outcome, close_outcome, closed_by, connection_at, contact_outcome, doubt_outcome, event_outcome, initial_connection, input_outcome, last_moment, lost_outcome, measure_outcome, nothing_done, open_outcome, outcome, slot_of, recv_after, recv_done, recv_outcome, refusal_of, with_connection, without_connection, without_owner}
+use Rattle.bay_device.specs.Device.{State, device_at, expiry_report}
+use Rattle.bay_device.specs.Receiving.{ReceiveResult, StepState, after_indications, after_pdu, on_indication, with_sent}
+use Rattle.bay_device.specs.Outcomes.{Outcome, close_outcome, closed_by, connection_at, contact_outcome, bad_measure_outcome, event_outcome, initial_connection, input_outcome, last_moment, lost_outcome, measure_outcome, step_start, open_outcome, outcome, slot_of, recv_after, recv_done, recv_outcome, refusal_outcome, with_connection, without_connection, without_owner}
 use Rattle.bay_device.specs.declared.event.Event.{Event}
 use Rattle.bay_device.specs.declared.event.Event.TheVariants.{BadMeasure, Close, Contact, Input, Lost, Measure, Open, Recv, Scan}
 use Rattle.bay_device.specs.declared.event.Sent.{Sent}
@@ -92,11 +92,11 @@ Keeps-trans : (now : ℕ) (s t u : State) → Keeps now s t → Keeps now t u �
 Keeps-trans now s t u a b =
     record { connections = b.connections ∙ a.connections; moment = λ h. b.moment (a.moment h) }
 
-said-keeps : (now a : ℕ) (i : Indication) (d : Done) (later : Done → ReceiveResult)
-    → ((e : Done) → Keeps now e.state (later e).done.state)
+said-keeps : (now a : ℕ) (i : Indication) (d : StepState) (later : StepState → ReceiveResult)
+    → ((e : StepState) → Keeps now e.state (later e).done.state)
     → Keeps now d.state (on_indication now a i d later).done.state
 said-keeps now a (answers octets) d later h = h (with_sent a octets d)
-said-keeps now a (tells terms pdu) d later h =
+said-keeps now a (delivers terms pdu) d later h =
     let e = after_pdu now a terms pdu d in
     Keeps-trans now d.state e.state (later e).done.state
     (record { connections = refl; moment = λ h. h }) (h e)
@@ -104,7 +104,7 @@ said-keeps now a (releases octets) d later h = Keeps-refl now d.state
 said-keeps now a ends d later h = Keeps-refl now d.state
 said-keeps now a (fails code) d later h = Keeps-refl now d.state
 
-heard-keeps : (choice : Option ℕ) (now a : ℕ) (is : List Indication) (d : Done)
+heard-keeps : (choice : Option ℕ) (now a : ℕ) (is : List Indication) (d : StepState)
     → Keeps now d.state (after_indications choice now a is d).done.state
 heard-keeps None now a [] d = Keeps-refl now d.state
 heard-keeps None now a (i ∷ is) d =
@@ -170,7 +170,7 @@ measure-keeps now k field value s (Some id) =
     record { connections = refl; moment = λ h. omega arith }
 
 bad-measure-keeps : (now k : ℕ) (field : MeterField) (s : State) (id : Option (List ℕ))
-    → Keeps now s (doubt_outcome now k field s id).after
+    → Keeps now s (bad_measure_outcome now k field s id).after
 bad-measure-keeps now k field s None = Keeps-refl now s
 bad-measure-keeps now k field s (Some id) = record { connections = refl; moment = λ h. omega arith }
 
@@ -205,7 +205,7 @@ recv-moment : (choice : Option ℕ) (now a : ℕ) (octets : List ℕ) (s : State
 recv-moment choice now a octets s None h = h
 recv-moment choice now a [] s (Some talk) h = omega arith
 recv-moment choice now a (octet ∷ octets) s (Some talk) h =
-    let d = nothing_done (device_at now s) in
+    let d = step_start (device_at now s) in
     let x = after_indications choice now a (indications talk (octet ∷ octets)) d in
     let keeps = heard-keeps choice now a (indications talk (octet ∷ octets)) d in
     after-moment now a (connection_after talk (octet ∷ octets)) x.done.state x.why
@@ -268,10 +268,10 @@ in_time : (choice : Option ℕ) (now : ℕ) (event : Event) (s : State) → now 
     → s.moment ≤ now
     → outcome choice now event s ≡ event_outcome choice now event s
 in_time choice now event s h g =
-    ap (λ b. if b then refusal_of MomentTooLarge s else if nat_lt now s.moment
-    then refusal_of TimeWentBack s else event_outcome choice now event s)
+    ap (λ b. if b then refusal_outcome MomentTooLarge s else if nat_lt now s.moment
+    then refusal_outcome TimeWentBack s else event_outcome choice now event s)
     (le-ltb last_moment now h)
-    ∙ ap (λ b. if b then refusal_of TimeWentBack s else event_outcome choice now event s)
+    ∙ ap (λ b. if b then refusal_outcome TimeWentBack s else event_outcome choice now event s)
     (le-ltb now s.moment g)
 
 up-set : (ts : List (Option ConnectionState)) (i : ℕ) (t : ConnectionState) → i < length ts
@@ -348,7 +348,7 @@ recv-far : (choice : Option ℕ) (now i p : ℕ) (octets : List ℕ) (s : State)
 recv-far choice now i p octets s None n = refl
 recv-far choice now i p [] s (Some talk) n = refl
 recv-far choice now i p (octet ∷ octets) s (Some talk) n =
-    let d = nothing_done (device_at now s) in
+    let d = step_start (device_at now s) in
     let x = after_indications choice now (i + 1) (indications talk (octet ∷ octets)) d in
     let keeps = heard-keeps choice now (i + 1) (indications talk (octet ∷ octets)) d in
     after-far now i p (connection_after talk (octet ∷ octets)) x.done.state x.why n
@@ -394,10 +394,10 @@ recv-here : (choice : Option ℕ) (now p : ℕ) (octets : List ℕ) (s : State)
 recv-here choice now p octets s None h up = up
 recv-here choice now p [] s (Some talk) h up = up
 recv-here choice now p (octet ∷ octets) s (Some talk) h up =
-    let d = nothing_done (device_at now s) in
+    let d = step_start (device_at now s) in
     let x = after_indications choice now (p + 1) (indications talk (octet ∷ octets)) d in
     let keeps = heard-keeps choice now (p + 1) (indications talk (octet ∷ octets)) d in
-    after-here now p (connection_after talk (octet ∷ octets)) (ended_at now s) x x.why h
+    after-here now p (connection_after talk (octet ∷ octets)) (expiry_report now s) x x.why h
     (ap (up_in p) keeps.connections ∙ up) refl
 
 pub recv-outcome-here : (choice : Option ℕ) (now p : ℕ) (octets : List ℕ) (s : State) → p < 8

@@ -3,9 +3,9 @@ use Rattle.std.proofs.Common.{◌≡◌, ℕ, suc, ◌+◌, ◌<◌, ◌≤◌, 
 use Rattle.std.proofs.Math.Seq.{drop-cons}
 use Rattle.std.proofs.lemmas.Bool.Decides.{nat_tests}
 use Rattle.bay_io.specs.Calls.{part_text, parts_text}
-use Rattle.bay_io.specs.Sent.{has_room}
+use Rattle.bay_io.specs.Sent.{fits_buffer}
 use Rattle.bay_io.specs.declared.calls.LinePart.{LinePart}
-use Rattle.bay_stdio.specs.Log.{Keeps}
+use Rattle.bay_stdio.specs.Log.{AppendsIfFits}
 
 -- of a text, all but the rest was added to what waits
 pub record Added (before whole rest now : List ℕ) : Type 0 where
@@ -36,8 +36,8 @@ parts-turn parts k part is lt =
 
 -- all was added
 pub Keeps-all : {before whole now : List ℕ} → Added before whole [] now → length now ≤ 65536
-    → Keeps before whole now true
-Keeps-all {before} {whole} {now} a within = record {
+    → AppendsIfFits before whole now true
+AppendsIfFits-all {before} {whole} {now} a within = record {
   fitted = sym (grind (arith, nat_tests, ap length same));
   whole = λ e. same;
   part = (whole, same);
@@ -48,9 +48,9 @@ Keeps-all {before} {whole} {now} a within = record {
 
 -- a part did not fit
 pub Keeps-part : {before whole rest now : List ℕ} (part more : List ℕ)
-    → Added before whole rest now → rest ≡ part ++ more → has_room now part ≡ false
-    → Keeps before whole now false
-Keeps-part {before} {whole} {rest} {now} part more a e full = record {
+    → Added before whole rest now → rest ≡ part ++ more → fits_buffer now part ≡ false
+    → AppendsIfFits before whole now false
+AppendsIfFits-part {before} {whole} {rest} {now} part more a e full = record {
   fitted = sym (grind (
     arith,
     nat_tests,

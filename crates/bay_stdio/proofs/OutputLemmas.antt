@@ -4,7 +4,7 @@ use Rattle.std.proofs.KnownBytes.{Appends-trans}
 use Rattle.std.proofs.lemmas.Bool.Decides.{nat_tests}
 use Rattle.std.specs.Io.KnownBytes.{WriteAppends, append_known}
 use Rattle.bay_io.specs.Sent.{Sends}
-use Rattle.bay_stdio.specs.Output.{written}
+use Rattle.bay_stdio.specs.Output.{written_octets}
 
 known-nil : (known : Option (List ℕ)) → append_known known [] ≡ known
 known-nil None = refl
@@ -13,7 +13,7 @@ known-nil (Some xs) = ap Some (append-nil xs)
 -- without a queue all is written
 pub unqueued : {E : Type 0} (queue old new : Option (List ℕ)) (r : Result ℕ E) (octets : List ℕ)
     → queue ≡ None → WriteAppends old new r octets
-    → WriteAppends (written old queue) (written new queue) r octets
+    → WriteAppends (written_octets old queue) (written_octets new queue) r octets
 unqueued queue old new r octets none w = rw (none, known-nil old, known-nil new) w
 
 -- a front was taken, and then more

@@ -17,7 +17,7 @@ abbrev pub queued_with_line : LogData → List ℕ → List ℕ
 queued_with_line log line = log.waiting ++ (notice log.lost ++ line)
 
 -- A text was appended whole; or a part of it, if it does not fit into 65,536 octets.
-pub record Keeps (before text after : List ℕ) (fits : Bool) : Type 0 where
+pub record AppendsIfFits (before text after : List ℕ) (fits : Bool) : Type 0 where
   pub fitted : fits ≡ nat_le (length (before ++ text)) 65536
   pub whole : fits ≡ true → after ≡ before ++ text
   pub part : (added : List ℕ) × (after ≡ before ++ added)

@@ -1,9 +1,9 @@
 // Lines that wait to be logged.
 ghost use Rattle.std.specs.Prelude.{◌≡◌, ◌≤◌, ◌++◌, [], is_ok, length, if◌then◌else◌};
 ghost use Rattle.bay_io.specs.Calls.{part_text, parts_text};
-ghost use Rattle.bay_io.specs.Sent.{has_room};
-ghost use Rattle.bay_stdio.specs.Log.{Keeps, notice, with_line};
-ghost use Rattle.bay_stdio.specs.Offers.{Empties};
+ghost use Rattle.bay_io.specs.Sent.{fits_buffer};
+ghost use Rattle.bay_stdio.specs.Log.{AppendsIfFits, notice, with_line};
+ghost use Rattle.bay_stdio.specs.Offers.{OffersQueue};
 
 use crate::offer::{WriteProgress, write_available};
 use bay_io::calls::{LinePart, Sink};
@@ -29,8 +29,8 @@ impl Model for Log {
 }
 
 // Appends a part of a line if it fits. Returns whether it fitted.
-fn keep_part(waiting: &mut Outbox, part: LinePart<'_>) -> bool
-    ensures fits { result ≡ has_room waiting.old (part_text part.entry) }
+fn append_part(waiting: &mut Outbox, part: LinePart<'_>) -> bool
+    ensures fits { result ≡ fits_buffer waiting.old (part_text part.entry) }
     ensures after { waiting.new
         ≡ (if result then waiting.old ++ part_text part.entry else waiting.old) }
 {
@@ -42,12 +42,12 @@ fn keep_part(waiting: &mut Outbox, part: LinePart<'_>) -> bool
 }
 
 // Appends the parts of a line up to the first that does not fit. Returns whether all fitted.
-fn keep_parts(waiting: &mut Outbox, parts: &[LinePart<'_>]) -> bool
+fn append_parts(waiting: &mut Outbox, parts: &[LinePart<'_>]) -> bool
     requires { length waiting.old ≤ 65536 }
-    ensures { Keeps waiting.old (parts_text parts.now) waiting.new result }
+    ensures { AppendsIfFits waiting.old (parts_text parts.now) waiting.new result }
 {
     for part in parts {
-        if !keep_part(waiting, *part) {
+        if !append_part(waiting, *part) {
             return false;
         }
     }
@@ -66,9 +66,9 @@ impl Log {
     }
 
     // Appends the line with the number of lost lines, if any were lost. Returns whether it fitted.
-    fn keep_notice(&mut self) -> bool
+    fn append_notice(&mut self) -> bool
         requires { length self.old.waiting ≤ 65536 }
-        ensures notice { Keeps self.old.waiting (notice self.old.lost) self.new.waiting result }
+        ensures notice { AppendsIfFits self.old.waiting (notice self.old.lost) self.new.waiting result }
         ensures lost { self.new.lost ≡ self.old.lost }
     {
         if self.lost == 0 {
@@ -78,7 +78,7 @@ impl Log {
             LinePart::Number(self.lost),
             LinePart::Text(b" lines of the log were lost\n"),
         ];
-        keep_parts(&mut self.waiting, &parts)
+        append_parts(&mut self.waiting, &parts)
     }
 
     /// Appends the line of these parts, after a line with the number of lost lines, if any were
@@ -87,7 +87,7 @@ impl Log {
         ensures { self.new ≡ with_line (parts_text parts.now) self.old }
     {
         let before = self.waiting.as_slice().len();
-        if self.keep_notice() && keep_parts(&mut self.waiting, parts) {
+        if self.append_notice() && append_parts(&mut self.waiting, parts) {
             self.lost = 0;
         } else {
             self.waiting.truncate(before);
@@ -98,7 +98,7 @@ impl Log {
     /// Writes the waiting lines in order, as far as the sink accepts them. Fails if a write fails;
     /// the octets accepted before it are removed.
     pub fn send<S: Sink>(&mut self, sink: &mut S) -> io::Result<()>
-        ensures sends { Empties S.contents S.does self.old.waiting sink.old self.new.waiting
+        ensures sends { OffersQueue S.contents S.does self.old.waiting sink.old self.new.waiting
             sink.new (is_ok result) }
         ensures lost { self.new.lost ≡ self.old.lost }
     {

@@ -1,7 +1,7 @@
 // Offering octets to a sink until it accepts no more.
 ghost use Rattle.std.specs.Prelude.{◌≤◌, drop, is_none, length, take};
 ghost use Rattle.std.specs.Io.KnownBytes.{Appends};
-ghost use Rattle.bay_stdio.specs.Offers.{IsLeft};
+ghost use Rattle.bay_stdio.specs.Offers.{OfferEnds};
 
 use bay_io::calls::Sink;
 use std::io;
@@ -20,7 +20,7 @@ pub fn write_available<S: Sink>(sink: &mut S, octets: &[u8]) -> WriteProgress
     ensures within { result.taken ≤ length octets.now }
     ensures taken { Appends (S.contents sink.old) (S.contents sink.new)
         (take result.taken octets.now) }
-    ensures left { IsLeft S.does (drop result.taken octets.now) sink.new
+    ensures left { OfferEnds S.does (drop result.taken octets.now) sink.new
         (is_none result.failed) }
 {
     let mut taken = 0;

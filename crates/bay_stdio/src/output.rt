@@ -3,7 +3,7 @@ ghost use Rattle.std.specs.Prelude.{◌≡◌, ◌==◌, [], is_ok, length};
 ghost use Rattle.std.specs.Result.{result_ok};
 ghost use Rattle.bay_io.specs.Sent.{Sends};
 ghost use Rattle.bay_stdio.specs.Descriptor.{accepted_octets};
-ghost use Rattle.bay_stdio.specs.Output.{Does, Drains, PutsIn, written};
+ghost use Rattle.bay_stdio.specs.Output.{CallEffect, Drains, PutsIntoQueue, written_octets};
 
 use crate::descriptor::Descriptor;
 use crate::log::Log;
@@ -59,8 +59,8 @@ impl<O, E> Output<O, E> {
 
 // Puts octets into a queue. If they don't fit, first writes as much of the queue as the sink
 // accepts. If they still don't fit, that is a failed write (`WouldBlock`).
-fn put_in<O: Sink>(queue: &mut OutputQueue, out: &mut O, octets: &[u8]) -> io::Result<usize>
-    ensures { PutsIn O.contents O.does queue.old out.old octets.now queue.new out.new
+fn put_into_queue<O: Sink>(queue: &mut OutputQueue, out: &mut O, octets: &[u8]) -> io::Result<usize>
+    ensures { PutsIntoQueue O.contents O.does queue.old out.old octets.now queue.new out.new
         (result_ok result) }
 {
     if queue.put(octets) {
@@ -75,13 +75,13 @@ fn put_in<O: Sink>(queue: &mut OutputQueue, out: &mut O, octets: &[u8]) -> io::R
 }
 
 impl<O: Sink, E: Sink> Sink for Output<O, E> {
-    ghost contents = { λ output. written (O.contents output.out) output.queue };
+    ghost contents = { λ output. written_octets (O.contents output.out) output.queue };
 
-    ghost does = { Does O.contents O.does E.contents E.does };
+    ghost does = { CallEffect O.contents O.does E.contents E.does };
 
     fn write_octets(&mut self, octets: &[u8]) -> io::Result<usize> {
         match &mut self.queue {
-            Some(queue) => put_in(queue, &mut self.out, octets),
+            Some(queue) => put_into_queue(queue, &mut self.out, octets),
             None => self.out.write_octets(octets),
         }
     }

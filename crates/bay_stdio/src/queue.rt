@@ -1,6 +1,6 @@
 // Octets that wait for a sink, up to a limit.
 ghost use Rattle.std.specs.Prelude.{is_ok};
-ghost use Rattle.bay_stdio.specs.Offers.{Empties};
+ghost use Rattle.bay_stdio.specs.Offers.{OffersQueue};
 
 use crate::offer::{WriteProgress, write_available};
 use bay_io::calls::Sink;
@@ -16,7 +16,7 @@ pub type OutputQueue = BoundedBuffer<ROOM>;
 /// Writes the queue in order, as far as the sink accepts it. Fails if a write fails; the octets
 /// accepted before it are removed.
 pub fn send_waiting<S: Sink>(queue: &mut OutputQueue, sink: &mut S) -> io::Result<()>
-    ensures { Empties S.contents S.does queue.old sink.old queue.new sink.new
+    ensures { OffersQueue S.contents S.does queue.old sink.old queue.new sink.new
         (is_ok result) }
 {
     let WriteProgress { taken, failed } = write_available(sink, queue.as_slice());

@@ -8,7 +8,7 @@ ghost use Rattle.bay_trace.specs.Trace as spec;
 ghost use Rattle.bay_trace.specs.TraceView.{named_view, line_view};
 
 use crate::octets::Digits;
-use bay_base::decimal::{decimal, negative, positive, with_digit};
+use bay_base::decimal::{read_decimal, to_negative, to_positive, with_digit};
 use bay_base::point::MeterField;
 use bay_base::position::Dbpos;
 
@@ -87,8 +87,8 @@ fn integer(word: &[u8]) -> Option<i32>
     ensures { result ≡ read_integer word.now }
 {
     match word.strip_prefix(b"-") {
-        Some(digits) => negative(decimal(digits)?),
-        None => positive(decimal(word)?),
+        Some(digits) => to_negative(read_decimal(digits)?),
+        None => to_positive(read_decimal(word)?),
     }
 }
 
@@ -203,7 +203,7 @@ fn measure(text: &[u8]) -> Option<NamedEvent<'_>>
 fn association(word: &[u8]) -> Option<u16>
     ensures { result ≡ association_of word.now }
 {
-    u16::try_from(decimal(word)?).ok()
+    u16::try_from(read_decimal(word)?).ok()
 }
 
 // Reads the octets that the client of an association sends.
@@ -265,7 +265,7 @@ fn cut_long_number(text: &[u8]) -> Option<(u64, &[u8])>
         ≡ first_number (slice_split is_space text.now) }
 {
     let (word, rest) = split_word(text);
-    let number = decimal(word)?;
+    let number = read_decimal(word)?;
     Some((number, rest?))
 }
 

@@ -12,15 +12,15 @@ use Rattle.bay_transport.specs.declared.frame.FramePrefix.TheVariants.{Begun, No
 use Rattle.bay_transport.specs.declared.fault.TransportFault.{TransportFault}
 use Rattle.bay_transport.specs.declared.fault.TransportFault.TheVariants.{BadTpkt, BadCotp, ClassRefused, TsduTooLong, Failed, OutOfMemory}
 use Rattle.bay_transport.specs.Frame.{pair_of, tpdu_of, frame_prefix, missing_count}
-use Rattle.bay_transport.specs.Doings.{Fails, TransportConnection, StreamState, Broken, Run, TpduEffect, Refuses, effect_of, data_effect, kind_effect, alone, run_of}
-use Rattle.bay_transport.specs.Assembly.{connection_of, rest_of, stream_state_of, body_of, HoldsFrame, run_for, FailsWhere, Takes, Reaches}
+use Rattle.bay_transport.specs.Doings.{Fails, TransportConnection, StreamState, Broken, Run, TpduEffect, Refuses, effect_of, data_effect, kind_effect, single_frame_run, run_of}
+use Rattle.bay_transport.specs.Assembly.{connection_of, rest_of, stream_state_of, body_of, HoldsFrame, run_of_result, FaultImplies, StepConsumes, AdvanceConsumes}
 use Rattle.bay_transport.proofs.FrameLemmas.{is_whole, whole-within, whole-length, whole-part}
 use Rattle.bay_transport.proofs.RunLemmas.{run-append, run-begun, run-none, run-whole, run-part, run-front}
 
 -- ---- faults
 
-pub fails-weaker : {P Q : Type 0} (fault : TransportFault) → (P → Q) → FailsWhere fault P
-    → FailsWhere fault Q
+pub fails-weaker : {P Q : Type 0} (fault : TransportFault) → (P → Q) → FaultImplies fault P
+    → FaultImplies fault Q
 fails-weaker BadTpkt f h = f h
 fails-weaker BadCotp f h = f h
 fails-weaker ClassRefused f h = f h
@@ -30,8 +30,8 @@ fails-weaker OutOfMemory f h = tt
 
 pub err_weaker : {X : Type 0} (result : Result X TransportFault) (P Q : TransportFault → Type 0)
     → ((fault : TransportFault) → P fault → Q fault)
-    → IfErr result (λ fault. FailsWhere fault (P fault))
-    → IfErr result (λ fault. FailsWhere fault (Q fault))
+    → IfErr result (λ fault. FaultImplies fault (P fault))
+    → IfErr result (λ fault. FaultImplies fault (Q fault))
 err_weaker (Ok x) P Q f h = tt
 err_weaker (Err fault) P Q f h = fails-weaker fault (f fault) h
 
@@ -135,10 +135,10 @@ shorter octets used =
 pub takes-more : (old new : Assembly) (piece : List ℕ) (used : ℕ) → used ≤ length piece
     → (0 < length piece → 0 < used)
     → rest_of new ≡ rest_of old ++ take used piece → connection_of new ≡ connection_of old
-    → frame_prefix (rest_of new) ≡ Begun → Takes old piece used More new
+    → frame_prefix (rest_of new) ≡ Begun → StepConsumes old piece used More new
 takes-more old new piece used within moves rest connection begun =
     let b : frame_prefix (rest_of old ++ take used piece) ≡ Begun = rw (← rest) begun in
-    let does : run_of old.number (stream_state_of old) (take used piece) ≡ run_for More new =
+    let does : run_of old.number (stream_state_of old) (take used piece) ≡ run_of_result More new =
     rw (connection, rest) (run-begun old.number (connection_of old) (rest_of old)
     (take used piece) b) in
     record {
@@ -161,8 +161,8 @@ pub takes-frame : (old new : Assembly) (frame piece : List ℕ) (used : ℕ) (ki
     → used ≤ length piece → (0 < length piece → 0 < used)
     → frame ≡ rest_of old ++ take used piece → frame_prefix frame ≡ Whole (length frame)
     → frame_prefix (rest_of old) ≡ Begun
-    → alone (effect_of old.number (connection_of old) frame) (connection_of old)
-    ≡ run_for kind new → Takes old piece used kind new
+    → single_frame_run (effect_of old.number (connection_of old) frame) (connection_of old)
+    ≡ run_of_result kind new → StepConsumes old piece used kind new
 takes-frame old new frame piece used kind within moves rest whole begun does =
     let n : frame_prefix (rest_of old ++ take used piece)
     ≡ Whole (length (rest_of old ++ take used piece)) = rw (← rest) whole in
@@ -212,9 +212,9 @@ refuses-frame old frame piece used fault rest whole effect =
     let r : run_of old.number (stream_state_of old) (take used piece)
     ≡ record { doings = Fails fault ∷ []; left = Broken } =
     run-whole old.number (connection_of old) (rest_of old) (take used piece) n
-    ∙ ap (λ (ys : List ℕ). alone (effect_of old.number (connection_of old) ys)
+    ∙ ap (λ (ys : List ℕ). single_frame_run (effect_of old.number (connection_of old) ys)
     (connection_of old)) (sym rest)
-    ∙ ap (λ (e : TpduEffect). alone e (connection_of old)) effect in
+    ∙ ap (λ (e : TpduEffect). single_frame_run e (connection_of old)) effect in
     ap (λ (ys : List ℕ). (run_of old.number (stream_state_of old) ys).doings)
     (sym (take-append-drop used piece))
     ∙ ap (λ (d : Run). d.doings)
@@ -240,12 +240,12 @@ same-effect old new frame number connection =
 
 same-alone : (old new : Assembly) (frame : List ℕ) → new.number ≡ old.number
     → connection_of new ≡ connection_of old
-    → alone (effect_of old.number (connection_of old) frame) (connection_of old)
-    ≡ alone (effect_of new.number (connection_of new) frame) (connection_of new)
+    → single_frame_run (effect_of old.number (connection_of old) frame) (connection_of old)
+    ≡ single_frame_run (effect_of new.number (connection_of new) frame) (connection_of new)
 same-alone old new frame number connection =
-    ap (λ (e : TpduEffect). alone e (connection_of old))
+    ap (λ (e : TpduEffect). single_frame_run e (connection_of old))
     (same-effect old new frame number connection)
-    ∙ ap (λ (l : TransportConnection). alone (effect_of new.number (connection_of new) frame) l)
+    ∙ ap (λ (l : TransportConnection). single_frame_run (effect_of new.number (connection_of new) frame) l)
     (sym connection)
 
 -- octets are taken, and then the frame that they end is done
@@ -254,8 +254,8 @@ pub takes-whole : (old middle new : Assembly) (piece : List ℕ) (used k : ℕ) 
     → used ≤ missing_count (rest_of old)
     → rest_of middle ≡ rest_of old ++ take used piece → connection_of middle ≡ connection_of old
     → middle.number ≡ old.number → frame_prefix (rest_of middle) ≡ Whole k
-    → alone (effect_of middle.number (connection_of middle) (rest_of middle)) (connection_of middle)
-    ≡ run_for kind new → Takes old piece used kind new
+    → single_frame_run (effect_of middle.number (connection_of middle) (rest_of middle)) (connection_of middle)
+    ≡ run_of_result kind new → StepConsumes old piece used kind new
 takes-whole old middle new piece used k kind begun within moves few rest connection number whole
     does =
     takes-frame old new (rest_of middle) piece used kind within moves rest
@@ -266,8 +266,8 @@ pub refuses-whole : (old middle : Assembly) (piece : List ℕ) (used k : ℕ) (f
     → frame_prefix (rest_of old) ≡ Begun → used ≤ length piece → used ≤ missing_count (rest_of old)
     → rest_of middle ≡ rest_of old ++ take used piece → connection_of middle ≡ connection_of old
     → middle.number ≡ old.number → frame_prefix (rest_of middle) ≡ Whole k
-    → FailsWhere fault (effect_of middle.number (connection_of middle) (rest_of middle)
-    ≡ Refuses fault) → FailsWhere fault
+    → FaultImplies fault (effect_of middle.number (connection_of middle) (rest_of middle)
+    ≡ Refuses fault) → FaultImplies fault
     ((run_of old.number (stream_state_of old) piece).doings ≡ Fails fault ∷ [])
 refuses-whole old middle piece used k fault begun within few rest connection number whole refused =
     fails-weaker fault (λ r. refuses-frame old (rest_of middle) piece used fault rest
@@ -297,7 +297,7 @@ pub quiet-more : (old middle new : Assembly) (piece : List ℕ) (at used : ℕ)
     → middle.number ≡ old.number
     → run_of old.number (stream_state_of old) (take at piece)
     ≡ record { doings = []; left = stream_state_of middle }
-    → Takes middle (drop at piece) used More new
+    → StepConsumes middle (drop at piece) used More new
     → run_of old.number (stream_state_of old) (take (at + used) piece)
     ≡ record { doings = []; left = stream_state_of new }
 quiet-more old middle new piece at used number quiet t =
@@ -311,8 +311,8 @@ pub reaches-kind : (old middle new : Assembly) (piece : List ℕ) (at used : ℕ
     → at < length piece → middle.number ≡ old.number
     → run_of old.number (stream_state_of old) (take at piece)
     ≡ record { doings = []; left = stream_state_of middle }
-    → Takes middle (drop at piece) used kind new → (kind ≡ More → ⊥)
-    → Reaches old piece (at + used) kind new
+    → StepConsumes middle (drop at piece) used kind new → (kind ≡ More → ⊥)
+    → AdvanceConsumes old piece (at + used) kind new
 reaches-kind old middle new piece at used kind within number quiet t done =
     let n : length (drop at piece) ≡ length piece - at = length-drop at piece in
     let some : 0 < used = t.moves (omega arith) in
@@ -340,7 +340,7 @@ reaches-kind old middle new piece at used kind within number quiet t done =
 
 pub reaches-end : (old new : Assembly) (piece : List ℕ) (at : ℕ) → at ≤ length piece
     → length piece ≤ at → run_of old.number (stream_state_of old) (take at piece)
-    ≡ record { doings = []; left = stream_state_of new } → Reaches old piece at More new
+    ≡ record { doings = []; left = stream_state_of new } → AdvanceConsumes old piece at More new
 reaches-end old new piece at within all quiet =
     record {
       within = within;
@@ -354,8 +354,8 @@ pub refuses-later : (old middle : Assembly) (piece : List ℕ) (at : ℕ) (fault
     → middle.number ≡ old.number
     → run_of old.number (stream_state_of old) (take at piece)
     ≡ record { doings = []; left = stream_state_of middle }
-    → FailsWhere fault ((run_of middle.number (stream_state_of middle) (drop at piece)).doings
-    ≡ Fails fault ∷ []) → FailsWhere fault
+    → FaultImplies fault ((run_of middle.number (stream_state_of middle) (drop at piece)).doings
+    ≡ Fails fault ∷ []) → FaultImplies fault
     ((run_of old.number (stream_state_of old) piece).doings ≡ Fails fault ∷ [])
 refuses-later old middle piece at fault number quiet refused =
     fails-weaker fault (λ r. ap

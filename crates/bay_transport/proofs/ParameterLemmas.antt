@@ -6,7 +6,7 @@ use Rattle.std.specs.Option.{option_map}
 use Rattle.std.proofs.lemmas.Bool.{cases_eq, cases_lt, ne_eqb, lt-ltb, le-ltb}
 use Rattle.std.proofs.lemmas.List.{length-append, length-take-le, take-append-drop, take_at, drop_at}
 use Rattle.bay_transport.specs.declared.fault.TransportFault.TheVariants.{BadCotp}
-use Rattle.bay_transport.specs.Connect.{Parameter, parameter_octets, length_octet, with_parameter, parameters_after, parameters_of, or_else, last_value, size_of, where_there, size_value, answer_parameters, frame_header, confirm_head, confirm, with_parameters}
+use Rattle.bay_transport.specs.Connect.{Parameter, parameter_octets, length_octet, with_parameter, parameters_after, parameters_of, or_else, last_value, size_of, optional_parameter, size_value, answer_parameters, frame_header, confirm_head, confirm, with_parameters}
 use Rattle.bay_transport.proofs.RequestLemmas.{parameters_behind-is}
 
 -- ---- in one way
@@ -63,14 +63,14 @@ read-spelled (p ∷ ps) =
 
 -- how many octets the last parameter with the code takes
 abbrev pub part : ℕ → List Parameter → ℕ
-part code ps = length (where_there code (last_value code ps))
+part code ps = length (optional_parameter code (last_value code ps))
 
 abbrev pub its_own : ℕ → Parameter → ℕ
 its_own code p = cond (eqb p.code code) (length p.value + 2) 0
 
 part_at : (code : ℕ) (b : Bool) (later : Option (List ℕ)) (value : List ℕ)
-    → length (where_there code (or_else later (cond b (Some value) None)))
-    ≤ length (where_there code later) + cond b (length value + 2) 0
+    → length (optional_parameter code (or_else later (cond b (Some value) None)))
+    ≤ length (optional_parameter code later) + cond b (length value + 2) 0
 part_at code true None value = omega arith
 part_at code false None value = omega arith
 part_at code true (Some x) value = omega arith
@@ -105,7 +105,7 @@ parts-within (p ∷ ps) =
     omega (arith, length-append p.value (parameter_octets ps))
 
 size-part : (v : Option (List ℕ)) (power : Option ℕ) (size : ℕ) → size_of v ≡ Some (power, size)
-    → length (where_there 192 (size_value power)) ≡ length (where_there 192 v)
+    → length (optional_parameter 192 (size_value power)) ≡ length (optional_parameter 192 v)
 size-part None power size e = let p : None ≡ power =
     ap (λ (s : Option ℕ × ℕ). s.0) (same_Some _ _ e) in rw (← p) refl
 size-part (Some []) power size e = absurd (cc)
@@ -134,20 +134,20 @@ answered-within octets None size called calling power limit e s d g w = absurd (
 answered-within octets (Some ps) size called calling power limit e s d g w =
     let n : length octets ≡ length (parameter_octets ps) = ap length (spelled-read octets ps e) in
     let all = parts-within ps in
-    let a : part 192 ps ≡ length (where_there 192 size) =
-    ap (λ (v : Option (List ℕ)). length (where_there 192 v)) (read-value 192 ps size s) in
-    let b : part 194 ps ≡ length (where_there 194 called) =
-    ap (λ (v : Option (List ℕ)). length (where_there 194 v)) (read-value 194 ps called d) in
-    let f : part 193 ps ≡ length (where_there 193 calling) =
-    ap (λ (v : Option (List ℕ)). length (where_there 193 v)) (read-value 193 ps calling g) in
+    let a : part 192 ps ≡ length (optional_parameter 192 size) =
+    ap (λ (v : Option (List ℕ)). length (optional_parameter 192 v)) (read-value 192 ps size s) in
+    let b : part 194 ps ≡ length (optional_parameter 194 called) =
+    ap (λ (v : Option (List ℕ)). length (optional_parameter 194 v)) (read-value 194 ps called d) in
+    let f : part 193 ps ≡ length (optional_parameter 193 calling) =
+    ap (λ (v : Option (List ℕ)). length (optional_parameter 193 v)) (read-value 193 ps calling g) in
     let h = size-part size power limit w in
     let l : length (answer_parameters power called calling)
-    ≡ length (where_there 192 (size_value power)) + length (where_there 194 called)
-    + length (where_there 193 calling) =
-    length-append (where_there 192 (size_value power) ++ where_there 194 called)
-    (where_there 193 calling)
-    ∙ ap (λ (k : ℕ). k + length (where_there 193 calling))
-    (length-append (where_there 192 (size_value power)) (where_there 194 called)) in
+    ≡ length (optional_parameter 192 (size_value power)) + length (optional_parameter 194 called)
+    + length (optional_parameter 193 calling) =
+    length-append (optional_parameter 192 (size_value power) ++ optional_parameter 194 called)
+    (optional_parameter 193 calling)
+    ∙ ap (λ (k : ℕ). k + length (optional_parameter 193 calling))
+    (length-append (optional_parameter 192 (size_value power)) (optional_parameter 194 called)) in
     omega arith
 
 -- what the last values give

@@ -5,13 +5,13 @@ use Rattle.bay_transport.specs.declared.frame.FramePrefix.{FramePrefix}
 use Rattle.bay_transport.specs.declared.frame.FramePrefix.TheVariants.{Begun, NoFrame, Whole}
 use Rattle.bay_transport.specs.declared.fault.TransportFault.TheVariants.{BadTpkt}
 use Rattle.bay_transport.specs.Frame.{frame_prefix, cut_of}
-use Rattle.bay_transport.specs.Doings.{Fails, TransportConnection, StreamState, Going, Over, Broken, Run, TpduEffect, Joins, Finishes, Agrees, Closes, Refuses, effect_of, connection_after, on_effect, at_rest, frames_run, alone, run_of, and_then, Stream, doings, after}
+use Rattle.bay_transport.specs.Doings.{Fails, TransportConnection, StreamState, Going, Over, Broken, Run, TpduEffect, Joins, Finishes, Agrees, Closes, Refuses, effect_of, connection_after, run_with_effect, run_of_rest, frames_run, single_frame_run, run_of, and_then, Stream, doings, after}
 use Rattle.bay_transport.proofs.FrameLemmas.{is_whole, none-append, front-part, cut-rest, cut-whole, cut-append}
 
 rest-run : (f : FramePrefix) (number : ℕ) (connection : TransportConnection) (rest more : List ℕ)
     → frame_prefix rest ≡ f
     → frames_run number connection (cut_of (rest ++ more)).frames (cut_of (rest ++ more)).rest
-    ≡ and_then number (at_rest (frame_prefix rest) connection rest) more
+    ≡ and_then number (run_of_rest (frame_prefix rest) connection rest) more
 rest-run Begun number connection rest more e = rw e refl
 rest-run (Whole k) number connection rest more e = rw e refl
 rest-run NoFrame number connection rest more e =
@@ -20,7 +20,7 @@ rest-run NoFrame number connection rest more e =
 
 effect-run : (effect : TpduEffect) (number : ℕ) (later longer : Run) (more : List ℕ)
     → longer ≡ and_then number later more
-    → on_effect effect longer ≡ and_then number (on_effect effect later) more
+    → run_with_effect effect longer ≡ and_then number (run_with_effect effect later) more
 effect-run (Joins group) number later longer more e = e
 effect-run (Finishes group) number later longer more e = rw e refl
 effect-run (Agrees size reply) number later longer more e = rw e refl
@@ -73,7 +73,7 @@ run-none number connection rest octets more e =
 pub run-whole : (number : ℕ) (connection : TransportConnection) (rest octets : List ℕ)
     → frame_prefix (rest ++ octets) ≡ Whole (length (rest ++ octets))
     → run_of number (Going connection rest) octets
-    ≡ alone (effect_of number connection (rest ++ octets)) connection
+    ≡ single_frame_run (effect_of number connection (rest ++ octets)) connection
 run-whole number connection rest octets e =
     let frame = rest ++ octets in
     rw (

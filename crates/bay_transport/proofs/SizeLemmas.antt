@@ -8,8 +8,8 @@ use Rattle.bay_transport.specs.declared.frame.Tpdu.{Tpdu}
 use Rattle.bay_transport.specs.declared.frame.Tpdu.TheVariants.{Request, Data}
 use Rattle.bay_transport.specs.Frame.{frame_prefix, tpdu_of, cut_of}
 use Rattle.bay_transport.specs.Connect.{Confirmation}
-use Rattle.bay_transport.specs.Doings.{Doing, Answers, Delivers, Ends, Fails, TransportConnection, StreamState, Going, Over, Broken, Run, TpduEffect, Joins, Finishes, Agrees, Closes, Refuses, connect_effect, data_effect, kind_effect, tpdu_effect, effect_of, connection_after, on_effect, at_rest, frames_run, run_of, Stream, doings, after}
-use Rattle.bay_transport.specs.Feeding.{IsGoing, agreed_from, size_agreed, size_after}
+use Rattle.bay_transport.specs.Doings.{Doing, Answers, Delivers, Ends, Fails, TransportConnection, StreamState, Going, Over, Broken, Run, TpduEffect, Joins, Finishes, Agrees, Closes, Refuses, connect_effect, data_effect, kind_effect, tpdu_effect, effect_of, connection_after, run_with_effect, run_of_rest, frames_run, run_of, Stream, doings, after}
+use Rattle.bay_transport.specs.Feeding.{AcceptsOctets, agreed_from, size_agreed, size_after}
 
 -- ---- one TPDU
 
@@ -52,16 +52,16 @@ tpdu-sized number connection tpdu h = absurd h
 -- ---- the size that is left
 
 rest-size : (front : FramePrefix) (connection : TransportConnection) (rest : List ℕ)
-    → agreed_from (at_rest front connection rest).left
-    ≡ size_after connection.size (at_rest front connection rest).doings
+    → agreed_from (run_of_rest front connection rest).left
+    ≡ size_after connection.size (run_of_rest front connection rest).doings
 rest-size Begun connection rest = refl
 rest-size NoFrame connection rest = refl
 rest-size (Whole frame) connection rest = refl
 
 effect-size : (effect : TpduEffect) (connection : TransportConnection) (later : Run)
     → agreed_from later.left ≡ size_after (connection_after effect connection).size later.doings
-    → agreed_from (on_effect effect later).left
-    ≡ size_after connection.size (on_effect effect later).doings
+    → agreed_from (run_with_effect effect later).left
+    ≡ size_after connection.size (run_with_effect effect later).doings
 effect-size (Joins group) connection later same = same
 effect-size (Finishes group) connection later same = same
 effect-size (Agrees size reply) connection later same = same
@@ -101,7 +101,7 @@ AreSized size (Ends ∷ later) = Unit {0}
 AreSized size (Fails fault ∷ later) = Unit {0}
 
 rest-sized : (front : FramePrefix) (connection : TransportConnection) (rest : List ℕ)
-    → AreSized connection.size (at_rest front connection rest).doings
+    → AreSized connection.size (run_of_rest front connection rest).doings
 rest-sized Begun connection rest = tt
 rest-sized NoFrame connection rest = tt
 rest-sized (Whole frame) connection rest = tt
@@ -109,7 +109,7 @@ rest-sized (Whole frame) connection rest = tt
 effect-sized : (effect : TpduEffect) (connection : TransportConnection) (later : Run)
     → (Gathers effect → IsSome connection.size)
     → AreSized (connection_after effect connection).size later.doings
-    → AreSized connection.size (on_effect effect later).doings
+    → AreSized connection.size (run_with_effect effect later).doings
 effect-sized (Joins group) connection later some rest = rest
 effect-sized (Finishes group) connection later some rest = (some tt, rest)
 effect-sized (Agrees size reply) connection later some rest = rest
@@ -145,32 +145,32 @@ delivers-size s octets tsdu later e =
 -- ---- what comes to nothing
 
 rest-going : (front : FramePrefix) (connection : TransportConnection) (rest : List ℕ)
-    → (at_rest front connection rest).doings ≡ [] → IsGoing (at_rest front connection rest).left
+    → (run_of_rest front connection rest).doings ≡ [] → AcceptsOctets (run_of_rest front connection rest).left
 rest-going Begun connection rest e = tt
 rest-going NoFrame connection rest e = cc
 rest-going (Whole frame) connection rest e = tt
 
-effect-going : (effect : TpduEffect) (later : Run) → (on_effect effect later).doings ≡ []
-    → (later.doings ≡ [] → IsGoing later.left) → IsGoing (on_effect effect later).left
+effect-going : (effect : TpduEffect) (later : Run) → (run_with_effect effect later).doings ≡ []
+    → (later.doings ≡ [] → AcceptsOctets later.left) → AcceptsOctets (run_with_effect effect later).left
 effect-going (Joins group) later e going = going e
 effect-going effect later e going = cc
 
 frames-going : (number : ℕ) (connection : TransportConnection) (frames : List (List ℕ))
     (rest : List ℕ) → (frames_run number connection frames rest).doings ≡ []
-    → IsGoing (frames_run number connection frames rest).left
+    → AcceptsOctets (frames_run number connection frames rest).left
 frames-going number connection [] rest e = rest-going (frame_prefix rest) connection rest e
 frames-going number connection (frame ∷ frames) rest e =
     let next = connection_after (effect_of number connection frame) connection in
     effect-going (effect_of number connection frame) (frames_run number next frames rest) e
     (frames-going number next frames rest)
 
-left-going : (number : ℕ) (left : StreamState) (octets : List ℕ) → IsGoing left
-    → (run_of number left octets).doings ≡ [] → IsGoing (run_of number left octets).left
+left-going : (number : ℕ) (left : StreamState) (octets : List ℕ) → AcceptsOctets left
+    → (run_of number left octets).doings ≡ [] → AcceptsOctets (run_of number left octets).left
 left-going number (Going connection rest) octets going e =
     frames-going number connection (cut_of (rest ++ octets)).frames (cut_of (rest ++ octets)).rest e
 left-going number Over octets going e = absurd going
 left-going number Broken octets going e = absurd going
 
-pub quiet-going : (s : Stream) (octets : List ℕ) → IsGoing s.left → doings s octets ≡ []
-    → IsGoing (after s octets).left
+pub quiet-going : (s : Stream) (octets : List ℕ) → AcceptsOctets s.left → doings s octets ≡ []
+    → AcceptsOctets (after s octets).left
 quiet-going s octets going e = left-going s.number s.left octets going e

@@ -5,8 +5,8 @@ use Rattle.std.proofs.lemmas.List.{append-nil, append_assoc, length-append, leng
 use Rattle.std.proofs.Math.Nat.{suc-mul, add-div_left, div-eq_of_lt, lt-div-mul-add}
 use Rattle.bay_transport.specs.Connect.{frame_header}
 use Rattle.bay_transport.specs.Frame.{IsFrame, Cut, cut_of}
-use Rattle.bay_transport.specs.Doings.{Delivers, TransportConnection, Going, Joins, Finishes, effect_of, connection_after, on_effect, run_of}
-use Rattle.bay_transport.specs.Wrap.{data_frame, data_frames, full_before, tpdus_of, AreWithin, Carries}
+use Rattle.bay_transport.specs.Doings.{Delivers, TransportConnection, Going, Joins, Finishes, effect_of, connection_after, run_with_effect, run_of}
+use Rattle.bay_transport.specs.Wrap.{data_frame, data_frames, full_tpdus, tpdus_of, AreWithin, Carries}
 use Rattle.bay_transport.proofs.FrameLemmas.{cut-frame}
 
 -- ---- what is written
@@ -113,7 +113,7 @@ is-data-frame is_last octets =
 
 run-frame : (number : ℕ) (connection : TransportConnection) (is_last : Bool) (octets more : List ℕ)
     → run_of number (Going connection []) (data_frame is_last octets ++ more)
-    ≡ on_effect (effect_of number connection (data_frame is_last octets))
+    ≡ run_with_effect (effect_of number connection (data_frame is_last octets))
     (run_of number
     (Going (connection_after (effect_of number connection (data_frame is_last octets)) connection)
     []) more)
@@ -201,6 +201,6 @@ carries size tsdu octets some few is =
     let q : length tsdu - 1 < (length tsdu - 1) / room * room + room =
     lt-div-mul-add {a = length tsdu - 1} {b = room} positive in
     rw is (record {
-      does = λ number. run-data_frames number size room (full_before room tsdu) [] tsdu few;
-      within = within-frames size (full_before room tsdu) tsdu some (omega arith);
+      does = λ number. run-data_frames number size room (full_tpdus room tsdu) [] tsdu few;
+      within = within-frames size (full_tpdus room tsdu) tsdu some (omega arith);
     })

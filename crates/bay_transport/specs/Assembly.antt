@@ -58,22 +58,22 @@ abbrev pub body_of : Assembly → List ℕ
 body_of a = drop (a.group + 6) a.buffer.items
 
 -- what was completed, as doings with the completed octets
-abbrev pub doings_for : Got → Assembly → List Doing
-doings_for More a = []
-doings_for Answer a = Answers (unwrap_or a.size 0) a.shown.items ∷ []
-doings_for Tsdu a = Delivers a.shown.items ∷ []
-doings_for Ended a = Ends ∷ []
+abbrev pub doings_of_result : Got → Assembly → List Doing
+doings_of_result More a = []
+doings_of_result Answer a = Answers (unwrap_or a.size 0) a.shown.items ∷ []
+doings_of_result Tsdu a = Delivers a.shown.items ∷ []
+doings_of_result Ended a = Ends ∷ []
 
 -- the state after a result of this kind: after an end it is `Over`
-abbrev pub left_for : Got → StreamState → StreamState
-left_for More left = left
-left_for Answer left = left
-left_for Tsdu left = left
-left_for Ended left = Over
+abbrev pub state_for_result : Got → StreamState → StreamState
+state_for_result More left = left
+state_for_result Answer left = left
+state_for_result Tsdu left = left
+state_for_result Ended left = Over
 
 -- the doings of a result of this kind, and the state that the assembly represents
-abbrev pub run_for : Got → Assembly → Run
-run_for kind a = record { doings = doings_for kind a; left = left_for kind (stream_state_of a) }
+abbrev pub run_of_result : Got → Assembly → Run
+run_of_result kind a = record { doings = doings_of_result kind a; left = state_for_result kind (stream_state_of a) }
 
 -- If nothing is completed, what was completed last stays.
 abbrev pub KeepsShown : Got → List ℕ → List ℕ → Type 0
@@ -84,31 +84,31 @@ KeepsShown Ended old new = Unit {0}
 
 -- A fault implies this condition, except `OutOfMemory`, which may always occur; `Failed` never
 -- occurs here.
-abbrev pub FailsWhere : TransportFault → Type 0 → Type 0
-FailsWhere BadTpkt P = P
-FailsWhere BadCotp P = P
-FailsWhere ClassRefused P = P
-FailsWhere TsduTooLong P = P
-FailsWhere Failed P = ⊥
-FailsWhere OutOfMemory P = Unit {0}
+abbrev pub FaultImplies : TransportFault → Type 0 → Type 0
+FaultImplies BadTpkt P = P
+FaultImplies BadCotp P = P
+FaultImplies ClassRefused P = P
+FaultImplies TsduTooLong P = P
+FaultImplies Failed P = ⊥
+FaultImplies OutOfMemory P = Unit {0}
 
 -- `used` octets of the piece are consumed: their doings are those of the result, and the octets
 -- before the last of them complete nothing.
-pub record Takes (old : Assembly) (piece : List ℕ) (used : ℕ) (kind : Got) (new : Assembly)
+pub record StepConsumes (old : Assembly) (piece : List ℕ) (used : ℕ) (kind : Got) (new : Assembly)
     : Type 0 where
   pub within : used ≤ length piece
   pub moves : 0 < length piece → 0 < used
-  pub does : run_of old.number (stream_state_of old) (take used piece) ≡ run_for kind new
+  pub does : run_of old.number (stream_state_of old) (take used piece) ≡ run_of_result kind new
   pub quiet : (run_of old.number (stream_state_of old) (take (used - 1) piece)).doings ≡ []
 
 -- `used` octets of the piece are consumed, up to the end of the TPDU that completes something, or
 -- of the piece: their doings are those of the result, and the octets before the last of them
 -- complete nothing.
-pub record Reaches (old : Assembly) (piece : List ℕ) (used : ℕ) (kind : Got) (new : Assembly)
+pub record AdvanceConsumes (old : Assembly) (piece : List ℕ) (used : ℕ) (kind : Got) (new : Assembly)
     : Type 0 where
   pub within : used ≤ length piece
   pub all : kind ≡ More → used ≡ length piece
   pub moves : (kind ≡ More → ⊥) → 0 < used
-  pub does : run_of old.number (stream_state_of old) (take used piece) ≡ run_for kind new
+  pub does : run_of old.number (stream_state_of old) (take used piece) ≡ run_of_result kind new
   pub quiet : (kind ≡ More → ⊥)
       → (run_of old.number (stream_state_of old) (take (used - 1) piece)).doings ≡ []

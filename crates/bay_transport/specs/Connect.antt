@@ -78,9 +78,9 @@ frame_of tpdu = frame_header (length tpdu) ++ tpdu
 -- ---- X.224 13.4: the answer to a request
 
 -- the encoding of one parameter; no octets if it is absent
-abbrev pub where_there : ℕ → Option (List ℕ) → List ℕ
-where_there code None = []
-where_there code (Some value) = code ∷ length value ∷ value
+abbrev pub optional_parameter : ℕ → Option (List ℕ) → List ℕ
+optional_parameter code None = []
+optional_parameter code (Some value) = code ∷ length value ∷ value
 
 -- the value of the size parameter: the power alone
 abbrev pub size_value : Option ℕ → Option (List ℕ)
@@ -91,7 +91,7 @@ size_value (Some power) = Some (power ∷ [])
 -- request has it
 abbrev pub answer_parameters : Option ℕ → Option (List ℕ) → Option (List ℕ) → List ℕ
 answer_parameters power called calling =
-    where_there 0xC0 (size_value power) ++ where_there 0xC2 called ++ where_there 0xC1 calling
+    optional_parameter 0xC0 (size_value power) ++ optional_parameter 0xC2 called ++ optional_parameter 0xC1 calling
 
 -- a confirmation up to its parameters, which take `count` octets: its length indicator, D0, the
 -- reference of the calling side, the reference of the association, and class 0 (X.224 13.4)
@@ -131,8 +131,8 @@ with_parameters number high low (Some ps) =
 
 -- Whether a length indicator is right: it counts the octets of its TPDU after it, six and the
 -- parameters. 255 is reserved (X.224 13.2.1).
-abbrev pub is_counted : ℕ → List ℕ → Bool
-is_counted indicator octets = if indicator == 255 then false else indicator == length octets + 6
+abbrev pub is_right_indicator : ℕ → List ℕ → Bool
+is_right_indicator indicator octets = if indicator == 255 then false else indicator == length octets + 6
 
 -- The confirmation of a request on the association with this number, or its fault. `indicator` is
 -- the length indicator; the octets are those after the code: two references of two octets, the
@@ -140,7 +140,7 @@ is_counted indicator octets = if indicator == 255 then false else indicator == l
 -- second request, and then a class other than 0.
 abbrev pub connect : ℕ → Bool → ℕ → List ℕ → Result Confirmation TransportFault
 connect number again indicator (to_high ∷ to_low ∷ from_high ∷ from_low ∷ class ∷ octets) =
-    if is_counted indicator octets
+    if is_right_indicator indicator octets
     then (if again then Err BadCotp
     else (if class / 16 == 0 then with_parameters number from_high from_low (parameters_of octets)
     else Err ClassRefused))

@@ -104,26 +104,26 @@ connection_after Closes connection = connection
 connection_after (Refuses fault) connection = connection
 
 -- the run of a TPDU with this effect, followed by a later run; nothing follows an end or a refusal
-abbrev pub on_effect : TpduEffect → Run → Run
-on_effect (Joins group) later = later
-on_effect (Finishes group) later =
+abbrev pub run_with_effect : TpduEffect → Run → Run
+run_with_effect (Joins group) later = later
+run_with_effect (Finishes group) later =
     record { doings = Delivers group ∷ later.doings; left = later.left }
-on_effect (Agrees size reply) later =
+run_with_effect (Agrees size reply) later =
     record { doings = Answers size reply ∷ later.doings; left = later.left }
-on_effect Closes later = record { doings = Ends ∷ []; left = Over }
-on_effect (Refuses fault) later = record { doings = Fails fault ∷ []; left = Broken }
+run_with_effect Closes later = record { doings = Ends ∷ []; left = Over }
+run_with_effect (Refuses fault) later = record { doings = Fails fault ∷ []; left = Broken }
 
 -- the run of the rest after the last complete frame, by what it begins with
-abbrev pub at_rest : FramePrefix → TransportConnection → List ℕ → Run
-at_rest Begun connection rest = record { doings = []; left = Going connection rest }
-at_rest NoFrame connection rest = record { doings = Fails BadTpkt ∷ []; left = Broken }
-at_rest (Whole frame) connection rest = record { doings = []; left = Going connection rest }
+abbrev pub run_of_rest : FramePrefix → TransportConnection → List ℕ → Run
+run_of_rest Begun connection rest = record { doings = []; left = Going connection rest }
+run_of_rest NoFrame connection rest = record { doings = Fails BadTpkt ∷ []; left = Broken }
+run_of_rest (Whole frame) connection rest = record { doings = []; left = Going connection rest }
 
 -- the run of complete frames and a rest: the rest is refused as soon as it can't begin a frame
 abbrev pub frames_run : ℕ → TransportConnection → List (List ℕ) → List ℕ → Run
-frames_run number connection [] rest = at_rest (frame_prefix rest) connection rest
+frames_run number connection [] rest = run_of_rest (frame_prefix rest) connection rest
 frames_run number connection (frame ∷ frames) rest =
-    on_effect (effect_of number connection frame)
+    run_with_effect (effect_of number connection frame)
     (frames_run number (connection_after (effect_of number connection frame) connection) frames
     rest)
 
@@ -136,9 +136,9 @@ run_of number Over octets = record { doings = []; left = Over }
 run_of number Broken octets = record { doings = []; left = Broken }
 
 -- the run of one frame with this effect, and no more octets
-abbrev pub alone : TpduEffect → TransportConnection → Run
-alone effect connection =
-    on_effect effect (record { doings = []; left = Going (connection_after effect connection) [] })
+abbrev pub single_frame_run : TpduEffect → TransportConnection → Run
+single_frame_run effect connection =
+    run_with_effect effect (record { doings = []; left = Going (connection_after effect connection) [] })
 
 -- a run, followed by the run of more octets from its state
 abbrev pub and_then : ℕ → Run → List ℕ → Run
@@ -154,8 +154,8 @@ pub record Stream : Type 0 where
   pub left : StreamState
 
 -- the state before any octet
-abbrev pub start : StreamState
-start = Going (record { size = None; group = [] }) []
+abbrev pub stream_start : StreamState
+stream_start = Going (record { size = None; group = [] }) []
 
 -- the doings of octets, from the state of a stream
 abbrev pub doings : Stream → List ℕ → List Doing

@@ -32,14 +32,14 @@ abbrev pub Feeds : Stream → List ℕ → ℕ → Option Doing → Type 0
 Feeds s piece used answer = FeedsFrom s.left s piece used answer
 
 -- The doings of a piece are this one, followed by those of the octets that were not consumed.
-abbrev pub GoesOn : Stream → Stream → List ℕ → ℕ → Doing → Type 0
-GoesOn old new piece used doing = doings old piece ≡ doing ∷ doings new (drop used piece)
+abbrev pub DoingThenRest : Stream → Stream → List ℕ → ℕ → Doing → Type 0
+DoingThenRest old new piece used doing = doings old piece ≡ doing ∷ doings new (drop used piece)
 
 -- The stream still accepts octets.
-abbrev pub IsGoing : StreamState → Type 0
-IsGoing (Going connection rest) = Unit {0}
-IsGoing Over = ⊥
-IsGoing Broken = ⊥
+abbrev pub AcceptsOctets : StreamState → Type 0
+AcceptsOctets (Going connection rest) = Unit {0}
+AcceptsOctets Over = ⊥
+AcceptsOctets Broken = ⊥
 
 -- The piece is refused with this fault: the fault is its only doing. A stream that failed refuses
 -- every piece with `Failed`. `OutOfMemory` occurs only if the stream still accepts octets and the
@@ -50,7 +50,7 @@ RefusesPiece s piece BadCotp = doings s piece ≡ Fails BadCotp ∷ []
 RefusesPiece s piece ClassRefused = doings s piece ≡ Fails ClassRefused ∷ []
 RefusesPiece s piece TsduTooLong = doings s piece ≡ Fails TsduTooLong ∷ []
 RefusesPiece s piece Failed = s.left ≡ Broken
-RefusesPiece s piece OutOfMemory = IsGoing s.left × (0 < length piece)
+RefusesPiece s piece OutOfMemory = AcceptsOctets s.left × (0 < length piece)
 
 -- the agreed size, if the stream still accepts octets and there was a request
 abbrev pub agreed_from : StreamState → Option ℕ
@@ -63,16 +63,16 @@ abbrev pub size_agreed : Stream → Option ℕ
 size_agreed s = agreed_from s.left
 
 -- the view of a transport: the state of its stream, and the octets that were completed last
-pub record Received : Type 0 where
+pub record TransportData : Type 0 where
   pub stream : Stream
   pub shown : List ℕ
 
 -- the result of feeding, with the octets that were completed last, as a doing
-abbrev pub doing_for : Got → Received → Option Doing
-doing_for More r = None
-doing_for Answer r = Some (Answers (unwrap_or (size_agreed r.stream) 0) r.shown)
-doing_for Tsdu r = Some (Delivers r.shown)
-doing_for Ended r = Some Ends
+abbrev pub doing_of_result : Got → TransportData → Option Doing
+doing_of_result More r = None
+doing_of_result Answer r = Some (Answers (unwrap_or (size_agreed r.stream) 0) r.shown)
+doing_of_result Tsdu r = Some (Delivers r.shown)
+doing_of_result Ended r = Some Ends
 
 -- the agreed size after some doings, given the size before them; none after an end or a fault
 abbrev pub size_after : Option ℕ → List Doing → Option ℕ
@@ -91,7 +91,7 @@ KeepsWithin Over shown = shown ≡ []
 KeepsWithin Broken shown = shown ≡ []
 
 -- The buffers of a transport are within their limits.
-abbrev pub IsWithinLimits : Received → Type 0
+abbrev pub IsWithinLimits : TransportData → Type 0
 IsWithinLimits r = KeepsWithin r.stream.left r.shown
 
 -- the stream after the end of its connection
@@ -105,16 +105,16 @@ broken s = record { number = s.number; left = Broken }
 -- ---- own: views of the code
 
 -- the state of the stream: that of the assembly while octets are accepted
-abbrev pub left_in : TransportState → Assembly → StreamState
-left_in Open a = stream_state_of a
-left_in Closed a = Over
-left_in Refused a = Broken
+abbrev pub stream_state_in : TransportState → Assembly → StreamState
+stream_state_in Open a = stream_state_of a
+stream_state_in Closed a = Over
+stream_state_in Refused a = Broken
 
 -- the view of a transport, from its fields
-abbrev pub received_of : TransportState → Assembly → Received
+abbrev pub received_of : TransportState → Assembly → TransportData
 received_of state a =
     record {
-      stream = record { number = a.number; left = left_in state a };
+      stream = record { number = a.number; left = stream_state_in state a };
       shown = a.shown.items;
     }
 

@@ -20,6 +20,6 @@ pub record HaveValues (octets : List ℕ) (values : ParameterValues) : Type 0 wh
       ≡ Some (option_copied values.calling)
 
 -- the parameters of the answer to a request
-abbrev pub answered_to : ConnectRequest → List ℕ
-answered_to request =
+abbrev pub parameters_of_answer : ConnectRequest → List ℕ
+parameters_of_answer request =
     answer_parameters request.power (option_copied request.called) (option_copied request.calling)

@@ -19,12 +19,12 @@ data_frames room (suc full) octets =
     data_frame false (take room octets) ++ data_frames room full (drop room octets)
 
 -- how many data TPDUs precede the last one, if each has room for `room` octets
-abbrev pub full_before : ℕ → List ℕ → ℕ
-full_before room octets = (length octets - 1) / room
+abbrev pub full_tpdus : ℕ → List ℕ → ℕ
+full_tpdus room octets = (length octets - 1) / room
 
 -- The data TPDUs of a TSDU. A TPDU has three octets before its data.
 abbrev pub tpdus_of : ℕ → List ℕ → List ℕ
-tpdus_of size octets = data_frames (size - 3) (full_before (size - 3) octets) octets
+tpdus_of size octets = data_frames (size - 3) (full_tpdus (size - 3) octets) octets
 
 -- ---- own: how the sent octets are received
 

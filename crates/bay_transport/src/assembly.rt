@@ -2,13 +2,13 @@
 ghost use Rattle.std.specs.Prelude.{◌≡◌, ◌+◌, ◌-◌, ◌<◌, ◌≤◌, Ok, Err, [], ◌∷◌, length, take, drop, ◌++◌, IfOk, IfErr, OnErr, OnOk, IfSome, is_some};
 ghost use Rattle.bay_transport.specs.Frame.{missing_count};
 ghost use Rattle.bay_transport.specs.Connect as spec;
-ghost use Rattle.bay_transport.specs.Doings.{Fails, Refuses, effect_of, data_effect, connect_effect, alone, run_of};
-ghost use Rattle.bay_transport.specs.Assembly.{connection_of, rest_of, stream_state_of, body_of, IsSound, HoldsFrame, HasNoRoom, run_for, FailsWhere, KeepsShown, Takes, Reaches};
+ghost use Rattle.bay_transport.specs.Doings.{Fails, Refuses, effect_of, data_effect, connect_effect, single_frame_run, run_of};
+ghost use Rattle.bay_transport.specs.Assembly.{connection_of, rest_of, stream_state_of, body_of, IsSound, HoldsFrame, HasNoRoom, run_of_result, FaultImplies, KeepsShown, StepConsumes, AdvanceConsumes};
 
 use crate::fault::TransportFault;
 use crate::fed::Got;
 use crate::frame::{FramePrefix, Tpdu, frame_prefix, missing_octets, tpdu_of};
-use crate::request::answer;
+use crate::request::answer_request;
 use std::alloc::{AllocError, Global};
 use std::mem;
 
@@ -81,18 +81,18 @@ impl Assembly {
         ensures sound { OnOk result (IsSound self.new) }
         ensures number { self.new.number ≡ self.old.number }
         ensures ok { IfOk result
-            (λ kind. alone (connect_effect
+            (λ kind. single_frame_run (connect_effect
             (spec.connect self.old.number (is_some self.old.size) indicator (body_of self.old)))
-            (connection_of self.old) ≡ run_for kind self.new) }
+            (connection_of self.old) ≡ run_of_result kind self.new) }
         ensures shown { IfOk result
             (λ kind. KeepsShown kind self.old.shown.items self.new.shown.items) }
         ensures err { IfErr result
-            (λ fault. FailsWhere fault
+            (λ fault. FaultImplies fault
             (spec.connect self.old.number (is_some self.old.size) indicator (body_of self.old)
             ≡ Err fault)) }
     {
         let body = &self.buffer[self.group + 6..];
-        let size = answer(
+        let size = answer_request(
             &mut self.shown,
             self.number,
             self.size.is_some(),
@@ -110,12 +110,12 @@ impl Assembly {
         ensures sound { OnOk result (IsSound self.new) }
         ensures number { self.new.number ≡ self.old.number }
         ensures ok { IfOk result
-            (λ kind. alone (data_effect (connection_of self.old) indicator (body_of self.old))
-            (connection_of self.old) ≡ run_for kind self.new) }
+            (λ kind. single_frame_run (data_effect (connection_of self.old) indicator (body_of self.old))
+            (connection_of self.old) ≡ run_of_result kind self.new) }
         ensures shown { IfOk result
             (λ kind. KeepsShown kind self.old.shown.items self.new.shown.items) }
         ensures err { IfErr result
-            (λ fault. FailsWhere fault
+            (λ fault. FaultImplies fault
             (data_effect (connection_of self.old) indicator (body_of self.old) ≡ Refuses fault)) }
     {
         if indicator != 2 || self.size.is_none() {
@@ -142,12 +142,12 @@ impl Assembly {
         ensures sound { OnOk result (IsSound self.new) }
         ensures number { self.new.number ≡ self.old.number }
         ensures ok { IfOk result
-            (λ kind. alone (effect_of self.old.number (connection_of self.old) (rest_of self.old))
-            (connection_of self.old) ≡ run_for kind self.new) }
+            (λ kind. single_frame_run (effect_of self.old.number (connection_of self.old) (rest_of self.old))
+            (connection_of self.old) ≡ run_of_result kind self.new) }
         ensures shown { IfOk result
             (λ kind. KeepsShown kind self.old.shown.items self.new.shown.items) }
         ensures err { IfErr result
-            (λ fault. FailsWhere fault
+            (λ fault. FaultImplies fault
             (effect_of self.old.number (connection_of self.old) (rest_of self.old)
             ≡ Refuses fault)) }
     {
@@ -188,11 +188,11 @@ impl Assembly {
         requires { IsSound self.old }
         ensures sound { OnOk result (IsSound self.new) }
         ensures number { self.new.number ≡ self.old.number }
-        ensures ok { IfOk result (λ taken. Takes self.old piece.now taken.0 taken.1 self.new) }
+        ensures ok { IfOk result (λ taken. StepConsumes self.old piece.now taken.0 taken.1 self.new) }
         ensures shown { IfOk result
             (λ taken. KeepsShown taken.1 self.old.shown.items self.new.shown.items) }
         ensures err { IfErr result
-            (λ fault. FailsWhere fault
+            (λ fault. FaultImplies fault
             ((run_of self.old.number (stream_state_of self.old) piece.now).doings
             ≡ Fails fault ∷ [])) }
     {
@@ -213,11 +213,11 @@ impl Assembly {
         requires { IsSound self.old }
         ensures sound { OnOk result (IsSound self.new) }
         ensures number { self.new.number ≡ self.old.number }
-        ensures ok { IfOk result (λ taken. Reaches self.old piece.now taken.0 taken.1 self.new) }
+        ensures ok { IfOk result (λ taken. AdvanceConsumes self.old piece.now taken.0 taken.1 self.new) }
         ensures shown { IfOk result
             (λ taken. KeepsShown taken.1 self.old.shown.items self.new.shown.items) }
         ensures err { IfErr result
-            (λ fault. FailsWhere fault
+            (λ fault. FaultImplies fault
             ((run_of self.old.number (stream_state_of self.old) piece.now).doings
             ≡ Fails fault ∷ [])) }
         ensures some { OnErr result (0 < length piece.now) }

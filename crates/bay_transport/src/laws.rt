@@ -3,7 +3,7 @@ ghost use Rattle.std.specs.Prelude.{◌≡◌, ◌++◌, ◌∷◌, [], ◌↔�
 ghost use Rattle.bay_transport.specs.Frame.{Cut, IsCut, cut_of};
 ghost use Rattle.bay_transport.specs.Connect.{Parameter, parameter_octets, parameters_of};
 ghost use Rattle.bay_transport.specs.Doings.{Doing, Delivers, StreamState, Stream, run_of, and_then, doings, after};
-ghost use Rattle.bay_transport.specs.Feeding.{CompletesDoing, GoesOn, IsGoing, size_agreed, size_after};
+ghost use Rattle.bay_transport.specs.Feeding.{CompletesDoing, DoingThenRest, AcceptsOctets, size_agreed, size_after};
 
 /// There is exactly one way to split a list of octets into complete frames and a rest that begins
 /// with no complete frame (RFC 1006 6).
@@ -30,7 +30,7 @@ pub fn any_cutting()
 pub fn feeding_goes_on()
     ensures doings { (old new : Stream) (piece : List ℕ) (used : ℕ) (doing : Doing)
         → new ≡ after old (take used piece)
-        → CompletesDoing old piece used doing → GoesOn old new piece used doing }
+        → CompletesDoing old piece used doing → DoingThenRest old new piece used doing }
     ensures after { (old new : Stream) (piece : List ℕ) (used : ℕ)
         → new ≡ after old (take used piece) → after old piece ≡ after new (drop used piece) }
 {}
@@ -46,8 +46,8 @@ pub fn one_size()
 
 /// A stream that still accepts octets accepts more after octets that complete nothing.
 pub fn incomplete_goes_on()
-    ensures { (s : Stream) (octets : List ℕ) → IsGoing s.left → doings s octets ≡ []
-        → IsGoing (after s octets).left }
+    ensures { (s : Stream) (octets : List ℕ) → AcceptsOctets s.left → doings s octets ≡ []
+        → AcceptsOctets (after s octets).left }
 {}
 
 /// Octets encode parameters in at most one way, and only octets that encode them are read as

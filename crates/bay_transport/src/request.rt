@@ -1,11 +1,11 @@
 // The request for a connection, and its answer (X.224 13.3 and 13.4).
 ghost use Rattle.std.specs.Prelude.{◌≡◌, ◌+◌, ◌/◌, ◌%◌, ◌≤◌, ◌<◌, [], ◌∷◌, ◌++◌, Ok, Err, Some, None, length, IfOk, IfErr, IfSome, OnOk};
 ghost use Rattle.std.specs.Option.{option_copied, option_map};
-ghost use Rattle.bay_transport.specs.Connect.{parameters_of, where_there, size_value, confirm_head, with_parameters, connect};
+ghost use Rattle.bay_transport.specs.Connect.{parameters_of, optional_parameter, size_value, confirm_head, with_parameters, connect};
 ghost use Rattle.bay_transport.specs.Connect as spec;
-ghost use Rattle.bay_transport.specs.Found.{HaveValues, answered_to};
+ghost use Rattle.bay_transport.specs.Found.{HaveValues, parameters_of_answer};
 ghost use Rattle.bay_transport.specs.Found as spec_found;
-ghost use Rattle.bay_transport.specs.Assembly.{IsSize, FailsWhere};
+ghost use Rattle.bay_transport.specs.Assembly.{IsSize, FaultImplies};
 
 use crate::fault::TransportFault;
 use crate::frame::frame_header;
@@ -94,7 +94,7 @@ fn size_of(value: Option<&[u8]>) -> Result<(Option<u8>, usize), TransportFault>
 
 // Returns how many octets the parameter takes; 0 if it is absent.
 fn length_of(value: Option<&[u8]>) -> usize
-    ensures { result ≡ length (where_there 0 (option_copied value.entry)) }
+    ensures { result ≡ length (optional_parameter 0 (option_copied value.entry)) }
 {
     match value {
         None => 0,
@@ -106,7 +106,7 @@ fn length_of(value: Option<&[u8]>) -> usize
 fn append(out: &mut Vec<u8>, code: u8, value: Option<&[u8]>) -> Result<(), AllocError>
     requires { IfSome value (λ octets. length octets.now < 256) }
     ensures { OnOk result (out.new.items
-        ≡ out.old.items ++ where_there code (option_copied value.entry)) }
+        ≡ out.old.items ++ optional_parameter code (option_copied value.entry)) }
 {
     if let Some(octets) = value {
         out.push(code)?;
@@ -118,7 +118,7 @@ fn append(out: &mut Vec<u8>, code: u8, value: Option<&[u8]>) -> Result<(), Alloc
 
 // Appends the size parameter, if there is one.
 fn append_size(out: &mut Vec<u8>, power: Option<u8>) -> Result<(), AllocError>
-    ensures { OnOk result (out.new.items ≡ out.old.items ++ where_there 0xC0 (size_value power)) }
+    ensures { OnOk result (out.new.items ≡ out.old.items ++ optional_parameter 0xC0 (size_value power)) }
 {
     if let Some(power) = power {
         out.extend_from_slice(&[SIZE, 1, power])?;
@@ -127,7 +127,7 @@ fn append_size(out: &mut Vec<u8>, power: Option<u8>) -> Result<(), AllocError>
 }
 
 // Writes the frame of a confirmation up to its parameters, which take `parameters` octets.
-fn begin(
+fn write_confirm_head(
     reply: &mut Vec<u8>,
     number: u16,
     high: u8,
@@ -167,15 +167,15 @@ struct ConnectRequest<'a> {
 
 // Writes the confirmation.
 fn confirm(reply: &mut Vec<u8>, number: u16, request: ConnectRequest<'_>) -> Result<(), AllocError>
-    requires { length (answered_to request) ≤ 249 }
+    requires { length (parameters_of_answer request) ≤ 249 }
     ensures reply { OnOk result
         (reply.new.items ≡ spec.confirm number request.entry.high request.entry.low
-        (answered_to request.entry)) }
+        (parameters_of_answer request.entry)) }
     ensures short { OnOk result (length reply.new.items ≤ 260) }
 {
     let size = if request.power.is_some() { 3 } else { 0 };
     let parameters = size + length_of(request.called) + length_of(request.calling);
-    begin(reply, number, request.high, request.low, parameters)?;
+    write_confirm_head(reply, number, request.high, request.low, parameters)?;
     append_size(reply, request.power)?;
     append(reply, CALLED, request.called)?;
     append(reply, CALLING, request.calling)?;
@@ -197,7 +197,7 @@ fn respond(
     ensures size { IfOk result IsSize }
     ensures short { OnOk result (length reply.new.items ≤ 260) }
     ensures err { IfErr result
-        (λ fault. FailsWhere fault
+        (λ fault. FaultImplies fault
         (with_parameters number high low (parameters_of parameters.now) ≡ Err fault)) }
 {
     let values = values_of(parameters)?;
@@ -219,7 +219,7 @@ fn respond(
 ///
 /// Fails with `BadCotp` if the length indicator is wrong, the parameters or the size are malformed,
 /// or it is a second request; with `ClassRefused` if the class is not 0.
-pub(crate) fn answer(
+pub(crate) fn answer_request(
     reply: &mut Vec<u8>,
     number: u16,
     again: bool,
@@ -232,7 +232,7 @@ pub(crate) fn answer(
     ensures size { IfOk result IsSize }
     ensures short { OnOk result (length reply.new.items ≤ 260) }
     ensures err { IfErr result
-        (λ fault. FailsWhere fault (connect number again indicator body.now ≡ Err fault)) }
+        (λ fault. FaultImplies fault (connect number again indicator body.now ≡ Err fault)) }
 {
     match body {
         [_, _, high, low, class, parameters @ ..] => {

@@ -1,8 +1,8 @@
 // A transport connection, for its user.
 ghost use Rattle.std.specs.Prelude.{◌≡◌, ◌+◌, ◌<◌, ◌≤◌, ◌++◌, [], ℕ, List, None, IfOk, IfErr, OnErr, IsSome, IfSome, length, take};
 ghost use Rattle.bay_transport.specs.Assembly.{IsSize, KeepsShown};
-ghost use Rattle.bay_transport.specs.Doings.{start, after};
-ghost use Rattle.bay_transport.specs.Feeding.{Feeds, RefusesPiece, IsWithinLimits, size_agreed, end_of_stream, broken, doing_for};
+ghost use Rattle.bay_transport.specs.Doings.{stream_start, after};
+ghost use Rattle.bay_transport.specs.Feeding.{Feeds, RefusesPiece, IsWithinLimits, size_agreed, end_of_stream, broken, doing_of_result};
 ghost use Rattle.bay_transport.specs.Wrap.{tpdus_of, Carries};
 
 use crate::assembly::Assembly;
@@ -32,9 +32,9 @@ pub struct Transport {
 }
 
 impl Model for Transport {
-    ghost use Rattle.bay_transport.specs.Feeding.{Received, IsConsistent, received_of};
+    ghost use Rattle.bay_transport.specs.Feeding.{TransportData, IsConsistent, received_of};
 
-    ghost Value = { Received };
+    ghost Value = { TransportData };
 
     ghost view = { λ t. received_of t.state t.assembly };
 
@@ -46,7 +46,7 @@ impl Transport {
     /// sent as the reference of this side (X.224 13.4).
     pub fn new(alloc: Global, number: u16) -> Transport
         ensures { result ≡ record {
-          stream = record { number = number; left = start };
+          stream = record { number = number; left = stream_start };
           shown = [];
         } }
     {
@@ -70,7 +70,7 @@ impl Transport {
         ensures within { IfOk result (λ fed. fed.used ≤ length piece.now) }
         // The result is the first doing of the piece; a fault is its only doing.
         ensures fed { IfOk result
-            (λ fed. Feeds self.old.stream piece.now fed.used (doing_for fed.got self.new)) }
+            (λ fed. Feeds self.old.stream piece.now fed.used (doing_of_result fed.got self.new)) }
         ensures refused { IfErr result (λ fault. RefusesPiece self.old.stream piece.now fault) }
         // The new state is the one after the consumed octets; after a fault the stream is broken.
         ensures after { IfOk result

@@ -12,7 +12,7 @@ use Rattle.bay_tree.specs.declared.index.Index.{Index}
 use Rattle.bay_tree.specs.declared.link.RowLink.{RowLink}
 use Rattle.bay_tree.specs.Arena.{IsArena, bucket_of, is_in_bucket, link_at}
 use Rattle.bay_tree.specs.Names.{IsWordAt, parent_of, is_below}
-use Rattle.bay_tree.specs.declared.page.Names.{Names}
+use Rattle.bay_tree.specs.declared.page.NamesPage.{NamesPage}
 use Rattle.bay_tree.specs.Page.{page_after, rows_after}
 use Rattle.bay_tree.proofs.RowLemmas.{IsTree-set}
 use Rattle.bay_tree.specs.Rows.{leaf_at, with_leaf, name_at, names_of, row_index, first_below, first_below_from, next_below, next_beside}
@@ -128,17 +128,17 @@ IsArena-set rows index links place row within leaf name arena =
     }
 
 page-is : (a b : List (List ℕ)) (m n : Bool) → a ≡ b → m ≡ n
-    → (let p : Names = record { names = a; more = m } in p)
-    ≡ (let p : Names = record { names = b; more = n } in p)
+    → (let p : NamesPage = record { names = a; more = m } in p)
+    ≡ (let p : NamesPage = record { names = b; more = n } in p)
 page-is a b m n e f =
-    ap (λ (x : List (List ℕ)). let p : Names = record { names = x; more = m } in p) e
-    ∙ ap (λ (x : Bool). let p : Names = record { names = b; more = x } in p) f
+    ap (λ (x : List (List ℕ)). let p : NamesPage = record { names = x; more = m } in p) e
+    ∙ ap (λ (x : Bool). let p : NamesPage = record { names = b; more = x } in p) f
 
 -- a page of the rows from a place on is the page of those after the name
 pub page-made : (held rows : List Row) (name : Option (List ℕ)) (start count : ℕ)
     (names : List (List ℕ)) → held ≡ rows → drop start rows ≡ rows_after rows name
     → names ≡ names_of (take count (take (length held - start) (drop start held)))
-    → (let p : Names = record {
+    → (let p : NamesPage = record {
       names = names;
       more =
           ltb count (length (take (length held - start) (drop start held)));

@@ -3,7 +3,7 @@ use Rattle.std.specs.Prelude.{◌≢◌, ℕ, Option, Some, None, List, length, 
 use Rattle.std.specs.List.{after_first}
 use Rattle.std.specs.Str.{bytes_eq}
 use Rattle.bay_tree.specs.declared.row.Row.{Row}
-use Rattle.bay_tree.specs.declared.page.Names.{Names}
+use Rattle.bay_tree.specs.declared.page.NamesPage.{NamesPage}
 use Rattle.bay_tree.specs.Rows.{names_of}
 
 -- the rows after the row with a name; without a name, all rows
@@ -12,7 +12,7 @@ rows_after rows None = rows
 rows_after rows (Some name) = after_first (λ row. bytes_eq row.name name) rows
 
 -- the first `count` names after a name, and whether there are more
-abbrev pub page_after : List Row → Option (List ℕ) → ℕ → Names
+abbrev pub page_after : List Row → Option (List ℕ) → ℕ → NamesPage
 page_after rows name count =
     record {
       names = names_of (take count (rows_after rows name));

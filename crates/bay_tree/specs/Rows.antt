@@ -62,12 +62,12 @@ with_leaf rows place leaf =
     slice_set rows place (record { name = name_at rows place; leaf = Some leaf })
 
 -- the value of the first row with a name
-abbrev pub leaf_of : List ℕ → List Row → Option Leaf
-leaf_of name rows = option_and_then (λ row. row.leaf) (find (λ row. bytes_eq row.name name) rows)
+abbrev pub leaf_named : List ℕ → List Row → Option Leaf
+leaf_named name rows = option_and_then (λ row. row.leaf) (find (λ row. bytes_eq row.name name) rows)
 
 -- the rows with the value of the rows with this name replaced
-abbrev pub with_leaf_of : List ℕ → Leaf → List Row → List Row
-with_leaf_of name value rows =
+abbrev pub with_leaf_named : List ℕ → Leaf → List Row → List Row
+with_leaf_named name value rows =
     map (λ row. if bytes_eq row.name name then record { name = row.name; leaf = Some value }
     else row) rows
 

@@ -35,7 +35,7 @@ fn bucket_of(count: usize, name: &[u8]) -> usize
 }
 
 /// Builds the index of these rows. Fails only if an allocation fails.
-pub fn index_of(alloc: Global, rows: &[Row]) -> Result<Index, AllocError>
+pub fn build_index(alloc: Global, rows: &[Row]) -> Result<Index, AllocError>
     ensures { IfOk result (IsIndex rows.now) }
 {
     let mut first = vec![in alloc; None; rows.len() + 1]?;

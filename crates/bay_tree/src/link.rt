@@ -54,7 +54,7 @@ fn put_below(links: &mut [RowLink], place: usize, above: usize)
 
 /// Returns the links of the rows of a tree. Goes from the last row to the first. Fails only if an
 /// allocation fails.
-pub fn links_of(alloc: Global, rows: &[Row], index: &Index) -> Result<Vec<RowLink>, AllocError>
+pub fn build_links(alloc: Global, rows: &[Row], index: &Index) -> Result<Vec<RowLink>, AllocError>
     requires tree { IsTree rows.now }
     requires indexed { IsIndex rows.now index.now }
     ensures { IfOk result (λ links. IsLinked rows.now links.items) }

@@ -9,7 +9,7 @@ use std::alloc::{AllocError, Global};
 
 /// The first names after a name, and whether there are more.
 #[derive(Debug, Drop)]
-pub struct Names {
+pub struct NamesPage {
     /// Copies of the names, in order.
     pub names: Listing<Text>,
     pub more: bool,

@@ -3,7 +3,7 @@ ghost use Rattle.std.specs.Prelude.{◌≡◌, ◌<◌, ◌↔◌, Some, length,
 ghost use Rattle.bay_tree.specs.Arena.{IsIndex};
 ghost use Rattle.bay_tree.specs.Rows.{IsTree, IsBelowStructure, name_at, row_index};
 
-use crate::index::{Index, index_of};
+use crate::index::{Index, build_index};
 use crate::name::split_name;
 use crate::row::Row;
 use std::alloc::{AllocError, Global};
@@ -41,7 +41,7 @@ fn is_below_structure(rows: &[Row], index: &Index, place: usize) -> bool
 pub fn is_tree(alloc: Global, rows: &[Row]) -> Result<bool, AllocError>
     ensures { IfOk result (λ is. IsTrue is ↔ IsTree rows.now) }
 {
-    let index = index_of(alloc, rows)?;
+    let index = build_index(alloc, rows)?;
     for place in 0..rows.len() {
         if !is_first(rows, &index, place) || !is_below_structure(rows, &index, place) {
             return Ok(false);

@@ -2,16 +2,16 @@
 ghost use Rattle.std.specs.Prelude.{ℕ, ◌+◌, ◌≡◌, ◌≢◌, ◌<◌, All, ◌≤◌, ◌↔◌, length, drop, map, Some, Ok, Err, IfOk, IsOk, OnOk, OnErr, IfErr, IfSome, IsTrue};
 ghost use Rattle.std.specs.Option.{ok_or, option_copied};
 ghost use Rattle.bay_tree.specs.Names.{IsNamed, parent_of, word_of};
-ghost use Rattle.bay_tree.specs.Rows.{IsTree, IsHandle, row_index, name_at, leaf_at, leaf_of, leaf_type_at, names_of, leaf_types_of, with_leaf, with_leaf_of, first_below_from, first_below, next_beside, indices_below, indices_after, indices_since};
+ghost use Rattle.bay_tree.specs.Rows.{IsTree, IsHandle, row_index, name_at, leaf_at, leaf_named, leaf_type_at, names_of, leaf_types_of, with_leaf, with_leaf_named, first_below_from, first_below, next_beside, indices_below, indices_after, indices_since};
 ghost use Rattle.bay_tree.specs.LeafTypes.{leaf_type_of};
 ghost use Rattle.bay_tree.specs.Order.{index_if};
 ghost use Rattle.bay_tree.specs.Page.{page_after, rows_after, IsUnknown};
 
 use crate::fault::{NamesFault, TreeFault};
-use crate::index::{Index, index_of};
+use crate::index::{Index, build_index};
 use crate::leaf::{Leaf, LeafType};
-use crate::link::{RowLink, links_of};
-use crate::page::{Names, first_names};
+use crate::link::{RowLink, build_links};
+use crate::page::{NamesPage, first_names};
 use crate::row::Row;
 use bay_base::listing::Listing;
 use std::alloc::{AllocError, Global};
@@ -100,8 +100,8 @@ impl Tree {
         requires { IsTree rows.items }
         ensures { IfOk result (λ tree. tree ≡ rows.items) }
     {
-        let index = index_of(alloc, rows.as_slice())?;
-        let links = links_of(alloc, rows.as_slice(), &index)?;
+        let index = build_index(alloc, rows.as_slice())?;
+        let links = build_links(alloc, rows.as_slice(), &index)?;
         Ok(Tree { rows, index, links })
     }
 
@@ -119,7 +119,7 @@ impl Tree {
         ensures found { IfOk result
             (λ handle. IsHandle self.now handle × (name_at self.now handle ≡ name.now)) }
         ensures value { IfOk result
-            (λ handle. leaf_at self.now handle ≡ leaf_of name.now self.now) }
+            (λ handle. leaf_at self.now handle ≡ leaf_named name.now self.now) }
         ensures unknown { (result ≡ Err TreeFault.NoSuchName)
             ↔ All (λ row. row.name ≢ name.now) self.now }
     {
@@ -133,7 +133,7 @@ impl Tree {
         ensures found { IfOk result
             (λ handle. IsHandle self.now handle × (name_at self.now handle ≡ name.now)) }
         ensures value { IfOk result
-            (λ handle. leaf_at self.now handle ≡ leaf_of name.now self.now) }
+            (λ handle. leaf_at self.now handle ≡ leaf_named name.now self.now) }
         ensures unknown { (result ≡ Err TreeFault.NoSuchName)
             ↔ All (λ row. row.name ≢ name.now) self.now }
     {
@@ -148,7 +148,7 @@ impl Tree {
     pub fn get(&self, handle: Handle) -> Option<&Leaf>
         requires { IsHandle self.now handle }
         ensures value { option_copied result ≡ leaf_at self.now handle }
-        ensures named { option_copied result ≡ leaf_of (name_at self.now handle) self.now }
+        ensures named { option_copied result ≡ leaf_named (name_at self.now handle) self.now }
     {
         self.rows[handle.index].leaf.as_ref()
     }
@@ -173,7 +173,7 @@ impl Tree {
         ensures accepted { IsOk result ↔ (leaf_type_at self.old handle ≡ Some (leaf_type_of leaf)) }
         ensures ok { OnOk result (self.new ≡ with_leaf self.old handle leaf) }
         ensures named { OnOk result
-            (self.new ≡ with_leaf_of (name_at self.old handle) leaf self.old) }
+            (self.new ≡ with_leaf_named (name_at self.old handle) leaf self.old) }
         ensures err { IfErr result
             (λ fault. (fault ≡ TreeFault.WrongType) × (self.new ≡ self.old)) }
 
@@ -269,7 +269,7 @@ impl Tree {
         alloc: Global,
         after: Option<&str>,
         count: usize,
-    ) -> Result<Names, NamesFault>
+    ) -> Result<NamesPage, NamesFault>
         ensures page { IfOk result
             (λ page. page ≡ page_after self.now (option_copied after.entry) count) }
         ensures unknown { (result ≡ Err NamesFault.NoSuchName)
@@ -278,7 +278,7 @@ impl Tree {
         let start = self.index_after(octets_of(after))?;
         let rest = &self.rows.as_slice()[start..];
         let names = first_names(alloc, rest, count)?;
-        Ok(Names {
+        Ok(NamesPage {
             names: Listing::new(names),
             more: count < rest.len(),
         })

@@ -9,9 +9,9 @@ use Rattle.toml.specs.Data.{Data, Items, no_items, Members, as_str, get_member}
 use Rattle.bay_base.specs.declared.point.Point.{Point}
 use Rattle.bay_nodes.specs.declared.switch.Switch.{Switch}
 use Rattle.bay_config.specs.Bay.{bay_in, bay_of, bay_of_document, document_of, bay_section, file_refusal, name_key, name_keys, name_section, names_in, sections, switch_section, switches_in}
-use Rattle.bay_config.specs.Key.{Key, begins_with_letter, entry_refusal, first_of, held_refusal, identifier, is_identifier, is_name_character, key_refusal, passes, text_in, unknown_refusal}
+use Rattle.bay_config.specs.Key.{Key, begins_with_letter, entry_refusal, first_fault, value_refusal, identifier, is_identifier, is_name_character, key_refusal, passes, text_in, unknown_refusal}
 use Rattle.bay_config.specs.Remote.{remotes_refusal}
-use Rattle.bay_config.specs.Point.{inputs_from, meter_points, meters_from, names_refusal, points_from, points_of, points_of_all}
+use Rattle.bay_config.specs.Point.{inputs_from, meter_points, meters_from, names_refusal, points_from, points_of, bay_points}
 use Rattle.bay_config.specs.Section.{items_at, list_checks, list_refusal, section_refusal, tables_of}
 use Rattle.bay_config.specs.Switch.{control_key, control_of, kind_key, kind_of, optional_keys, switch_in, switch_keys, time_keys}
 use Rattle.bay_config.specs.declared.bay.Bay.{Bay}
@@ -35,7 +35,7 @@ passed-word (Some s) passed =
     in
     (and_parts (begins_with_letter s) (list_all is_name_character s) parts.0).1
 
-held-word : (o : Option Data) → held_refusal (identifier 16) o ≡ None
+held-word : (o : Option Data) → value_refusal (identifier 16) o ≡ None
     → IsWord (unwrap_or (option_and_then as_str o) [])
 held-word None none = absurd cc
 held-word (Some d) none =
@@ -59,7 +59,7 @@ module _
     (is : (t : Members) → entry_refusal (keys t) t ≡ None → IsWord (text_in t key))
   where
     tables-words : (ts : List Members)
-        → first_of (map (λ table. entry_refusal (keys table) table) ts) ≡ None
+        → first_fault (map (λ table. entry_refusal (keys table) table) ts) ≡ None
         → Each IsWord (map (λ t. text_in t key) ts)
     tables-words [] none = tt
     tables-words (t ∷ ts) none =
@@ -174,7 +174,7 @@ ids-of (t ∷ ts) all = (all.0, ids-of ts all.1)
 file-words : (file : Members) → file_refusal file ≡ None → HasWords (bay_in file)
 file-words file none =
     let names =
-    names_refusal (points_of_all (switches_in file) (names_in file Input) (names_in file Meter)) in
+    names_refusal (bay_points (switches_in file) (names_in file Input) (names_in file Meter)) in
     let keys = remotes_refusal (names_in file Input) (switches_in file) in
     let bay = section_refusal file bay_section in
     let switches = section_refusal file switch_section in

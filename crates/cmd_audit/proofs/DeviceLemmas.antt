@@ -2,7 +2,7 @@
 use Rattle.std.proofs.Common.{◌≡◌, ℕ, List, Option, Result, Ok, Err, IsErr, IfOk, refl}
 use Rattle.bay_io.specs.Calls.{WriteCall}
 use Rattle.bay_io.specs.Sent.{Finishes, Puts}
-use Rattle.bay_io.specs.Watched.{Writing}
+use Rattle.bay_io.specs.Watched.{WriterState}
 use Rattle.bay_io.specs.declared.outbox.WriteFault.{WriteFault}
 use Rattle.bay_io.proofs.SentLemmas.{Puts-then}
 use Rattle.bay_load.specs.Loads.{LoadData}
@@ -20,8 +20,8 @@ module _ {W : Type 0} {contents : W → Option (List ℕ)} {does : W → WriteCa
     (loaded : LoadData) (texts : AuditTexts) (report : Report) (is : IsReport loaded.image report)
     (log : Option (List ℕ)) (status : ℕ) where
   -- the line of a load was put and written out, and then the rest
-  pub device-prints : {X E : Type 0} {old first begun mid : Writing W} (early : Result X E)
-      (between : Writing W) (r : Result ℕ WriteFault)
+  pub device-prints : {X E : Type 0} {old first begun mid : WriterState W} (early : Result X E)
+      (between : WriterState W) (r : Result ℕ WriteFault)
       → Puts contents does old (report_text report) first
       → Finishes contents does first begun early
       → PutsRest contents does loaded texts log status begun mid
@@ -32,7 +32,7 @@ module _ {W : Type 0} {contents : W → Option (List ℕ)} {does : W → WriteCa
       (record { report = report; is = is; rest = p.rest; whole = refl; says = p.says })
       (Puts-then (put-flushed {X = X} {E = E} (report_text report) early put flushed) p.put) f ends
 
-  pub device-told : {old between new : Writing W} (answered : ℕ)
+  pub device-told : {old between new : WriterState W} (answered : ℕ)
       → Prints contents does (LoadedReport loaded texts.rules texts.diagram log) old between
       (Ok answered)
       → LogsSome contents does between log new
@@ -41,7 +41,7 @@ module _ {W : Type 0} {contents : W → Option (List ℕ)} {does : W → WriteCa
   device-told {old} {between} {new} answered p logged =
       record { line = log; between = between; printed = p; logged = logged }
 
-  pub device-cut : {old between : Writing W} (fault : WriteFault) (r : Result ℕ WriteFault)
+  pub device-cut : {old between : WriterState W} (fault : WriteFault) (r : Result ℕ WriteFault)
       → IsErr r
       → Prints contents does (LoadedReport loaded texts.rules texts.diagram log) old between
       (Err fault)

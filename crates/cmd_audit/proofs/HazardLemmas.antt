@@ -11,7 +11,7 @@ use Rattle.bay_diagram.specs.declared.network.Network.{Network}
 use Rattle.bay_diagram_file.specs.declared.diagram.Diagram.{Diagram}
 use Rattle.bay_io.specs.Calls.{WriteCall}
 use Rattle.bay_io.specs.Sent.{Puts}
-use Rattle.bay_io.specs.Watched.{Writing}
+use Rattle.bay_io.specs.Watched.{WriterState}
 use Rattle.bay_io.proofs.SentLemmas.{Puts-as, Puts-nil, Puts-then}
 use Rattle.bay_load.specs.Loads.{LoadData}
 use Rattle.cmd_audit.specs.Auditing.{Judgements, status_of}
@@ -33,7 +33,7 @@ and-true false = refl
 
 module _ {W : Type 0} {contents : W → Option (List ℕ)} {does : W → WriteCall → W → Type 0}
     (bay : Bay) (d : Diagram) (g : BoundProgram) where
-  pub none-put : (w : Writing W) → PutsJudged contents does bay d g [] true w w
+  pub none-put : (w : WriterState W) → PutsJudged contents does bay d g [] true w w
   none-put w = record {
     releases = [];
     right = tt;
@@ -43,7 +43,7 @@ module _ {W : Type 0} {contents : W → Option (List ℕ)} {does : W → WriteCa
   }
 
   pub more-put : (these : List (ℕ × Operation)) (way : ℕ × Operation) (passed : Bool)
-      (r : JudgedRelease) {old mid new : Writing W}
+      (r : JudgedRelease) {old mid new : WriterState W}
       → PutsJudged contents does bay d g these passed old mid
       → IsJudgedRelease g d.network r → judged_way r ≡ way
       → Puts contents does mid (hazard_line bay d r) new
@@ -68,7 +68,7 @@ module _ {W : Type 0} {contents : W → Option (List ℕ)} {does : W → WriteCa
 
   -- one more of the first ways
   pub next-put : (these : List (ℕ × Operation)) (k : ℕ) (passed : Bool) (way : ℕ × Operation)
-      (r : JudgedRelease) (text : List ℕ) {old mid new : Writing W}
+      (r : JudgedRelease) (text : List ℕ) {old mid new : WriterState W}
       → take (k + 1) these ≡ take k these ++ way ∷ []
       → PutsJudged contents does bay d g (take k these) passed old mid
       → IsJudgedRelease g d.network r → judged_way r ≡ way → text ≡ hazard_line bay d r
@@ -80,7 +80,7 @@ module _ {W : Type 0} {contents : W → Option (List ℕ)} {does : W → WriteCa
       (sym taken)
       (more-put (take k these) way passed r p right is (Puts-as (hazard_line bay d r) said put))
 
-  pub first-put : (these : List (ℕ × Operation)) (k : ℕ) (passed : Bool) {old new : Writing W}
+  pub first-put : (these : List (ℕ × Operation)) (k : ℕ) (passed : Bool) {old new : WriterState W}
       → PutsJudged contents does bay d g (take k these) passed old new
       → PutsFirstJudged contents does bay d g these old new
   first-put these k passed {old} {new} p = record {
@@ -94,7 +94,7 @@ module _ {W : Type 0} {contents : W → Option (List ℕ)} {does : W → WriteCa
 module _ {W : Type 0} {contents : W → Option (List ℕ)} {does : W → WriteCall → W → Type 0}
     (loaded : LoadData) (d : Diagram) where
   -- nothing was written
-  pub cut-at-once : (w : Writing W)
+  pub cut-at-once : (w : WriterState W)
       → PutsText contents does (Judgements loaded d) (codes "fault memory\n") 3 w w
   cut-at-once w = record {
     text = [];
@@ -111,7 +111,7 @@ module _ {W : Type 0} {contents : W → Option (List ℕ)} {does : W → WriteCa
     };
   }
 
-  pub cut-judged : (g : BoundProgram) (these : List (ℕ × Operation)) {old new : Writing W}
+  pub cut-judged : (g : BoundProgram) (these : List (ℕ × Operation)) {old new : WriterState W}
       → g ≡ program_of loaded.bay loaded.image → these ≡ directions (length loaded.bay.switches)
       → PutsFirstJudged contents does loaded.bay d g these old new
       → PutsText contents does (Judgements loaded d) (codes "fault memory\n") 3 old new
@@ -131,7 +131,7 @@ module _ {W : Type 0} {contents : W → Option (List ℕ)} {does : W → WriteCa
   }
 
   pub whole-judged : (g : BoundProgram) (these : List (ℕ × Operation)) (passed : Bool)
-      {old new : Writing W}
+      {old new : WriterState W}
       → g ≡ program_of loaded.bay loaded.image → these ≡ directions (length loaded.bay.switches)
       → PutsJudged contents does loaded.bay d g these passed old new
       → PutsText contents does (Judgements loaded d) [] (status_of passed) old new
@@ -152,7 +152,7 @@ module _ {W : Type 0} {contents : W → Option (List ℕ)} {does : W → WriteCa
 -- all lines were written, or only the first, as memory ran out
 pub judged-of : {W : Type 0} (contents : W → Option (List ℕ)) (does : W → WriteCall → W → Type 0)
     (loaded : LoadData) (d : Diagram) (g : BoundProgram) (these : List (ℕ × Operation)) {E : Type 0}
-    (old new : Writing W) (r : Result Bool E)
+    (old new : WriterState W) (r : Result Bool E)
     → g ≡ program_of loaded.bay loaded.image → these ≡ directions (length loaded.bay.switches)
     → MatchResult r (λ passed. PutsJudged contents does loaded.bay d g these passed old new)
     (λ e. PutsFirstJudged contents does loaded.bay d g these old new)

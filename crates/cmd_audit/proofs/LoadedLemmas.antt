@@ -6,7 +6,7 @@ use Rattle.bay_diagram_file.specs.declared.diagram.Diagram.{Diagram}
 use Rattle.bay_diagram_file.specs.declared.fault.DiagramFault.{DiagramFault}
 use Rattle.bay_io.specs.Calls.{WriteCall}
 use Rattle.bay_io.specs.Sent.{Puts}
-use Rattle.bay_io.specs.Watched.{Writing}
+use Rattle.bay_io.specs.Watched.{WriterState}
 use Rattle.bay_io.proofs.SentLemmas.{Puts-nil, Puts-then}
 use Rattle.bay_load.specs.Loads.{LoadData}
 use Rattle.bay_report.specs.LogLines.{IsReported}
@@ -32,7 +32,7 @@ status-of false false = refl
 module _ {W : Type 0} {contents : W → Option (List ℕ)} {does : W → WriteCall → W → Type 0}
     (loaded : LoadData) (rules : Option (List Rule)) (d : Option Diagram) where
   -- both parts were written to their end
-  pub answered-whole : (passed safe : Bool) (status : ℕ) {old mid new : Writing W}
+  pub answered-whole : (passed safe : Bool) (status : ℕ) {old mid new : WriterState W}
       → PutsText contents does (AnswersIf loaded rules) [] (status_of passed) old mid
       → PutsText contents does (JudgementsIf loaded d) [] (status_of safe) mid new
       → status ≡ status_of (passed && safe)
@@ -55,13 +55,13 @@ module _ {W : Type 0} {contents : W → Option (List ℕ)} {does : W → WriteCa
   }
 
   -- memory ran out in the first part
-  pub answered-first : {old new : Writing W}
+  pub answered-first : {old new : WriterState W}
       → PutsText contents does (AnswersIf loaded rules) (codes "fault memory\n") 3 old new
       → PutsText contents does (AreAnswered loaded rules d) (codes "fault memory\n") 3 old new
   answered-first {old} {new} a = record { text = a.text; put = a.put; says = inr (refl, a.says) }
 
   -- memory ran out in the second part
-  pub answered-second : (passed : Bool) {old mid new : Writing W}
+  pub answered-second : (passed : Bool) {old mid new : WriterState W}
       → PutsText contents does (AnswersIf loaded rules) [] (status_of passed) old mid
       → PutsText contents does (JudgementsIf loaded d) (codes "fault memory\n") 3 mid new
       → PutsText contents does (AreAnswered loaded rules d) (codes "fault memory\n") 3 old new
@@ -83,22 +83,22 @@ module _ {W : Type 0} {contents : W → Option (List ℕ)} {does : W → WriteCa
 
 -- nothing was written for rules or a diagram that are not there
 pub none-answered : {W : Type 0} {contents : W → Option (List ℕ)}
-    {does : W → WriteCall → W → Type 0} (loaded : LoadData) (w : Writing W)
+    {does : W → WriteCall → W → Type 0} (loaded : LoadData) (w : WriterState W)
     → PutsText contents does (AnswersIf loaded None) [] 0 w w
 none-answered loaded w = record { text = []; put = Puts-nil w; says = (refl, refl) }
 
 pub none-judged : {W : Type 0} {contents : W → Option (List ℕ)}
-    {does : W → WriteCall → W → Type 0} (loaded : LoadData) (w : Writing W)
+    {does : W → WriteCall → W → Type 0} (loaded : LoadData) (w : WriterState W)
     → PutsText contents does (JudgementsIf loaded None) [] 0 w w
 none-judged loaded w = record { text = []; put = Puts-nil w; says = (refl, refl) }
 
 module _ {W : Type 0} {contents : W → Option (List ℕ)} {does : W → WriteCall → W → Type 0}
     (loaded : LoadData) (texts : AuditTexts) where
   -- nothing was put
-  pub put-nothing : (w : Writing W) → PutsStopped contents does loaded texts w w
+  pub put-nothing : (w : WriterState W) → PutsStopped contents does loaded texts w w
   put-nothing w = record { text = []; put = Puts-nil w; says = inr refl }
 
-  pub put-stopped : (rules : Option (List Rule)) (d : Option Diagram) {old new : Writing W}
+  pub put-stopped : (rules : Option (List Rule)) (d : Option Diagram) {old new : WriterState W}
       → RulesRead loaded.bay texts.rules (Ok rules) → DiagramRead loaded.bay texts.diagram (Ok d)
       → PutsText contents does (AreAnswered loaded rules d) (codes "fault memory\n") 3 old new
       → PutsStopped contents does loaded texts old new
@@ -113,7 +113,7 @@ module _ {W : Type 0} {contents : W → Option (List ℕ)} {does : W → WriteCa
   }
 
   pub put-said : (rules : Option (List Rule)) (d : Option Diagram) (status : ℕ)
-      {old new : Writing W}
+      {old new : WriterState W}
       → RulesRead loaded.bay texts.rules (Ok rules) → DiagramRead loaded.bay texts.diagram (Ok d)
       → PutsText contents does (AreAnswered loaded rules d) [] status old new
       → PutsSaid contents does loaded texts None status old new
@@ -134,7 +134,7 @@ module _ {W : Type 0} {contents : W → Option (List ℕ)} {does : W → WriteCa
     };
   }
 
-  pub put-refused : (fault : RuleFault) {old new : Writing W}
+  pub put-refused : (fault : RuleFault) {old new : WriterState W}
       → RulesRead loaded.bay texts.rules (Err fault)
       → Puts contents does old (refusal_text fault) new
       → PutsSaid contents does loaded texts (log_in (Some (Rules fault))) 1 old new
@@ -145,7 +145,7 @@ module _ {W : Type 0} {contents : W → Option (List ℕ)} {does : W → WriteCa
   }
 
   pub put-refused-diagram : (rules : Option (List Rule)) (fault : DiagramFault)
-      {old new : Writing W}
+      {old new : WriterState W}
       → RulesRead loaded.bay texts.rules (Ok rules)
       → DiagramRead loaded.bay texts.diagram (Err fault)
       → Puts contents does old (diagram_refusal fault) new
@@ -160,7 +160,7 @@ module _ {W : Type 0} {contents : W → Option (List ℕ)} {does : W → WriteCa
     };
   }
 
-  pub rest-stopped : {old mid new : Writing W}
+  pub rest-stopped : {old mid new : WriterState W}
       → PutsStopped contents does loaded texts old mid
       → Puts contents does mid (codes "fault memory\n") new
       → PutsRest contents does loaded texts None 3 old new
@@ -182,7 +182,7 @@ module _ {W : Type 0} {contents : W → Option (List ℕ)} {does : W → WriteCa
 -- the text for rules and a diagram that were read
 pub said-of : {W : Type 0} (contents : W → Option (List ℕ)) (does : W → WriteCall → W → Type 0)
     (loaded : LoadData) (texts : AuditTexts) (rules : Option (List Rule)) (d : Option Diagram)
-    {E : Type 0} (old new : Writing W) (r : Result AuditEnd E)
+    {E : Type 0} (old new : WriterState W) (r : Result AuditEnd E)
     → RulesRead loaded.bay texts.rules (Ok rules) → DiagramRead loaded.bay texts.diagram (Ok d)
     → MatchResult r
     (λ end. (end.refused ≡ None)

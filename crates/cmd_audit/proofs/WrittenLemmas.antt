@@ -20,7 +20,7 @@ use Rattle.bay_config.specs.declared.bay.Bay.{Bay}
 use Rattle.bay_io.specs.Calls.{WriteCall}
 use Rattle.std.specs.Io.KnownBytes.{Appends}
 use Rattle.bay_io.specs.Sent.{Finishes, Puts, SendsPart}
-use Rattle.bay_io.specs.Watched.{Writing}
+use Rattle.bay_io.specs.Watched.{WriterState}
 use Rattle.bay_io.proofs.SentLemmas.{Puts-as, Puts-nil, Puts-out, Puts-then}
 use Rattle.cmd_audit.specs.Auditing.{Answers, status_of}
 use Rattle.bay_load.specs.Loads.{LoadData}
@@ -120,21 +120,21 @@ ways-half k n low =
 
 module _ {W : Type 0} {contents : W → Option (List ℕ)} {does : W → WriteCall → W → Type 0} where
   -- the buffer was written out
-  pub Finishes-puts : {X E : Type 0} {old new : Writing W} (r : Result X E)
+  pub Finishes-puts : {X E : Type 0} {old new : WriterState W} (r : Result X E)
       → Finishes contents does old new r → Puts contents does old [] new
   Finishes-puts {X} {E} {old} {new} (Ok x) f =
       Puts-out {X = X} {E = E} old new [] (Ok x)
       (subst (λ t. Appends (contents old.inner) (contents new.inner)
       t) (sym (append-nil old.pending)) f.ends.1)
-      tt f.ends.2 (sym f.ends.3.0) (λ failed. let well = f.ends.0 in absurd cc) f.asked f.same_logs
+      tt f.ends.2 (sym f.ends.3.0) (λ failed. let well = f.ends.0 in absurd cc) f.calls_made f.same_logs
   Finishes-puts {X} {E} {old} {new} (Err e) f =
       Puts-out {X = X} {E = E} old new [] (Err e) tt
       (subst (λ t. SendsPart (contents old.inner) (contents new.inner) t)
       (sym (append-nil old.pending)) f.ends.0)
-      tt (sym f.ends.2) (λ failed. (f.ends.1 failed, f.ends.2)) f.asked f.same_logs
+      tt (sym f.ends.2) (λ failed. (f.ends.1 failed, f.ends.2)) f.calls_made f.same_logs
 
   -- a text was put, and the buffer was written out
-  pub put-flushed : {X E : Type 0} {old mid new : Writing W} (text : List ℕ) (r : Result X E)
+  pub put-flushed : {X E : Type 0} {old mid new : WriterState W} (text : List ℕ) (r : Result X E)
       → Puts contents does old text mid → Finishes contents does mid new r
       → Puts contents does old text new
   put-flushed {X} {E} {old} {mid} {new} text r put f =
@@ -143,11 +143,11 @@ module _ {W : Type 0} {contents : W → Option (List ℕ)} {does : W → WriteCa
   module _ (bay : Bay) (names : Known) (g : BoundProgram) where
     -- ---- answers
 
-    pub no-answers : (w : Writing W) → PutsAnswers contents does bay names g [] true w w
+    pub no-answers : (w : WriterState W) → PutsAnswers contents does bay names g [] true w w
     no-answers w = record { answers = []; right = tt; so = refl; put = Puts-nil w }
 
     pub more-answers : (rules : List Rule) (passed : Bool) (rule : Rule) (answer : RuleAnswer)
-        {old mid new : Writing W} → PutsAnswers contents does bay names g rules passed old mid
+        {old mid new : WriterState W} → PutsAnswers contents does bay names g rules passed old mid
         → IsRightAnswer g rule answer → Puts contents does mid (answer_text bay names (rule, answer)) new
         → PutsAnswers contents does bay names g (rules ++ rule ∷ []) (passed && is_passed answer)
         old new
@@ -175,7 +175,7 @@ module _ {W : Type 0} {contents : W → Option (List ℕ)} {does : W → WriteCa
         and-true true = refl
         and-true false = refl
 
-    pub first-of : (rules answered others : List Rule) (passed : Bool) {old new : Writing W}
+    pub first-of : (rules answered others : List Rule) (passed : Bool) {old new : WriterState W}
         → rules ≡ answered ++ others
         → PutsAnswers contents does bay names g answered passed old new
         → PutsFirst contents does bay names g rules old new
@@ -187,14 +187,14 @@ module _ {W : Type 0} {contents : W → Option (List ℕ)} {does : W → WriteCa
       put = p;
     }
 
-    pub first-rules : (rules : List Rule) (k : ℕ) (passed : Bool) {old new : Writing W}
+    pub first-rules : (rules : List Rule) (k : ℕ) (passed : Bool) {old new : WriterState W}
         → PutsAnswers contents does bay names g (take k rules) passed old new
         → PutsFirst contents does bay names g rules old new
     first-rules rules k passed p =
         first-of rules (take k rules) (drop k rules) passed (sym (take-append-drop k rules)) p
 
     pub more-rules : (rules : List Rule) (k : ℕ) (passed : Bool) (rule : Rule)
-        (answer : RuleAnswer) (text : List ℕ) {old mid new : Writing W}
+        (answer : RuleAnswer) (text : List ℕ) {old mid new : WriterState W}
         → take (k + 1) rules ≡ take k rules ++ rule ∷ []
         → PutsAnswers contents does bay names g (take k rules) passed old mid
         → IsRightAnswer g rule answer → text ≡ answer_text bay names (rule, answer)
@@ -210,11 +210,11 @@ module _ {W : Type 0} {contents : W → Option (List ℕ)} {does : W → WriteCa
 
     -- ---- releases
 
-    pub no-releases : (w : Writing W) → PutsReleases contents does bay names g [] [] w w
+    pub no-releases : (w : WriterState W) → PutsReleases contents does bay names g [] [] w w
     no-releases w = record { right = tt; all = refl; put = Puts-nil w }
 
     pub more-releases : (these : List (ℕ × Operation)) (releases : List Release)
-        (way : ℕ × Operation) (r : Release) {old mid new : Writing W}
+        (way : ℕ × Operation) (r : Release) {old mid new : WriterState W}
         → PutsReleases contents does bay names g these releases old mid
         → PutsRelease contents does bay names g way r mid new
         → PutsReleases contents does bay names g (these ++ way ∷ []) (releases ++ r ∷ []) old new
@@ -233,7 +233,7 @@ module _ {W : Type 0} {contents : W → Option (List ℕ)} {does : W → WriteCa
         }
 
     pub some-of : (all found later : List (ℕ × Operation)) (releases : List Release)
-        {old new : Writing W} → all ≡ found ++ later
+        {old new : WriterState W} → all ≡ found ++ later
         → PutsReleases contents does bay names g found releases old new
         → PutsSome contents does bay names g all old new
     some-of all found later releases parts p = record {
@@ -246,7 +246,7 @@ module _ {W : Type 0} {contents : W → Option (List ℕ)} {does : W → WriteCa
 
     -- it stopped at a release: its lines were written, or nothing was
     pub stopped-at : (all found later : List (ℕ × Operation)) (way : ℕ × Operation)
-        (releases : List Release) {old mid new : Writing W} → all ≡ found ++ way ∷ later
+        (releases : List Release) {old mid new : WriterState W} → all ≡ found ++ way ∷ later
         → PutsReleases contents does bay names g found releases old mid
         → PutsMaybe contents does bay names g way mid new
         → PutsSome contents does bay names g all old new
@@ -261,7 +261,7 @@ module _ {W : Type 0} {contents : W → Option (List ℕ)} {does : W → WriteCa
   -- ---- texts
 
   module _ (loaded : LoadData) (rules : List Rule) where
-    pub cut-answers : {old new : Writing W}
+    pub cut-answers : {old new : WriterState W}
         → PutsFirst contents does loaded.bay (known_of loaded) (program_of loaded.bay loaded.image)
         rules old new
         → PutsText contents does (Answers loaded rules) (codes "fault memory\n") 3 old new
@@ -297,14 +297,14 @@ module _ {W : Type 0} {contents : W → Option (List ℕ)} {does : W → WriteCa
           };
         }
 
-    pub cut-none : (w : Writing W)
+    pub cut-none : (w : WriterState W)
         → PutsText contents does (Answers loaded rules) (codes "fault memory\n") 3 w w
     cut-none w =
         cut-answers (first-of loaded.bay (known_of loaded) (program_of loaded.bay loaded.image)
         rules [] rules true refl
         (no-answers loaded.bay (known_of loaded) (program_of loaded.bay loaded.image) w))
 
-    pub cut-releases : (passed : Bool) {old mid new : Writing W}
+    pub cut-releases : (passed : Bool) {old mid new : WriterState W}
         → PutsAnswers contents does loaded.bay (known_of loaded)
         (program_of loaded.bay loaded.image) rules passed old mid
         → PutsSome contents does loaded.bay (known_of loaded) (program_of loaded.bay loaded.image)
@@ -336,7 +336,7 @@ module _ {W : Type 0} {contents : W → Option (List ℕ)} {does : W → WriteCa
           };
         }
 
-    pub whole-text : (passed : Bool) (releases : List Release) {old mid last new : Writing W}
+    pub whole-text : (passed : Bool) (releases : List Release) {old mid last new : WriterState W}
         → PutsAnswers contents does loaded.bay (known_of loaded)
         (program_of loaded.bay loaded.image) rules passed old mid
         → PutsReleases contents does loaded.bay (known_of loaded)
@@ -369,7 +369,7 @@ module _ {W : Type 0} {contents : W → Option (List ℕ)} {does : W → WriteCa
     module _ (these : Known) (g : BoundProgram) (e : these ≡ (known_of loaded))
         (f : g ≡ program_of loaded.bay loaded.image)
       where
-        pub stopped-answers : {old new : Writing W}
+        pub stopped-answers : {old new : WriterState W}
             → PutsFirst contents does loaded.bay these g rules old new
             → PutsText contents does (Answers loaded rules) (codes "fault memory\n") 3 old new
         stopped-answers {old} {new} p =
@@ -380,7 +380,7 @@ module _ {W : Type 0} {contents : W → Option (List ℕ)} {does : W → WriteCa
             (subst (λ (h : BoundProgram). PutsFirst contents does loaded.bay these h rules old new)
             f p))
 
-        pub stopped-releases : (passed : Bool) {old mid new : Writing W}
+        pub stopped-releases : (passed : Bool) {old mid new : WriterState W}
             → PutsAnswers contents does loaded.bay these g rules passed old mid
             → PutsSome contents does loaded.bay these g (directions (length loaded.bay.switches)) mid new
             → PutsText contents does (Answers loaded rules) (codes "fault memory\n") 3 old new
@@ -400,7 +400,7 @@ module _ {W : Type 0} {contents : W → Option (List ℕ)} {does : W → WriteCa
             (directions (length loaded.bay.switches)) mid new) f s))
 
         pub whole : (passed : Bool) (releases : List Release) (text : List ℕ)
-            {old mid last new : Writing W}
+            {old mid last new : WriterState W}
             → PutsAnswers contents does loaded.bay these g rules passed old mid
             → PutsReleases contents does loaded.bay these g (directions (length loaded.bay.switches))
             releases mid last

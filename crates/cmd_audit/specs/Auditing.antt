@@ -11,7 +11,7 @@ use Rattle.bay_diagram_file.specs.declared.diagram.Diagram.{Diagram}
 use Rattle.bay_diagram_file.specs.declared.fault.DiagramFault.{DiagramFault}
 use Rattle.bay_files.specs.Files.{FileReads, FilesData, ReadsBoth, ReadsFile, UnreadData}
 use Rattle.bay_io.specs.Calls.{WriteCall}
-use Rattle.bay_io.specs.Watched.{Writing}
+use Rattle.bay_io.specs.Watched.{WriterState}
 use Rattle.bay_io.specs.declared.outbox.WriteFault.{WriteFault}
 use Rattle.bay_load.specs.Loads.{LoadData, LoadsTo, MayLoadTo}
 use Rattle.bay_load.specs.Report.{IsReport}
@@ -269,7 +269,7 @@ ReadsAll reads files named (Err unread) =
 
 -- an audit by the result of reading its files; the text of a fault if one can't be read
 abbrev pub AuditsRead : {W : Type 0} → (W → Option (List ℕ)) → (W → WriteCall → W → Type 0) → Form
-    → Result AuditOctets UnreadData → Writing W → Writing W → Result ℕ WriteFault → Type 0
+    → Result AuditOctets UnreadData → WriterState W → WriterState W → Result ℕ WriteFault → Type 0
 AuditsRead contents asks form (Err unread) old new answer =
     PrintsLogs contents asks (UnreadReport unread.name unread.fault) old new answer
 AuditsRead contents asks form (Ok octets) old new answer =
@@ -277,7 +277,7 @@ AuditsRead contents asks form (Ok octets) old new answer =
 
 -- an audit of a bay file, a program or an image, and rules, a diagram or both, by their names
 pub record Audits {F W : Type 0} (reads : FileReads F) (contents : W → Option (List ℕ))
-    (asks : W → WriteCall → W → Type 0) (named : AuditNames) (files : F) (old new : Writing W)
+    (asks : W → WriteCall → W → Type 0) (named : AuditNames) (files : F) (old new : WriterState W)
     (answer : Result ℕ WriteFault) : Type 0 where
   pub read : Result AuditOctets UnreadData
   pub is_read : ReadsAll reads files named read

@@ -9,7 +9,7 @@ use Rattle.bay_base.specs.declared.switch.Operation.{Operation}
 use Rattle.bay_config.specs.declared.bay.Bay.{Bay}
 use Rattle.bay_io.specs.Calls.{WriteCall}
 use Rattle.bay_io.specs.Sent.{Puts}
-use Rattle.bay_io.specs.Watched.{Writing}
+use Rattle.bay_io.specs.Watched.{WriterState}
 use Rattle.bay_load.specs.Loads.{LoadData}
 use Rattle.bay_report.specs.LogLines.{IsReported}
 use Rattle.bay_diagram_file.specs.declared.diagram.Diagram.{Diagram}
@@ -24,7 +24,7 @@ use Rattle.cmd_audit.specs.declared.loaded.AuditTexts.{AuditTexts}
 module _ {W : Type 0} (contents : W → Option (List ℕ)) (does : W → WriteCall → W → Type 0) where
   -- the lines of right answers to these rules, and whether each holds
   pub record PutsAnswers (bay : Bay) (names : Known) (g : BoundProgram) (rules : List Rule)
-      (passed : Bool) (old new : Writing W) : Type 0 where
+      (passed : Bool) (old new : WriterState W) : Type 0 where
     pub answers : List RuleAnswer
     pub right : AreRightAnswers g rules answers
     pub so : passed ≡ list_all is_passed answers
@@ -32,7 +32,7 @@ module _ {W : Type 0} (contents : W → Option (List ℕ)) (does : W → WriteCa
 
   -- the lines of right answers to the first of these rules
   pub record PutsFirst (bay : Bay) (names : Known) (g : BoundProgram) (rules : List Rule)
-      (old new : Writing W) : Type 0 where
+      (old new : WriterState W) : Type 0 where
     pub answered : List Rule
     pub others : List Rule
     pub parts : rules ≡ answered ++ others
@@ -41,20 +41,20 @@ module _ {W : Type 0} (contents : W → Option (List ℕ)) (does : W → WriteCa
 
   -- the lines of a right release of this switch and operation
   pub record PutsRelease (bay : Bay) (names : Known) (g : BoundProgram) (way : ℕ × Operation)
-      (r : Release) (old new : Writing W) : Type 0 where
+      (r : Release) (old new : WriterState W) : Type 0 where
     pub right : IsRelease bay g r
     pub is : direction_of r ≡ way
     pub put : Puts contents does old (release_text bay names r) new
 
   -- the lines of a right release of this switch and operation, or nothing
-  abbrev pub PutsMaybe : Bay → Known → BoundProgram → ℕ × Operation → Writing W → Writing W
+  abbrev pub PutsMaybe : Bay → Known → BoundProgram → ℕ × Operation → WriterState W → WriterState W
       → Type 0
   PutsMaybe bay names g way old new =
       (new ≡ old) ⊎ ((r : Release) × PutsRelease bay names g way r old new)
 
   -- the lines of these releases, which are right and are those of these switches and operations
   pub record PutsReleases (bay : Bay) (names : Known) (g : BoundProgram)
-      (these : List (ℕ × Operation)) (releases : List Release) (old new : Writing W)
+      (these : List (ℕ × Operation)) (releases : List Release) (old new : WriterState W)
       : Type 0 where
     pub right : AreReleases bay g releases
     pub all : map direction_of releases ≡ these
@@ -62,7 +62,7 @@ module _ {W : Type 0} (contents : W → Option (List ℕ)) (does : W → WriteCa
 
   -- the lines of right releases of the first of these switches and operations
   pub record PutsSome (bay : Bay) (names : Known) (g : BoundProgram)
-      (these : List (ℕ × Operation)) (old new : Writing W) : Type 0 where
+      (these : List (ℕ × Operation)) (old new : WriterState W) : Type 0 where
     pub found : List (ℕ × Operation)
     pub later : List (ℕ × Operation)
     pub parts : these ≡ found ++ later
@@ -71,7 +71,7 @@ module _ {W : Type 0} (contents : W → Option (List ℕ)) (does : W → WriteCa
 
   -- a text, up to the line of a fault if it stopped, which is such a text with this status
   pub record PutsText (Says : List ℕ → ℕ → Type 0) (fault : List ℕ) (status : ℕ)
-      (old new : Writing W) : Type 0 where
+      (old new : WriterState W) : Type 0 where
     pub text : List ℕ
     pub put : Puts contents does old text new
     pub says : Says (text ++ fault) status
@@ -79,7 +79,7 @@ module _ {W : Type 0} (contents : W → Option (List ℕ)) (does : W → WriteCa
   -- the lines of judged releases, which are right and are those of these switches and operations,
   -- and whether each of them holds
   pub record PutsJudged (bay : Bay) (d : Diagram) (g : BoundProgram)
-      (these : List (ℕ × Operation)) (passed : Bool) (old new : Writing W) : Type 0 where
+      (these : List (ℕ × Operation)) (passed : Bool) (old new : WriterState W) : Type 0 where
     pub releases : List JudgedRelease
     pub right : AreJudged g d.network releases
     pub all : map judged_way releases ≡ these
@@ -88,7 +88,7 @@ module _ {W : Type 0} (contents : W → Option (List ℕ)) (does : W → WriteCa
 
   -- the lines of judged releases of the first of these switches and operations
   pub record PutsFirstJudged (bay : Bay) (d : Diagram) (g : BoundProgram)
-      (these : List (ℕ × Operation)) (old new : Writing W) : Type 0 where
+      (these : List (ℕ × Operation)) (old new : WriterState W) : Type 0 where
     pub found : List (ℕ × Operation)
     pub later : List (ℕ × Operation)
     pub parts : these ≡ found ++ later
@@ -97,14 +97,14 @@ module _ {W : Type 0} (contents : W → Option (List ℕ)) (does : W → WriteCa
 
   -- the text after the line of a load
   pub record PutsSaid (loaded : LoadData) (texts : AuditTexts) (log : Option (List ℕ)) (status : ℕ)
-      (old new : Writing W) : Type 0 where
+      (old new : WriterState W) : Type 0 where
     pub text : List ℕ
     pub put : Puts contents does old text new
     pub says : IsTextFor loaded texts.rules texts.diagram log text status
 
   -- the text after the line of a load, without the line of a fault, before which it stopped; or
   -- nothing
-  pub record PutsStopped (loaded : LoadData) (texts : AuditTexts) (old new : Writing W)
+  pub record PutsStopped (loaded : LoadData) (texts : AuditTexts) (old new : WriterState W)
       : Type 0 where
     pub text : List ℕ
     pub put : Puts contents does old text new
@@ -113,7 +113,7 @@ module _ {W : Type 0} (contents : W → Option (List ℕ)) (does : W → WriteCa
 
   -- the text after the line of a load, also if it stopped
   pub record PutsRest (loaded : LoadData) (texts : AuditTexts) (log : Option (List ℕ)) (status : ℕ)
-      (old new : Writing W) : Type 0 where
+      (old new : WriterState W) : Type 0 where
     pub rest : List ℕ
     pub put : Puts contents does old rest new
     pub says : IsTextFor loaded texts.rules texts.diagram log rest status

@@ -17,9 +17,9 @@ use Rattle.bay_diagram_file.specs.Diagram.{diagram_of_file}
 use Rattle.bay_diagram_file.specs.declared.diagram.Diagram.{Diagram}
 use Rattle.bay_diagram_file.specs.declared.fault.DiagramFault.{DiagramFault}
 use Rattle.bay_device.specs.Device.{State}
-use Rattle.bay_device.specs.Fresh.{Past}
+use Rattle.bay_device.specs.Fresh.{PastEvent}
 use Rattle.bay_device.specs.Load.{LoadsDevice, device_of}
-use Rattle.bay_files.specs.Files.{FileGuards, FileReads, FilesData, ReadsFile}
+use Rattle.bay_files.specs.Files.{ProtectedReads, FileReads, FilesData, ReadsFile}
 use Rattle.bay_io.specs.Calls.{WriteCall}
 use Rattle.bay_load.specs.Loads.{IsImageOf, LoadData, LoadsTo, file_of}
 use Rattle.bay_load.proofs.LoadLemmas.{load-made}
@@ -80,7 +80,7 @@ plain-since g rule n cases plain right =
 
 -- commands that obey a rule wait for its time
 waits-so : (rule : Rule) (timing : Timing) → rule.kind ≡ Never → (first : State) (h : ServerData)
-    (scans : List (ℕ × Bool)) (past : List Past) (ts : List DoneTurn)
+    (scans : List (ℕ × Bool)) (past : List PastEvent) (ts : List DoneTurn)
     → OrdersObey rule first h past ts → OrdersWait rule timing first h scans past ts
 waits-so rule timing never first h scans past [] obeys = tt
 waits-so rule timing never first h scans past (t ∷ ts) obeys = (
@@ -222,7 +222,7 @@ read-text reads files named name is octets read =
 
 module _ {F L H W : Type 0} (step : L → Call → L → Type 0) (acts : H → HostCall L → H → Type 0)
     (contents : W → Option (List ℕ)) (asks : W → WriteCall → W → Type 0) (reads : FileReads F)
-    (guards : FileGuards F) where
+    (guards : ProtectedReads F) where
   pub guarded-obey : GuardedCommandsObey step acts contents asks reads guards
   guarded-obey files named numbers before after old new answer serves name is =
       files-is step acts contents asks reads guards files named

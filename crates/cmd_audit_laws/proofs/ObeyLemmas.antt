@@ -11,7 +11,7 @@ use Rattle.bay_base.specs.declared.switch.Operation.{Operation}
 use Rattle.bay_config.specs.Laws.{IsBay}
 use Rattle.bay_config.specs.declared.bay.Bay.{Bay}
 use Rattle.bay_device.specs.Device.{State}
-use Rattle.bay_device.specs.Fresh.{Past}
+use Rattle.bay_device.specs.Fresh.{PastEvent}
 use Rattle.bay_device.specs.Load.{initial_device}
 use Rattle.bay_device.specs.Outcomes.{connection_at, outcome}
 use Rattle.bay_device.specs.Steps.{OfAssociation, Steps}
@@ -127,11 +127,11 @@ AreGiven [] = Unit {0}
 AreGiven (t ∷ ts) = IfSome t.given.event EventFits × AreGiven ts
 
 -- each event of a history is of its type
-abbrev pub AreTypedPast : State → List Past → Type 0
+abbrev pub AreTypedPast : State → List PastEvent → Type 0
 AreTypedPast first past = EachPast (λ now event old answer new. IsOfType event) first past
 
 -- so are those of turns
-events-behind : (now : ℕ) (es : List ChosenEvent) (first s : State) (past : List Past)
+events-behind : (now : ℕ) (es : List ChosenEvent) (first s : State) (past : List PastEvent)
     → AreTyped es → AreTypedPast first past → AreTypedPast first (past_after now es s past)
 events-behind now [] first s past typed before = before
 events-behind now (e ∷ es) first s past typed before =
@@ -140,7 +140,7 @@ events-behind now (e ∷ es) first s past typed before =
     (record { now = now; event = e.1; answer = o.answer; after = o.after } ∷ past)
     (All-tail IsTyped e es typed) (All-head IsTyped e es typed, before)
 
-pub turns-typed : (first : State) (ts : List DoneTurn) (h : ServerData) (past : List Past)
+pub turns-typed : (first : State) (ts : List DoneTurn) (h : ServerData) (past : List PastEvent)
     → AreTurns h ts → AreGiven ts → AreTypedPast first past
     → AreTypedPast first (past_of ts h past)
 turns-typed first [] h past are given before = before
@@ -205,7 +205,7 @@ module _ (bay : Bay) (image : Image) (is_bay : IsBay bay) where
         outside (ids-apart bay is_bay command.switch k named switch here own same) on
 
     pub turns-avoid : (first : State) → first.switches ≡ bay.switches → (ts : List DoneTurn)
-        (h : ServerData) (past : List Past) → AreTurns h ts → AreGiven ts → Good h.device
+        (h : ServerData) (past : List PastEvent) → AreTurns h ts → AreGiven ts → Good h.device
         → OrdersAvoid set k operation first h past ts
     turns-avoid first of_bay [] h past are given g = tt
     turns-avoid first of_bay (t ∷ ts) h past are given g =
@@ -241,7 +241,7 @@ module _ (bay : Bay) (image : Image) (is_bay : IsBay bay) where
       → Standing bay image old → Steps now event old answer new
       → Led bay image is_bay event answer new
       → Does now event old answer new) where
-    past-goes : (first : State) (past : List Past) → EachPast Steps first past
+    past-goes : (first : State) (past : List PastEvent) → EachPast Steps first past
         → AreTypedPast first past → Good first
         → EachPast Does first past × Good (device_after first past)
     past-goes first [] steps typed g = (tt, g)
@@ -257,7 +257,7 @@ module _ (bay : Bay) (image : Image) (is_bay : IsBay bay) where
         )
 
   pub past-scans : (rule : Rule) → rule.switch < length bay.switches
-      → RuleHolds (program_of bay image) rule → (first : State) (past : List Past)
+      → RuleHolds (program_of bay image) rule → (first : State) (past : List PastEvent)
       → EachPast Steps first past → AreTypedPast first past → Good first
       → EachPast (ScanObeysAt rule) first past
   past-scans rule there holds_so first past steps typed g =
@@ -268,7 +268,7 @@ module _ (bay : Bay) (image : Image) (is_bay : IsBay bay) where
   -- each command of a history is issued outside a set in which its release is refused
   pub past-avoids : (set : Process → Bool) (k : ℕ) (operation : Operation)
       → k < length bay.switches → IsRefusedWhere (program_of bay image) set k operation
-      → (first : State) (past : List Past) → EachPast Steps first past → AreTypedPast first past
+      → (first : State) (past : List PastEvent) → EachPast Steps first past → AreTypedPast first past
       → Good first → EachPast (CommandsOutsideAt set k operation) first past
   past-avoids set k operation there refused first past steps typed g =
       (past-goes (CommandsOutsideAt set k operation)

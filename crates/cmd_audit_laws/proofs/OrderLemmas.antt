@@ -5,9 +5,9 @@ use Rattle.std.specs.List.{Contains}
 use Rattle.std.proofs.lemmas.List.Elements.{All-append, All-cons, All-contains, All-head, All-nil, All-tail, Contains-append_right}
 use Rattle.bay_mms_services.specs.declared.answer.Command.{Command}
 use Rattle.bay_device.specs.Device.{State}
-use Rattle.bay_device.specs.Fresh.{Past}
+use Rattle.bay_device.specs.Fresh.{PastEvent}
 use Rattle.bay_device.specs.Outcomes.{initial_connection, outcome, slot_of}
-use Rattle.bay_device.specs.EntriesTold.{connection_state_at}
+use Rattle.bay_device.specs.ObservedRuns.{connection_state_at}
 use Rattle.bay_device.specs.declared.event.Event.{Event}
 use Rattle.bay_device.specs.declared.event.Event.TheVariants.{Open, Recv, Close, Contact, Input, Measure, BadMeasure, Lost, Scan}
 use Rattle.bay_device.specs.declared.event.Step.{Step}
@@ -132,7 +132,7 @@ accept-none : (now : ℕ) (place : Option ℕ) (s : TurnState)
 accept-none now None s = All-nil IsFree
 accept-none now (Some place) s = All-nil IsFree
 
-pub silent-orders-none : (first : State) (h : ServerData) (told : Turn) (past : List Past)
+pub silent-orders-none : (first : State) (h : ServerData) (told : Turn) (past : List PastEvent)
     (command : Command) → IsOrdered first h (turn_with no_octets told) past command → ⊥
 silent-orders-none first h told past command o =
     let t : DoneTurn = turn_with no_octets told in
@@ -253,7 +253,7 @@ pub old-orders-none : (first s : State) (h : ServerData) (t : DoneTurn) (step : 
 old-orders-none first s h t step command o =
     old-releases-none s _ step first.scan_max_age_ms command o.released
 
-pub lost-orders-none : (first : State) (h : ServerData) (t : DoneTurn) (past : List Past)
+pub lost-orders-none : (first : State) (h : ServerData) (t : DoneTurn) (past : List PastEvent)
     (command : Command) → h.device.is_lost ≡ true → IsOrdered first h t past command → ⊥
 lost-orders-none first h t past command lost o =
     let heard : (done_at t.now o.heard.front h.device).after.is_lost ≡ false = o.allowed.heard in
@@ -261,7 +261,7 @@ lost-orders-none first h t past command lost o =
     ap (λ (p : Parts). p.lost) (same-events t.now o.heard.front h.device o.heard.first) in
     let no : true ≡ false = sym lost ∙ sym same ∙ heard in absurd cc
 
-pub told-lost-orders-none : (first : State) (h : ServerData) (t : DoneTurn) (past : List Past)
+pub told-lost-orders-none : (first : State) (h : ServerData) (t : DoneTurn) (past : List PastEvent)
     (command : Command) → IsTurn h t → t.given.is_lost ≡ true
     → IsOrdered first h t past command → ⊥
 told-lost-orders-none first h t past command is told o =
@@ -281,7 +281,7 @@ nothing-there xs x none has =
 low-none : (k n : ℕ) → k < n → n ≡ 0 → ⊥
 low-none k n low none = omega (arith, low, none)
 
-pub part-orders-none : (first s : State) (told : Turn) (past : List Past) (command : Command)
+pub part-orders-none : (first s : State) (told : Turn) (past : List PastEvent) (command : Command)
     → IsOrdered first (server_with_client s) (turn_with (octets_arrived (3 ∷ [])) told) past command
     → ⊥
 part-orders-none first s told past command o =
@@ -303,7 +303,7 @@ ok-same : (x y : Step) → (let r : Result Step StepFault = Ok x in r) ≡ Ok y 
 ok-same x y is = cc
 
 pub refused-orders-none : (first s : State) (octet : ℕ) (octets : List ℕ)
-    (told : Turn) (past : List Past) (command : Command)
+    (told : Turn) (past : List PastEvent) (command : Command)
     → IsOrdered first (server_with_client s) (turn_with (octets_refused (octet ∷ octets)) told) past
     command
     → ⊥
@@ -321,7 +321,7 @@ refused-orders-none first s octet octets told past command o =
 
 -- ---- lists of turns
 
-pub quiet-are-ordered : (first : State) (h : ServerData) (t u : DoneTurn) (past : List Past)
+pub quiet-are-ordered : (first : State) (h : ServerData) (t u : DoneTurn) (past : List PastEvent)
     → t.told.commands ≡ [] → u.told.commands ≡ [] → AreOrdered first h past (t ∷ u ∷ [])
 quiet-are-ordered first h t u past none more = (
   λ command has. absurd (nothing-there t.told.commands command none has),
@@ -329,7 +329,7 @@ quiet-are-ordered first h t u past none more = (
 )
 
 -- of turns of which the last tells a command and has no octets
-pub unordered : (first : State) (h : ServerData) (t : DoneTurn) (told : Turn) (past : List Past)
+pub unordered : (first : State) (h : ServerData) (t : DoneTurn) (told : Turn) (past : List PastEvent)
     (command : Command) → Contains told.commands command
     → AreOrdered first h past (t ∷ turn_with no_octets told ∷ []) → ⊥
 unordered first h t told past command has all =

@@ -5,14 +5,14 @@ use Rattle.std.specs.Prelude.{IfOk}
 use Rattle.std.proofs.lemmas.List.Elements.{All-cons, All-head, All-nil}
 use Rattle.bay_base.specs.declared.switch.Operation.TheVariants as operation
 use Rattle.bay_process.specs.Values.{is_truth}
-use Rattle.bay_tree.specs.Rows.{leaf_of}
+use Rattle.bay_tree.specs.Rows.{leaf_named}
 use Rattle.bay_tree.specs.declared.leaf.Leaf.{Leaf}
 use Rattle.bay_tree.specs.declared.leaf.Leaf.TheVariants as leaf
 use Rattle.bay_tree.specs.declared.row.Row.{Row}
 use Rattle.bay_mms_services.specs.Released.{enable_name}
 use Rattle.bay_mms_services.specs.declared.answer.Command.{Command}
 use Rattle.bay_device.specs.Device.{State}
-use Rattle.bay_device.specs.Fresh.{IsSameProcess, Past}
+use Rattle.bay_device.specs.Fresh.{IsSameProcess, PastEvent}
 use Rattle.bay_device.specs.declared.event.Step.{Step}
 use Rattle.cmd_serve.specs.Orders.{IsReleasedBy}
 use Rattle.cmd_audit_laws.specs.Orders.{contact_past, with_enable_value, lost_past, open_command, scan_past}
@@ -41,14 +41,14 @@ module _ {X : Type 0} where
 
 -- a row is found at its own name
 at-own-name : (name : List ℕ) (value : Leaf)
-    → leaf_of name (record { name = name; leaf = Some value } ∷ []) ≡ Some value
+    → leaf_named name (record { name = name; leaf = Some value } ∷ []) ≡ Some value
 at-own-name name value =
     let row : Row = record { name = name; leaf = Some value } in
     ap (λ b. option_and_then (λ (r : Row). r.leaf) (cond b (Some row) None))
     ((bytes_decides name name).1 refl)
 
 pub is-enabled : (b : Bool) (s : State)
-    → is_truth true (leaf_of (enable_name 0 operation.Open) (with_enable_value b s).rows)
+    → is_truth true (leaf_named (enable_name 0 operation.Open) (with_enable_value b s).rows)
     ≡ is_truth true (Some (leaf.Truth b))
 is-enabled b s =
     ap (is_truth true) (at-own-name (enable_name 0 operation.Open) (leaf.Truth b))
@@ -72,10 +72,10 @@ scan-releases s step age = record {
     scanned = refl;
     done = refl;
     recent = omega arith;
-    unchanged = All-nil (λ (p : Past). IsSameProcess (with_enable_value true s) p.after);
+    unchanged = All-nil (λ (p : PastEvent). IsSameProcess (with_enable_value true s) p.after);
     heard = refl;
   };
-  last = All-nil (λ (p : Past). IfOk p.answer (λ step. step.scan ≡ None));
+  last = All-nil (λ (p : PastEvent). IfOk p.answer (λ step. step.scan ≡ None));
   enabled = is-enabled true s;
   unchanged = same-process (with_enable_value true s);
 }
@@ -93,13 +93,13 @@ unchanged-releases s t step age same = record {
     scanned = refl;
     done = refl;
     recent = omega arith;
-    unchanged = All-cons (λ (p : Past). IsSameProcess (with_enable_value true s) p.after)
+    unchanged = All-cons (λ (p : PastEvent). IsSameProcess (with_enable_value true s) p.after)
         (contact_past t step) [] same
-        (All-nil (λ (p : Past). IsSameProcess (with_enable_value true s) p.after));
+        (All-nil (λ (p : PastEvent). IsSameProcess (with_enable_value true s) p.after));
     heard = refl;
   };
-  last = All-cons (λ (p : Past). IfOk p.answer (λ step. step.scan ≡ None)) (contact_past t step) []
-      refl (All-nil (λ (p : Past). IfOk p.answer (λ step. step.scan ≡ None)));
+  last = All-cons (λ (p : PastEvent). IfOk p.answer (λ step. step.scan ≡ None)) (contact_past t step) []
+      refl (All-nil (λ (p : PastEvent). IfOk p.answer (λ step. step.scan ≡ None)));
   enabled = is-enabled true s;
   unchanged = same;
 }
@@ -110,14 +110,14 @@ none-releases s now age command h =
     none-there h.scan.since h.scan.earlier h.scan.scan h.scan.split
 
 -- the scan that releases a command to open did not leave EnaOpn FALSE
-not-blocked : (now age : ℕ) (past : List Past) (s t : State) (step : Step)
+not-blocked : (now age : ℕ) (past : List PastEvent) (s t : State) (step : Step)
     → (h : IsReleasedBy now age past t open_command)
     → h.scan.scan ≡ scan_past (with_enable_value false s) step → ⊥
 not-blocked now age past s t step h is =
     let enabled : is_truth true
-    (leaf_of (enable_name 0 operation.Open) (with_enable_value false s).rows)
+    (leaf_named (enable_name 0 operation.Open) (with_enable_value false s).rows)
     ≡ true =
-    subst (λ (p : Past). is_truth true (leaf_of (enable_name 0 operation.Open) p.after.rows) ≡ true)
+    subst (λ (p : PastEvent). is_truth true (leaf_named (enable_name 0 operation.Open) p.after.rows) ≡ true)
     is
     h.enabled in
     let no : is_truth true (Some (leaf.Truth false)) ≡ true = sym (is-enabled false s) ∙ enabled in
@@ -126,7 +126,7 @@ not-blocked now age past s t step h is =
 pub blocked-releases-none : (s t : State) (step : Step) (now age : ℕ)
     → IsReleasedBy now age (scan_past (with_enable_value false s) step ∷ []) t open_command → ⊥
 blocked-releases-none s t step now age h =
-    let p : Past = scan_past (with_enable_value false s) step in
+    let p : PastEvent = scan_past (with_enable_value false s) step in
     not-blocked now age (p ∷ []) s t step h
     (one-there p h.scan.since h.scan.earlier h.scan.scan h.scan.split).0
 
@@ -135,13 +135,13 @@ pub earlier-releases-none : (s t : State) (step : Step) (now age : ℕ)
     (scan_past (with_enable_value false s) step ∷ scan_past (with_enable_value true s) step ∷ []) t
     open_command → ⊥
 earlier-releases-none s t step now age h =
-    let p : Past = scan_past (with_enable_value false s) step in
-    let q : Past = scan_past (with_enable_value true s) step in
-    let Unscanned : Past → Type 0 = λ r. IfOk r.answer (λ step. step.scan ≡ None) in
+    let p : PastEvent = scan_past (with_enable_value false s) step in
+    let q : PastEvent = scan_past (with_enable_value true s) step in
+    let Unscanned : PastEvent → Type 0 = λ r. IfOk r.answer (λ step. step.scan ≡ None) in
     ⊎_elim (λ (is : h.scan.scan ≡ p). not-blocked now age (p ∷ q ∷ []) s t step h is)
     (λ (is : h.scan.since ≡ p ∷ []).
     let no : Some 1 ≡ None =
-    All-head Unscanned p [] (subst (λ (ps : List Past). All Unscanned ps) is h.last) in absurd cc)
+    All-head Unscanned p [] (subst (λ (ps : List PastEvent). All Unscanned ps) is h.last) in absurd cc)
     (two-there p q h.scan.since h.scan.earlier h.scan.scan h.scan.split)
 
 pub old-releases-none : (s t : State) (step : Step) (age : ℕ) (command : Command)
@@ -150,7 +150,7 @@ old-releases-none s t step age command h =
     let is : h.scan.scan ≡ scan_past s step =
     (one-there (scan_past s step) h.scan.since h.scan.earlier h.scan.scan h.scan.split).0 in
     let late : age + 1 ≤ 0 + age =
-    subst (λ (p : Past). age + 1 ≤ p.now + age) is h.scan.recent in
+    subst (λ (p : PastEvent). age + 1 ≤ p.now + age) is h.scan.recent in
     omega (arith, late)
 
 pub lost-releases-none : (s t : State) (step : Step) (now age : ℕ)
@@ -162,4 +162,4 @@ pub changed-releases-none : (s t : State) (step : Step) (now age : ℕ) → (IsS
 changed-releases-none s t step now age differs h =
     let is : h.scan.scan ≡ scan_past s step =
     (one-there (scan_past s step) h.scan.since h.scan.earlier h.scan.scan h.scan.split).0 in
-    differs (subst (λ (p : Past). IsSameProcess p.after t) is h.unchanged)
+    differs (subst (λ (p : PastEvent). IsSameProcess p.after t) is h.unchanged)

@@ -11,7 +11,7 @@ use Rattle.bay_base.specs.declared.switch.Operation.{Operation}
 use Rattle.bay_config.specs.Laws.{IsBay}
 use Rattle.bay_config.specs.declared.bay.Bay.{Bay}
 use Rattle.bay_device.specs.Device.{State}
-use Rattle.bay_device.specs.Fresh.{Past}
+use Rattle.bay_device.specs.Fresh.{PastEvent}
 use Rattle.bay_device.specs.declared.event.Event.{Event}
 use Rattle.bay_device.specs.declared.event.Step.{Step}
 use Rattle.bay_device.specs.declared.fault.StepFault.{StepFault}
@@ -44,7 +44,7 @@ use Rattle.cmd_audit_laws.proofs.ObeyLemmas.{AreTypedPast, Good, good-first, pas
 use Rattle.cmd_audit_laws.proofs.TypeLemmas.{LineFits, line-fits, placed-fits}
 use Rattle.cmd_audit_laws.proofs.WaitLemmas.{Ready, past-waits, ready-first}
 
-lines-typed : (first : State) (past : List Past) (lines : List (List ℕ))
+lines-typed : (first : State) (past : List PastEvent) (lines : List (List ℕ))
     → AreOfLines first past lines
     → EachPast (λ now event old answer new. IsOfType event) first past
 lines-typed first [] lines are = tt
@@ -200,7 +200,7 @@ module _ (parts : ScenarioParts) (first : State) (text : List ℕ) (status : ℕ
       b.steady))).0
 
 -- commands that are issued outside the set of a rule's condition obey the rule
-obeys-so : (rule : Rule) (first : State) (past : List Past)
+obeys-so : (rule : Rule) (first : State) (past : List PastEvent)
     → EachPast (CommandsOutsideAt (holds rule.when) rule.switch rule.operation) first past
     → EachPast (CommandsObeyAt rule) first past
 obeys-so rule first [] each = tt

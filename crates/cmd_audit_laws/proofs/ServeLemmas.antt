@@ -3,9 +3,9 @@ use Rattle.std.proofs.Common.{◌≡◌, ◌∙◌, ◌<◌, ℕ, zero, suc, Boo
 use Rattle.std.specs.Prelude.{MatchResult, is_some, slice_get}
 use Rattle.bay_audit.specs.Rules.{program_of}
 use Rattle.bay_device.specs.Device.{State}
-use Rattle.bay_files.specs.Files.{FileGuards, FileReads, FilesData}
+use Rattle.bay_files.specs.Files.{ProtectedReads, FileReads, FilesData}
 use Rattle.bay_io.specs.Calls.{WriteCall}
-use Rattle.bay_io.specs.Watched.{Writing}
+use Rattle.bay_io.specs.Watched.{WriterState}
 use Rattle.bay_io.specs.declared.outbox.WriteFault.{WriteFault}
 use Rattle.bay_process_port.specs.Ports.{initial_port}
 use Rattle.bay_process_port.specs.Supervised.{SupervisionSettings}
@@ -66,8 +66,8 @@ later-given Ends Goes (Ok status) goes more each = each goes
 
 module _ {L H W : Type 0} (step : L → Call → L → Type 0) (acts : H → HostCall L → H → Type 0)
     (contents : W → Option (List ℕ)) (asks : W → WriteCall → W → Type 0) where
-  pub turns-given : (turns : ℕ) (before : Serving L H) (old : Writing W)
-      (host : H) (new : Writing W) (answer : Result ℕ WriteFault)
+  pub turns-given : (turns : ℕ) (before : Serving L H) (old : WriterState W)
+      (host : H) (new : WriterState W) (answer : Result ℕ WriteFault)
       (serves : ServesTurns step acts contents asks turns before old host new answer)
       → AreGiven (turns_in step acts contents asks turns before old host new answer serves)
   turns-given zero before old host new answer serves = tt
@@ -244,7 +244,7 @@ releases-of drawn.OutOfMemory count held = absurd cc
 
 module _ {W : Type 0} (contents : W → Option (List ℕ)) (asks : W → WriteCall → W → Type 0)
     (loaded : LoadData) where
-  rules-hold : (rules : Option (List ℕ)) (old new : Writing W) (permit : Result Permit WriteFault)
+  rules-hold : (rules : Option (List ℕ)) (old new : WriterState W) (permit : Result Permit WriteFault)
       → WritesOnRules contents asks loaded rules old new permit → (count : ℕ)
       → permit ≡ Ok (Granted count) → RulesHold loaded rules
   rules-hold None old new permit writes count granted = tt
@@ -256,7 +256,7 @@ module _ {W : Type 0} (contents : W → Option (List ℕ)) (asks : W → WriteCa
         writes.is,
   )
 
-  diagram-holds : (diagram : Option (List ℕ)) (old new : Writing W)
+  diagram-holds : (diagram : Option (List ℕ)) (old new : WriterState W)
       (permit : Result Permit WriteFault)
       → WritesOnDiagram contents asks loaded diagram old new permit → (count : ℕ)
       → permit ≡ Ok (Granted count) → DiagramHolds loaded diagram
@@ -283,7 +283,7 @@ module _ {L H W : Type 0} (step : L → Call → L → Type 0) (acts : H → Hos
       (each : (ts : List DoneTurn) → AreTurns (made_of (state_of loaded)) ts → AreGiven ts
       → Is (made_of (state_of loaded)) ts) (numbers : Numbers) where
     bound-is : (served : ServedFiles) (duties : Option SupervisionSettings)
-        (before host after : H) (old new : Writing W) (answer : Result ℕ WriteFault)
+        (before host after : H) (old new : WriterState W) (answer : Result ℕ WriteFault)
         (bound : Result (Bound L) ServeStartFault)
         → BindsPorts acts numbers duties (state_of loaded) before host bound
         → (goes : MatchResult bound
@@ -303,7 +303,7 @@ module _ {L H W : Type 0} (step : L → Call → L → Type 0) (acts : H → Hos
         (each run.done (subst (λ (h : ServerData). AreTurns h run.done) made run.run.are) given)
     bound-is served duties before host after old new answer (Err why) binds goes = tt
 
-    pub ports-is : (held : HeldCounts) (before after : H) (old new : Writing W)
+    pub ports-is : (held : HeldCounts) (before after : H) (old new : WriterState W)
         (answer : Result ℕ WriteFault)
         (ports : ServesPorts step acts contents asks numbers loaded held before after old new
         answer)
@@ -326,7 +326,7 @@ module _ {L H W : Type 0} (step : L → Call → L → Type 0) (acts : H → Hos
       (each : RulesHold loaded.load loaded.rules → DiagramHolds loaded.load loaded.diagram
       → (ts : List DoneTurn) → AreTurns (made_of (state_of loaded)) ts → AreGiven ts
       → Is (made_of (state_of loaded)) ts) (numbers : Numbers) where
-    rules-is : (before after : H) (old new : Writing W) (answer : Result ℕ WriteFault)
+    rules-is : (before after : H) (old new : WriterState W) (answer : Result ℕ WriteFault)
         (serves : ServesRules step acts contents asks numbers loaded before after old new answer)
         → HoldsWithRules step acts contents asks Is numbers loaded before after old new answer serves
     rules-is before after old new answer serves =
@@ -340,14 +340,14 @@ module _ {L H W : Type 0} (step : L → Call → L → Type 0) (acts : H → Hos
         drawn.permit drawn.writes releases let_go)) numbers
         (record { rules = rules; releases = releases }) before after drawn.middle new answer ports))
 
-  module _ {F : Type 0} (reads : FileReads F) (guards : FileGuards F) (files : F)
+  module _ {F : Type 0} (reads : FileReads F) (guards : ProtectedReads F) (files : F)
       (named : FileNames) (Is : FilesData → ServerData → List DoneTurn → Type 0)
       (each : (loaded : LoadedFiles) → LoadsFiles reads guards files named (Ok loaded)
       → RulesHold loaded.load loaded.rules → DiagramHolds loaded.load loaded.diagram
       → (ts : List DoneTurn) → AreTurns (made_of (state_of loaded)) ts → AreGiven ts
       → Is (data_of loaded) (made_of (state_of loaded)) ts) where
     pub files-is : (numbers : Numbers) (before after : H)
-        (old new : Writing W) (answer : Result ℕ WriteFault)
+        (old new : WriterState W) (answer : Result ℕ WriteFault)
         (loaded : Result LoadedFiles ServeStartFault)
         → LoadsFiles reads guards files named loaded
         → (goes : MatchResult loaded
@@ -360,7 +360,7 @@ module _ {L H W : Type 0} (step : L → Call → L → Type 0) (acts : H → Hos
         new answer)
     files-is numbers before after old new answer (Err why) loads goes = tt
 
-  pub served-obey : {F : Type 0} (reads : FileReads F) (guards : FileGuards F)
+  pub served-obey : {F : Type 0} (reads : FileReads F) (guards : ProtectedReads F)
       → ServedCommandsObey step acts contents asks reads guards
   served-obey reads guards files named numbers before after old new answer serves =
       files-is reads guards files named (ObeyAuditsOf named.form)

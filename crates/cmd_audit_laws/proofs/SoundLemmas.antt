@@ -15,10 +15,10 @@ use Rattle.bay_base.specs.declared.point.SwitchPoint.TheVariants.{Position, Open
 use Rattle.bay_base.specs.declared.types.ElementaryType.{ElementaryType}
 use Rattle.bay_config.specs.Laws.{IsBay}
 use Rattle.bay_config.specs.declared.bay.Bay.{Bay}
-use Rattle.bay_device.specs.Device.{Ran, State, after_scan, device_at, ending_at, inputs_of, ran_at, ran_of}
+use Rattle.bay_device.specs.Device.{RunResult, State, after_scan, device_at, ending_at, inputs_of, run_result_at, run_result_of}
 use Rattle.bay_device.specs.Load.{initial_device}
 use Rattle.bay_device.specs.Meaning.{Halts, HaltsAt, Runs}
-use Rattle.bay_device.specs.Outcomes.{Outcome, last_moment, outcome, refusal_of, scan_outcome}
+use Rattle.bay_device.specs.Outcomes.{Outcome, last_moment, outcome, refusal_outcome, scan_outcome}
 use Rattle.bay_device.specs.Steps.{Steps}
 use Rattle.bay_device.specs.declared.event.Event.{Event}
 use Rattle.bay_device.specs.declared.event.Event.TheVariants.{Scan}
@@ -125,17 +125,17 @@ module _ (s : State) (sound : Sound s) (is : IsProcess (process_of s)) (now : �
       ≡ Halted rests.ends.new.slots rests.ends.new.timers rests.ends.steps
   ends = rests.ends.scans.halts (length s.machine.image.code) rests.ends.scans.few
 
-  ran : ran_at now s ≡ record {
+  ran : run_result_at now s ≡ record {
     slots = rests.ends.new.slots;
     timers = rests.ends.new.timers;
     steps = rests.ends.steps;
   }
-  ran = ap ran_of ends
+  ran = ap run_result_of ends
 
-  scan-halts : Halts now s (ran_at now s).steps (after_scan now s)
+  scan-halts : Halts now s (run_result_at now s).steps (after_scan now s)
   scan-halts = record {
-    halts = ends ∙ sym (ap (λ (x : Ran). Halted x.slots x.timers x.steps) ran);
-    within = λ budget b. subst (λ (x : Ran). x.steps ≤ budget) (sym ran)
+    halts = ends ∙ sym (ap (λ (x : RunResult). Halted x.slots x.timers x.steps) ran);
+    within = λ budget b. subst (λ (x : RunResult). x.steps ≤ budget) (sym ran)
         (rests.ends.scans.within budget b);
   }
 
@@ -143,14 +143,14 @@ module _ (s : State) (sound : Sound s) (is : IsProcess (process_of s)) (now : �
   scan-sound = record {
     octets = sound.octets;
     safe = sound.safe;
-    typed = subst (λ (x : Ran). HaveTypes (slot_types s.machine.image)
+    typed = subst (λ (x : RunResult). HaveTypes (slot_types s.machine.image)
         (length s.machine.image.timers) x.slots x.timers) (sym ran) rests.typed;
     reads = sound.reads;
   }
 
   halts-if : (late early : Bool) → late || early ≡ false
-      → let o : Outcome = cond late (refusal_of MomentTooLarge s)
-      (cond early (refusal_of TimeWentBack s) (scan_outcome now s)) in
+      → let o : Outcome = cond late (refusal_outcome MomentTooLarge s)
+      (cond early (refusal_outcome TimeWentBack s) (scan_outcome now s)) in
       IsOkAnd o.answer (λ step. IsSomeAnd step.scan (λ steps. Halts now s steps o.after))
   halts-if true early h = absurd cc
   halts-if false true h = absurd cc

@@ -9,7 +9,7 @@ use Rattle.bay_audit_laws.proofs.WaitLemmas.{Waiting, commands-wait, has-waited,
 use Rattle.bay_config.specs.Laws.{IsBay}
 use Rattle.bay_config.specs.declared.bay.Bay.{Bay}
 use Rattle.bay_device.specs.Device.{State}
-use Rattle.bay_device.specs.Fresh.{Past}
+use Rattle.bay_device.specs.Fresh.{PastEvent}
 use Rattle.bay_device.specs.Load.{initial_device}
 use Rattle.bay_device.specs.Outcomes.{outcome}
 use Rattle.bay_device.specs.Steps.{OfAssociation, Steps}
@@ -66,7 +66,7 @@ module _ (bay : Bay) (image : Image) (rule : Rule) (timing : Timing) (n : ℕ) (
       (record { choice = e.0; answered = refl; left = refl }) r)
 
   pub turns-wait : (first : State) (ts : List DoneTurn) (h : ServerData) (scans : List (ℕ × Bool))
-      (past : List Past) → AreTurns h ts → AreGiven ts → Ready scans h.device
+      (past : List PastEvent) → AreTurns h ts → AreGiven ts → Ready scans h.device
       → OrdersWait rule timing first h scans past ts
   turns-wait first [] h scans past are given r = tt
   turns-wait first (t ∷ ts) h scans past are given r =
@@ -87,7 +87,7 @@ module _ (bay : Bay) (image : Image) (rule : Rule) (timing : Timing) (n : ℕ) (
             (ready-events t.now events h.device scans typed r)),
       )
 
-  pub past-waits : (first : State) (past : List Past) → EachPast Steps first past
+  pub past-waits : (first : State) (past : List PastEvent) → EachPast Steps first past
       → EachPast (λ now event old answer new. IsOfType event) first past → Ready [] first
       → PastWaits rule timing first past
       × Ready (scans_of timing.condition first past) (device_after first past)

@@ -6,9 +6,9 @@ use Rattle.bay_base.specs.declared.switch.Operation.{Operation}
 use Rattle.bay_config.specs.declared.bay.Bay.{Bay}
 use Rattle.bay_diagram_file.specs.Diagram.{diagram_of_file}
 use Rattle.bay_diagram_file.specs.declared.diagram.Diagram.{Diagram}
-use Rattle.bay_files.specs.Files.{FileGuards, FileReads, FilesData, ReadsFile}
+use Rattle.bay_files.specs.Files.{ProtectedReads, FileReads, FilesData, ReadsFile}
 use Rattle.bay_io.specs.Calls.{WriteCall}
-use Rattle.bay_io.specs.Watched.{Writing}
+use Rattle.bay_io.specs.Watched.{WriterState}
 use Rattle.bay_io.specs.declared.outbox.WriteFault.{WriteFault}
 use Rattle.bay_load.specs.Loads.{file_of}
 use Rattle.bay_load.specs.declared.load.Form.{Form}
@@ -67,12 +67,12 @@ module _ {F : Type 0} (reads : FileReads F) where
 
 module _ {F L H W : Type 0} (step : L → Call → L → Type 0) (acts : H → HostCall L → H → Type 0)
     (contents : W → Option (List ℕ)) (asks : W → WriteCall → W → Type 0) (reads : FileReads F)
-    (guards : FileGuards F) where
+    (guards : ProtectedReads F) where
   -- The turns of each service with a file of this kind obey it.
   abbrev pub GuardedObey : (FileNames → Option (List ℕ))
       → (List ℕ → List ℕ → ServerData → List DoneTurn → Type 0) → Type 0
   GuardedObey file_in Obey =
-      (files : F) (named : FileNames) (numbers : Numbers) (before after : H) (old new : Writing W)
+      (files : F) (named : FileNames) (numbers : Numbers) (before after : H) (old new : WriterState W)
       (answer : Result ℕ WriteFault)
       (serves : ServesFiles step acts contents asks reads guards files named numbers before after
       old new answer) (name : List ℕ) → file_in named ≡ Some name

@@ -8,7 +8,7 @@ use Rattle.bay_tree.specs.declared.leaf.Leaf.TheVariants as leaf
 use Rattle.bay_mms_services.specs.Released.{enable_name}
 use Rattle.bay_mms_services.specs.declared.answer.Command.{Command}
 use Rattle.bay_device.specs.Device.{State}
-use Rattle.bay_device.specs.Fresh.{Past}
+use Rattle.bay_device.specs.Fresh.{PastEvent}
 use Rattle.bay_device.specs.Outcomes.{initial_connection}
 use Rattle.bay_device.specs.declared.event.Event.TheVariants.{Contact, Lost, Scan}
 use Rattle.bay_device.specs.declared.event.Step.{Step}
@@ -30,7 +30,7 @@ with_enable_value b s = record s {
 }
 
 -- a scan at moment 0 that was accepted, and the device after it
-abbrev pub scan_past : State → Step → Past
+abbrev pub scan_past : State → Step → PastEvent
 scan_past s step = record {
   now = 0;
   event = Scan;
@@ -39,7 +39,7 @@ scan_past s step = record {
 }
 
 -- a contact that was accepted, and the device after it
-abbrev pub contact_past : State → Step → Past
+abbrev pub contact_past : State → Step → PastEvent
 contact_past s step = record {
   now = 0;
   event = Contact 0 Off;
@@ -48,7 +48,7 @@ contact_past s step = record {
 }
 
 -- the loss of the process
-abbrev pub lost_past : State → Step → Past
+abbrev pub lost_past : State → Step → PastEvent
 lost_past s step = record { now = 0; event = Lost; answer = Ok step; after = s }
 
 -- ---- rules with a time

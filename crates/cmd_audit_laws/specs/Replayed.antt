@@ -7,7 +7,7 @@ use Rattle.bay_audit_laws.specs.Laws.{CommandsAreHarmlessAt, CommandsObeyAt, Sca
 use Rattle.bay_base.specs.declared.switch.Operation.{Operation}
 use Rattle.bay_diagram.specs.declared.network.Network.{Network}
 use Rattle.bay_device.specs.Device.{State}
-use Rattle.bay_device.specs.Fresh.{Past}
+use Rattle.bay_device.specs.Fresh.{PastEvent}
 use Rattle.bay_device.specs.declared.event.Step.{Step}
 use Rattle.bay_nodes.specs.declared.switch.Switch.{Switch}
 use Rattle.cmd_replay.specs.History.{EachPast, device_after}
@@ -29,11 +29,11 @@ use Rattle.cmd_audit_laws.specs.Waits.{PastWaits}
 
 -- A command's line is one of the lines for an event of this history, and has one of the commands
 -- that the event issued: to the switch with this id.
-pub record IsIssued (begin : List ℕ) (first : State) (past : List Past)
+pub record IsIssued (begin : List ℕ) (first : State) (past : List PastEvent)
     (before : List (List ℕ)) (line : List ℕ) (printed : PrintedCommand) : Type 0 where
-  pub later : List Past
-  pub order : Past
-  pub earlier : List Past
+  pub later : List PastEvent
+  pub order : PastEvent
+  pub earlier : List PastEvent
   pub split : past ≡ later ++ order ∷ earlier
   pub ordered : IsCommandLineFor begin order earlier before line
   pub moment : printed.moment ≡ order.now
@@ -48,7 +48,7 @@ pub record IsIssued (begin : List ℕ) (first : State) (past : List Past)
 
 -- Each command's line of a text has such a command; and if it names this switch and this operation,
 -- what the process had last reported before the event is not in a set.
-abbrev pub LinesAvoid : (Process → Bool) → ℕ → Operation → List ℕ → State → List Past → List ℕ
+abbrev pub LinesAvoid : (Process → Bool) → ℕ → Operation → List ℕ → State → List PastEvent → List ℕ
     → Type 0
 LinesAvoid set k operation begin first past text =
     (before after : List (List ℕ)) (line : List ℕ) (printed : PrintedCommand)

@@ -6,10 +6,10 @@ use Rattle.bay_audit_laws.specs.Laws.{IsOutside, ScanObeysAt, process_of}
 use Rattle.bay_base.specs.declared.switch.Operation.{Operation}
 use Rattle.bay_device.specs.Device.{State}
 use Rattle.bay_diagram.specs.declared.network.Network.{Network}
-use Rattle.bay_device.specs.Fresh.{Past}
-use Rattle.bay_files.specs.Files.{FileGuards, FileReads, FilesData}
+use Rattle.bay_device.specs.Fresh.{PastEvent}
+use Rattle.bay_files.specs.Files.{ProtectedReads, FileReads, FilesData}
 use Rattle.bay_io.specs.Calls.{WriteCall}
-use Rattle.bay_io.specs.Watched.{Writing}
+use Rattle.bay_io.specs.Watched.{WriterState}
 use Rattle.bay_io.specs.declared.outbox.WriteFault.{WriteFault}
 use Rattle.bay_nodes.specs.declared.switch.Switch.{Switch}
 use Rattle.cmd_replay.specs.History.{EachPast}
@@ -48,7 +48,7 @@ use Rattle.cmd_audit_laws.specs.Waits.{OrdersWait}
 -- For each command of this switch and operation of one of the turns, however it was ordered: what
 -- the process had last reported, at the device just before the client's octets, is not in a set.
 -- The same for each line that reads as a command, if it names the switch and the operation.
-abbrev pub OrdersAvoid : (Process → Bool) → ℕ → Operation → State → ServerData → List Past
+abbrev pub OrdersAvoid : (Process → Bool) → ℕ → Operation → State → ServerData → List PastEvent
     → List DoneTurn → Type 0
 OrdersAvoid set k operation first h past [] = Unit {0}
 OrdersAvoid set k operation first h past (t ∷ ts) =
@@ -62,12 +62,12 @@ OrdersAvoid set k operation first h past (t ∷ ts) =
     (past_after t.now (turn_events t.now t.given t.script h) h.device past) ts
 
 -- The commands that a rule forbids while its condition holds come only while it does not hold.
-abbrev pub OrdersObey : Rule → State → ServerData → List Past → List DoneTurn → Type 0
+abbrev pub OrdersObey : Rule → State → ServerData → List PastEvent → List DoneTurn → Type 0
 OrdersObey rule first h past turns =
     OrdersAvoid (holds rule.when) rule.switch rule.operation first h past turns
 
 -- The commands of this switch and operation come only while that is no hazard in the network.
-abbrev pub OrdersAreHarmless : Network → ℕ → Operation → State → ServerData → List Past
+abbrev pub OrdersAreHarmless : Network → ℕ → Operation → State → ServerData → List PastEvent
     → List DoneTurn → Type 0
 OrdersAreHarmless net k operation first h past turns =
     OrdersAvoid (is_hazard_of net k operation) k operation first h past turns
@@ -115,7 +115,7 @@ module _ {L H W : Type 0} (step : L → Call → L → Type 0) (acts : H → Hos
   -- the statement holds for the turns that were served, if the ports could be bound
   abbrev pub HoldsIfBound : (Is : ServerData → List DoneTurn → Type 0) (numbers : Numbers)
       (served : ServedFiles) (trace : List ℕ)
-      (host after : H) (old new : Writing W) (answer : Result ℕ WriteFault)
+      (host after : H) (old new : WriterState W) (answer : Result ℕ WriteFault)
       (bound : Result (Bound L) ServeStartFault) → MatchResult bound
       (λ ports. ServesBound step acts contents asks numbers served ports trace host after old new
       answer)
@@ -128,7 +128,7 @@ module _ {L H W : Type 0} (step : L → Call → L → Type 0) (acts : H → Hos
   -- the statement holds for the turns that were served, if the ports could be opened
   abbrev pub HoldsIfOpened : (Is : ServerData → List DoneTurn → Type 0) (numbers : Numbers)
       (loaded : LoadedFiles) (held : HeldCounts)
-      (before after : H) (old new : Writing W) (answer : Result ℕ WriteFault)
+      (before after : H) (old new : WriterState W) (answer : Result ℕ WriteFault)
       → ServesPorts step acts contents asks numbers loaded held before after old new answer
       → Type 0
   HoldsIfOpened Is numbers loaded held before after old new answer ports =
@@ -139,7 +139,7 @@ module _ {L H W : Type 0} (step : L → Call → L → Type 0) (acts : H → Hos
   -- there is none
   abbrev pub OfDiagram : (Is : ServerData → List DoneTurn → Type 0) (numbers : Numbers)
       (loaded : LoadedFiles) (rules : ℕ)
-      (before after : H) (old new : Writing W) (answer : Result ℕ WriteFault)
+      (before after : H) (old new : WriterState W) (answer : Result ℕ WriteFault)
       → ServesDiagram step acts contents asks numbers loaded rules before after old new answer
       → Type 0
   OfDiagram Is numbers loaded rules before after old new answer serves =
@@ -150,7 +150,7 @@ module _ {L H W : Type 0} (step : L → Call → L → Type 0) (acts : H → Hos
   -- the statement holds for the turns that were served, if the rules hold, or there are none
   abbrev pub HoldsWithRules : (Is : ServerData → List DoneTurn → Type 0) (numbers : Numbers)
       (loaded : LoadedFiles)
-      (before after : H) (old new : Writing W) (answer : Result ℕ WriteFault)
+      (before after : H) (old new : WriterState W) (answer : Result ℕ WriteFault)
       → ServesRules step acts contents asks numbers loaded before after old new answer → Type 0
   HoldsWithRules Is numbers loaded before after old new answer serves =
       InPermit _ _ serves.permit serves.goes_on
@@ -159,7 +159,7 @@ module _ {L H W : Type 0} (step : L → Call → L → Type 0) (acts : H → Hos
   -- the statement holds for the turns that were served, if the line of the load could be written
   abbrev pub HoldsIfLoaded : (Is : ServerData → List DoneTurn → Type 0) (numbers : Numbers)
       (loaded : LoadedFiles)
-      (before after : H) (old new : Writing W) (answer : Result ℕ WriteFault)
+      (before after : H) (old new : WriterState W) (answer : Result ℕ WriteFault)
       → ServesLoaded step acts contents asks numbers loaded before after old new answer → Type 0
   HoldsIfLoaded Is numbers loaded before after old new answer serves =
       InLater _ _ serves.told serves.goes_on
@@ -168,7 +168,7 @@ module _ {L H W : Type 0} (step : L → Call → L → Type 0) (acts : H → Hos
   -- the statement holds for the turns that were served, if the files could be read and loaded: with
   -- the octets of the bay file and of the program
   abbrev pub HoldsIfRead : (Is : FilesData → ServerData → List DoneTurn → Type 0)
-      (numbers : Numbers) (before after : H) (old new : Writing W)
+      (numbers : Numbers) (before after : H) (old new : WriterState W)
       (answer : Result ℕ WriteFault) (loaded : Result LoadedFiles ServeStartFault)
       → MatchResult loaded
       (λ all. ServesLoaded step acts contents asks numbers all before after old new answer)
@@ -182,11 +182,11 @@ module _ {L H W : Type 0} (step : L → Call → L → Type 0) (acts : H → Hos
 
 module _ {F L H W : Type 0} (step : L → Call → L → Type 0) (acts : H → HostCall L → H → Type 0)
     (contents : W → Option (List ℕ)) (asks : W → WriteCall → W → Type 0) (reads : FileReads F)
-    (guards : FileGuards F) where
+    (guards : ProtectedReads F) where
   -- The turns of each service obey the answers of each audit of the same octets.
   abbrev pub ServedCommandsObey : Type 0
   ServedCommandsObey =
-      (files : F) (named : FileNames) (numbers : Numbers) (before after : H) (old new : Writing W)
+      (files : F) (named : FileNames) (numbers : Numbers) (before after : H) (old new : WriterState W)
       (answer : Result ℕ WriteFault)
       (serves : ServesFiles step acts contents asks reads guards files named numbers before after
       old new answer)

@@ -2,7 +2,7 @@
 use Rattle.std.specs.Prelude.{ℕ, Bool, List, [], ◌∷◌}
 use Rattle.bay_audit_laws.specs.Laws.{CommandsWaitAt, HasWaited, scans_after}
 use Rattle.bay_device.specs.Device.{State}
-use Rattle.bay_device.specs.Fresh.{Past}
+use Rattle.bay_device.specs.Fresh.{PastEvent}
 use Rattle.bay_device.specs.Outcomes.{outcome}
 use Rattle.cmd_replay.specs.History.{device_after}
 use Rattle.bay_audit_rules.specs.declared.rule.ConditionItem.{ConditionItem}
@@ -27,7 +27,7 @@ scans_after_events condition now (e ∷ es) s scans =
 -- For each command of one of the turns, however it was ordered, at the device just before the
 -- client's octets: if the rule applies to what the process had last reported, its condition had
 -- held for the time at the last scan.
-abbrev pub OrdersWait : Rule → Timing → State → ServerData → List (ℕ × Bool) → List Past
+abbrev pub OrdersWait : Rule → Timing → State → ServerData → List (ℕ × Bool) → List PastEvent
     → List DoneTurn → Type 0
 OrdersWait rule timing first h scans past [] = Unit {0}
 OrdersWait rule timing first h scans past (t ∷ ts) =
@@ -42,14 +42,14 @@ OrdersWait rule timing first h scans past (t ∷ ts) =
 -- ---- a history
 
 -- the scans among these events
-abbrev pub scans_of : List ConditionItem → State → List Past → List (ℕ × Bool)
+abbrev pub scans_of : List ConditionItem → State → List PastEvent → List (ℕ × Bool)
 scans_of condition first [] = []
 scans_of condition first (p ∷ past) =
     scans_after condition p.now p.event (device_after first past) p.answer
     (scans_of condition first past)
 
 -- Each command of these events waits for the time of the rule.
-abbrev pub PastWaits : Rule → Timing → State → List Past → Type 0
+abbrev pub PastWaits : Rule → Timing → State → List PastEvent → Type 0
 PastWaits rule timing first [] = Unit {0}
 PastWaits rule timing first (p ∷ past) =
     CommandsWaitAt rule timing (scans_of timing.condition first past) p.now p.event

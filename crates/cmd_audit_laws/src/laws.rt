@@ -9,7 +9,7 @@ ghost use Rattle.bay_base.specs.declared.switch.Operation.{Operation};
 ghost use Rattle.bay_base.specs.declared.switch.Operation.TheVariants.{Close};
 ghost use Rattle.bay_mms_services.specs.declared.answer.Command.{Command};
 ghost use Rattle.bay_device.specs.Device.{State};
-ghost use Rattle.bay_device.specs.Fresh.{IsSameProcess, Past};
+ghost use Rattle.bay_device.specs.Fresh.{IsSameProcess, PastEvent};
 ghost use Rattle.bay_device.specs.declared.event.Step.{Step};
 ghost use Rattle.cmd_audit_laws.specs.Guarded.{GuardedCommandsAreHarmless, GuardedCommandsObey};
 ghost use Rattle.cmd_audit_laws.specs.Orders.{five_milliseconds, octets_arrived, scanned_at, server_without_clients, contact_past, with_enable_value, lost_past, server_with_client, open_command, octets_refused, scan_past, no_octets, turn_with};
@@ -139,13 +139,13 @@ pub fn a_reported_command_needs_each_of_its_parts()
         → IsHeard (server_with_client s) (turn_with (octets_arrived (octet ∷ octets)) told) }
     ensures closed { (s : State) (octets : List ℕ) (told : Turn)
         → IsHeard (server_without_clients s) (turn_with (octets_arrived octets) told) → ⊥ }
-    ensures silent { (first : State) (h : ServerData) (told : Turn) (past : List Past)
+    ensures silent { (first : State) (h : ServerData) (told : Turn) (past : List PastEvent)
         (command : Command) → IsOrdered first h (turn_with no_octets told) past command → ⊥ }
-    ensures part { (first s : State) (told : Turn) (past : List Past) (command : Command)
+    ensures part { (first s : State) (told : Turn) (past : List PastEvent) (command : Command)
         → IsOrdered first (server_with_client s) (turn_with (octets_arrived (3 ∷ [])) told) past
         command → ⊥ }
     ensures refused { (first s : State) (octet : ℕ) (octets : List ℕ) (told : Turn)
-        (past : List Past) (command : Command)
+        (past : List PastEvent) (command : Command)
         → IsOrdered first (server_with_client s) (turn_with (octets_refused (octet ∷ octets)) told)
         past
         command → ⊥ }
@@ -155,15 +155,15 @@ pub fn a_reported_command_needs_each_of_its_parts()
         (command : Command)
         → IsOrdered first h (record t { now = first.scan_max_age_ms + 1 })
         (scan_past s step ∷ []) command → ⊥ }
-    ensures lost { (first : State) (h : ServerData) (t : DoneTurn) (past : List Past)
+    ensures lost { (first : State) (h : ServerData) (t : DoneTurn) (past : List PastEvent)
         (command : Command) → h.device.is_lost ≡ true → IsOrdered first h t past command → ⊥ }
-    ensures told_lost { (first : State) (h : ServerData) (t : DoneTurn) (past : List Past)
+    ensures told_lost { (first : State) (h : ServerData) (t : DoneTurn) (past : List PastEvent)
         (command : Command) → IsTurn h t → t.given.is_lost ≡ true
         → IsOrdered first h t past command → ⊥ }
-    ensures quiet { (first : State) (h : ServerData) (t u : DoneTurn) (past : List Past)
+    ensures quiet { (first : State) (h : ServerData) (t u : DoneTurn) (past : List PastEvent)
         → t.told.commands ≡ [] → u.told.commands ≡ [] → AreOrdered first h past (t ∷ u ∷ []) }
     ensures unordered { (first : State) (h : ServerData) (t : DoneTurn) (told : Turn)
-        (past : List Past) (command : Command) → Contains told.commands command
+        (past : List PastEvent) (command : Command) → Contains told.commands command
         → AreOrdered first h past (t ∷ turn_with no_octets told ∷ []) → ⊥ }
 {}
 

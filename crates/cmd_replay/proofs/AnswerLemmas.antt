@@ -8,7 +8,7 @@ use Rattle.bay_device.specs.declared.event.Event.{Event}
 use Rattle.bay_device.specs.declared.event.Step.{Step}
 use Rattle.bay_device.specs.declared.fault.StepFault.{StepFault}
 use Rattle.bay_io.specs.Sent.{Finishes, Puts}
-use Rattle.bay_io.specs.Watched.{Writing}
+use Rattle.bay_io.specs.Watched.{WriterState}
 use Rattle.bay_io.specs.declared.outbox.WriteFault.{WriteFault}
 use Rattle.cmd_replay.specs.Answering.{Does, FinishesLogs}
 use Rattle.cmd_replay.specs.LineAnswers.{Replaying, event_answer, memory_answer, named_answer, unread}
@@ -19,8 +19,8 @@ use Rattle.bay_trace.proofs.PlacingLemmas.{same-anywhere}
 
 -- what an event comes to is told by what is taken for it
 pub Does-same : {W : Type 0} (contents : W → Option (List ℕ)) (asks : W → WriteCall → W → Type 0)
-    (old : Writing W) (now : ℕ)
-    (event other : Event) (before : State) (new : Writing W) (after : State)
+    (old : WriterState W) (now : ℕ)
+    (event other : Event) (before : State) (new : WriterState W) (after : State)
     → anywhere event ≡ other → Does contents asks old now event before new after
     → Does contents asks old now other before new after
 Does-same contents asks old now event other before new after e d =
@@ -36,7 +36,7 @@ Does-same contents asks old now event other before new after e d =
 
 -- an event is done where the text of its answer is put
 pub Does-put : {W : Type 0} (contents : W → Option (List ℕ)) (asks : W → WriteCall → W → Type 0)
-    (old : Writing W) (now : ℕ) (event : Event) (before : State) (new : Writing W) (after : State)
+    (old : WriterState W) (now : ℕ) (event : Event) (before : State) (new : WriterState W) (after : State)
     (choice : Option ℕ) (answer : Result Step StepFault)
     → answer ≡ (outcome choice now event before).answer
     → after ≡ (outcome choice now event before).after
@@ -66,7 +66,7 @@ memory-said now event r lt = by_test (nat_lt r.room (count_of event)) refl
 
 -- the report could not be flushed
 pub FinishesLogs-cut : {W : Type 0} {contents : W → Option (List ℕ)}
-    {asks : W → WriteCall → W → Type 0} {status : ℕ} {line : Option (List ℕ)} {old new : Writing W}
+    {asks : W → WriteCall → W → Type 0} {status : ℕ} {line : Option (List ℕ)} {old new : WriterState W}
     (fault : WriteFault) (r : Result ℕ WriteFault) → IsErr r
     → Finishes {X = ℕ} {E = WriteFault} contents asks old new (Err fault)
     → FinishesLogs contents asks status line old new r

@@ -2,9 +2,9 @@
 use Rattle.std.proofs.Common.{◌≡◌, ℕ, ◌≤◌, Bool, true, false, cond, ◌||◌, nat_lt, length, Option, Some, None, Result, IsOkAnd, IsSomeAnd, inl, inr, refl, sym, ap, subst, ◌∙◌, arith}
 use Rattle.il_check.specs.Program.{Checked}
 use Rattle.il_verify.specs.Verdicts.{IsBudget}
-use Rattle.bay_device.specs.Device.{State, after_scan, ran_at}
+use Rattle.bay_device.specs.Device.{State, after_scan, run_result_at}
 use Rattle.bay_device.specs.Meaning.{Halts, HaltsAt, Runs, is_refused}
-use Rattle.bay_device.specs.Outcomes.{Outcome, last_moment, outcome, refusal_of, scan_outcome}
+use Rattle.bay_device.specs.Outcomes.{Outcome, last_moment, outcome, refusal_outcome, scan_outcome}
 use Rattle.bay_device.specs.Steps.{Steps}
 use Rattle.bay_device.specs.declared.event.Event.{Event}
 use Rattle.bay_device.specs.declared.event.Event.TheVariants.{Scan}
@@ -18,17 +18,17 @@ use Rattle.cmd_replay.proofs.PathLemmas.{run-ends}
 -- ---- a scan
 
 module _ (c : Checked) (old : State) (runs : Runs c old) (now : ℕ) where
-  halts-scan : Halts now old (ran_at now old).steps (after_scan now old)
+  halts-scan : Halts now old (run_result_at now old).steps (after_scan now old)
   halts-scan = record {
     halts = scan-halts c old runs now;
-    within = λ budget b. b.most (ran_at now old).steps
+    within = λ budget b. b.most (run_result_at now old).steps
         (run-ends old.machine.image.code now (length old.machine.image.code) 0 _ _ _
-        (ran_at now old).steps refl (scan-halts c old runs now));
+        (run_result_at now old).steps refl (scan-halts c old runs now));
   }
 
   halts-if : (a b : Bool) → a || b ≡ false
-      → let o : Outcome = cond a (refusal_of MomentTooLarge old)
-      (cond b (refusal_of TimeWentBack old) (scan_outcome now old)) in
+      → let o : Outcome = cond a (refusal_outcome MomentTooLarge old)
+      (cond b (refusal_outcome TimeWentBack old) (scan_outcome now old)) in
       IsOkAnd o.answer (λ step. IsSomeAnd step.scan (λ steps. Halts now old steps o.after))
   halts-if true b h = absurd cc
   halts-if false true h = absurd cc
@@ -76,10 +76,10 @@ step-within c now event old answer new runs steps = (
     | inl quiet ↦
         absurd (let no : ◌≡◌ {A = Option ℕ} None (Some count) = sym quiet.0 ∙ told in cc)
     | inr scan ↦
-        (let is : ◌≡◌ {A = Option ℕ} (Some (ran_at now old).steps) (Some count) =
+        (let is : ◌≡◌ {A = Option ℕ} (Some (run_result_at now old).steps) (Some count) =
         sym (ap scan_told scan.answered) ∙ told in
-        let same : (ran_at now old).steps ≡ count = cc in
-        let within : (ran_at now old).steps ≤ budget =
+        let same : (run_result_at now old).steps ≡ count = cc in
+        let within : (run_result_at now old).steps ≤ budget =
         (halts-scan c old runs now).within budget b in
         omega arith)
   ],

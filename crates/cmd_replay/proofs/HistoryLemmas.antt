@@ -3,10 +3,10 @@ use Rattle.std.proofs.Common.{◌≡◌, ℕ, List, [], ◌∷◌, ◌++◌, len
 use Rattle.bay_config.specs.declared.bay.Bay.{Bay}
 use Rattle.il_image.specs.Images.{Image}
 use Rattle.bay_device.specs.Device.{State, bay_of}
-use Rattle.bay_device.specs.Fresh.{Came, IsFresh, Past}
+use Rattle.bay_device.specs.Fresh.{IsHistory, IsFresh, PastEvent}
 use Rattle.bay_device.specs.Load.{initial_device}
 use Rattle.bay_device.specs.Steps.{EachStep, Steps}
-use Rattle.bay_device.specs.EntriesTold.{AreAgreed}
+use Rattle.bay_device.specs.ObservedRuns.{HaveAgreedSize}
 use Rattle.bay_device.specs.declared.event.Event.{Event}
 use Rattle.bay_device.specs.declared.event.Step.{Step}
 use Rattle.bay_device.specs.declared.fault.StepFault.{StepFault}
@@ -23,7 +23,7 @@ pub past-does : (Does : ℕ → Event → State → Result Step StepFault → St
     (Is : State → Type 0) → ((now : ℕ) (event : Event) (old : State)
     (answer : Result Step StepFault) (new : State) → Is old → Steps now event old answer new
     → Does now event old answer new × Is new)
-    → (first : State) (past : List Past) → Is first → EachPast Steps first past
+    → (first : State) (past : List PastEvent) → Is first → EachPast Steps first past
     → EachPast Does first past × Is (device_after first past)
 past-does Does Is law first [] is steps = (tt, is)
 past-does Does Is law first (p ∷ past) is steps =
@@ -35,7 +35,7 @@ past-does Does Is law first (p ∷ past) is steps =
 pub past-so : (Does : ℕ → Event → State → Result Step StepFault → State → Type 0)
     → ((now : ℕ) (event : Event) (old : State) (answer : Result Step StepFault) (new : State)
     → Steps now event old answer new → Does now event old answer new)
-    → (first : State) (past : List Past) → EachPast Steps first past → EachPast Does first past
+    → (first : State) (past : List PastEvent) → EachPast Steps first past → EachPast Does first past
 past-so Does law first [] steps = tt
 past-so Does law first (p ∷ past) steps = (
   law p.now p.event (device_after first past) p.answer p.after steps.0,
@@ -44,16 +44,16 @@ past-so Does law first (p ∷ past) steps = (
 
 -- ---- since load
 
-pub past-came : (bay : Bay) (image : Image) (first : State) (past : List Past)
+pub past-came : (bay : Bay) (image : Image) (first : State) (past : List PastEvent)
     → first ≡ initial_device bay image → EachPast Steps first past
-    → Came past (device_after first past)
+    → IsHistory past (device_after first past)
 past-came bay image first [] is steps = (bay, image, is)
 past-came bay image first (p ∷ past) is steps = (
   refl,
   (device_after first past, past-came bay image first past is steps.1, steps.0),
 )
 
-pub past-fixed : (first : State) (past : List Past) → EachPast Steps first past
+pub past-fixed : (first : State) (past : List PastEvent) → EachPast Steps first past
     → Fixed first (device_after first past)
 past-fixed first [] steps = record { age = refl; image = refl; switches = refl; writes = refl }
 past-fixed first (p ∷ past) steps =
@@ -66,7 +66,7 @@ past-fixed first (p ∷ past) steps =
       writes = here.writes ∙ before.writes;
     }
 
-pub past-fresh : (bay : Bay) (image : Image) (first : State) (past : List Past)
+pub past-fresh : (bay : Bay) (image : Image) (first : State) (past : List PastEvent)
     → first ≡ initial_device bay image → EachPast Steps first past
     → AllFresh first.scan_max_age_ms past
 past-fresh bay image first [] is steps = tt
@@ -77,14 +77,14 @@ past-fresh bay image first (p ∷ past) is steps = (
   past-fresh bay image first past is steps.1,
 )
 
-pub past-settings : (first : State) (past : List Past) → EachPast Steps first past
+pub past-settings : (first : State) (past : List PastEvent) → EachPast Steps first past
     → settings_of (device_after first past) ≡ settings_of first
 past-settings first [] steps = refl
 past-settings first (p ∷ past) steps =
     fixed-step p.now p.event (device_after first past) p.answer p.after steps.0
     ∙ past-settings first past steps.1
 
-pub past-remote : (bay : Bay) (image : Image) (first : State) (past : List Past)
+pub past-remote : (bay : Bay) (image : Image) (first : State) (past : List PastEvent)
     → first ≡ initial_device bay image → EachPast Steps first past → AllRemote first past
 past-remote bay image first [] is steps = tt
 past-remote bay image first (p ∷ past) is steps = (
@@ -110,15 +110,15 @@ step-more (x ∷ es) old [] mid e answer new each steps = absurd each
 step-more (x ∷ es) old (a ∷ answers) mid e answer new each steps =
     (each.0, each.1, tt, step-more es each.0 answers mid e answer new each.3 steps)
 
-past-steps : (first : State) (past : List Past) → EachPast Steps first past
+past-steps : (first : State) (past : List PastEvent) → EachPast Steps first past
     → EachStep Any (events_of past) first (answers_of past) (device_after first past)
 past-steps first [] steps = refl
 past-steps first (p ∷ past) steps =
     step-more (events_of past) first (answers_of past) (device_after first past) (p.now, p.event)
     p.answer p.after (past-steps first past steps.1) steps.0
 
-pub past-tells : (first : State) (past : List Past) → length first.connections ≡ 8
-    → AreAgreed first.connections → EachPast Steps first past
+pub past-tells : (first : State) (past : List PastEvent) → length first.connections ≡ 8
+    → HaveAgreedSize first.connections → EachPast Steps first past
     → Tells (bay_of first) (events_of past) first (answers_of past) (device_after first past)
 past-tells first past eight sized steps =
     tells Any (bay_of first) (events_of past) first (answers_of past) (device_after first past)

@@ -9,10 +9,10 @@ use Rattle.bay_nodes.specs.declared.switch.Switch.{Switch}
 use Rattle.bay_nodes.specs.Names.{meter_names}
 use Rattle.bay_process.specs.Names.{field_names}
 use Rattle.bay_process.proofs.ToldLemmas.{Keeps, field-away, keeps-contact, keeps-doubt, keeps-measure}
-use Rattle.bay_tree.specs.Rows.{leaf_of}
+use Rattle.bay_tree.specs.Rows.{leaf_named}
 use Rattle.bay_base.specs.declared.position.Dbpos.{Dbpos}
 use Rattle.bay_device.specs.Device.{State, device_at}
-use Rattle.bay_device.specs.Outcomes.{Outcome, close_outcome, connection_at, contact_outcome, doubt_outcome, event_outcome, input_outcome, last_moment, lost_outcome, measure_outcome, open_outcome, outcome, slot_of, recv_outcome, refusal_of, scan_outcome}
+use Rattle.bay_device.specs.Outcomes.{Outcome, close_outcome, connection_at, contact_outcome, bad_measure_outcome, event_outcome, input_outcome, last_moment, lost_outcome, measure_outcome, open_outcome, outcome, slot_of, recv_outcome, refusal_outcome, scan_outcome}
 use Rattle.bay_device.specs.Steps.{Steps}
 use Rattle.bay_device.specs.declared.event.Event.{Event}
 use Rattle.bay_device.specs.declared.event.Event.TheVariants.{Open, Recv, Close, Contact, Input, Measure, BadMeasure, Lost, Scan}
@@ -48,7 +48,7 @@ kept-same s t same = record {
         writes = ap (λ (p : Parts). p.writes) same;
       };
   scans = ap (λ (p : Parts). p.scans) same;
-  interlocking = λ k x. ap (leaf_of _) (ap (λ (p : Parts). p.rows) same);
+  interlocking = λ k x. ap (leaf_named _) (ap (λ (p : Parts). p.rows) same);
 }
 
 -- ---- events
@@ -123,8 +123,8 @@ module _ (now : ℕ) (s : State) where
   )
 
   quiet-doubt : (k : ℕ) (field : MeterField) (o : Option (List ℕ))
-      → Quiet s (doubt_outcome now k field s o)
-  quiet-doubt k field None = quiet-same s (doubt_outcome now k field s None) refl refl
+      → Quiet s (bad_measure_outcome now k field s o)
+  quiet-doubt k field None = quiet-same s (bad_measure_outcome now k field s None) refl refl
   quiet-doubt k field (Some id) = (
     refl,
     record {
@@ -192,13 +192,13 @@ turned-event choice now Scan s =
     inr (record { event_is = refl; answered = refl; left = refl })
 
 turned-if : (late early : Bool) (choice : Option ℕ) (now : ℕ) (event : Event) (s : State)
-    → let o : Outcome = cond late (refusal_of MomentTooLarge s)
-    (cond early (refusal_of TimeWentBack s) (event_outcome choice now event s)) in
+    → let o : Outcome = cond late (refusal_outcome MomentTooLarge s)
+    (cond early (refusal_outcome TimeWentBack s) (event_outcome choice now event s)) in
     Turned now event s o.answer o.after
 turned-if true early choice now event s =
-    inl (quiet-same s (refusal_of MomentTooLarge s) refl refl)
+    inl (quiet-same s (refusal_outcome MomentTooLarge s) refl refl)
 turned-if false true choice now event s =
-    inl (quiet-same s (refusal_of TimeWentBack s) refl refl)
+    inl (quiet-same s (refusal_outcome TimeWentBack s) refl refl)
 turned-if false false choice now event s = turned-event choice now event s
 
 -- a step of a device is a turn of the run that a report keeps
@@ -223,7 +223,7 @@ step-fixed now event old answer new steps =
 
 on-time-if : (late : Bool) (now : ℕ) (rest : Outcome) (s : State) (step : Step)
     → nat_lt last_moment now ≡ late
-    → (cond late (refusal_of MomentTooLarge s) rest).answer ≡ Ok step → now ≤ last_moment
+    → (cond late (refusal_outcome MomentTooLarge s) rest).answer ≡ Ok step → now ≤ last_moment
 on-time-if true now rest s step is e = absurd cc
 on-time-if false now rest s step is e = grind (arith, nat_tests)
 

@@ -6,7 +6,7 @@ use Rattle.bay_load.specs.Report.{IsReport}
 use Rattle.bay_load.specs.declared.report.Report.{Report}
 use Rattle.bay_io.proofs.SentLemmas.{Puts-then}
 use Rattle.bay_io.specs.Sent.{Finishes, Puts}
-use Rattle.bay_io.specs.Watched.{Writing}
+use Rattle.bay_io.specs.Watched.{WriterState}
 use Rattle.bay_io.specs.declared.outbox.WriteFault.{WriteFault}
 use Rattle.cmd_replay.specs.LineAnswers.{Choice, LineAnswer, Replaying, heard, line_answer}
 use Rattle.cmd_replay.specs.Answering.{FinishesLogs}
@@ -19,14 +19,14 @@ use Rattle.bay_trace.specs.Trace.{trace_line_of}
 -- what was printed so far, and what may follow it
 pub record Progress {W : Type 0} (contents : W → Option (List ℕ))
     (asks : W → WriteCall → W → Type 0) (May : Option (List ℕ) → List ℕ → ℕ → Type 0)
-    (s : Replaying) (k : ℕ) (rest : List (List ℕ)) (old new : Writing W) : Type 0 where
+    (s : Replaying) (k : ℕ) (rest : List (List ℕ)) (old new : WriterState W) : Type 0 where
   pub printed : List ℕ
   pub continues : (log : Option (List ℕ)) (text : List ℕ) (status : ℕ)
       → TraceReport s k rest log text status → May log (printed ++ text) status
   pub put : Puts contents asks old printed new
 
 pub Progress-start : {W : Type 0} {contents : W → Option (List ℕ)}
-    {asks : W → WriteCall → W → Type 0} {old new : Writing W}
+    {asks : W → WriteCall → W → Type 0} {old new : WriterState W}
     (report : Report) (s : State) (lines : List (List ℕ)) → IsReport s.machine.image report
     → Puts contents asks old (report_text report) new
     → Progress contents asks (DeviceReport s lines) (record { device = s; room = 0 }) 1 lines old
@@ -77,10 +77,10 @@ told-trace s k (line ∷ lines) =
 
 module _ {W : Type 0} {contents : W → Option (List ℕ)} {asks : W → WriteCall → W → Type 0}
     {May : Option (List ℕ) → List ℕ → ℕ → Type 0}
-    {s : Replaying} {k : ℕ} {rest : List (List ℕ)} {old mid : Writing W}
+    {s : Replaying} {k : ℕ} {rest : List (List ℕ)} {old mid : WriterState W}
     (p : Progress contents asks May s k rest old mid) where
   -- a last text ends the report
-  pub Progress-last : {put : Writing W} {text : List ℕ} (end : Writing W) (log : Option (List ℕ))
+  pub Progress-last : {put : WriterState W} {text : List ℕ} (end : WriterState W) (log : Option (List ℕ))
       (status : ℕ) (r : Result ℕ WriteFault) → TraceReport s k rest log text status
       → Puts contents asks mid text put → Finishes contents asks put end r
       → IfOk r (λ n. n ≡ status) → Prints contents asks (May log) old end r
@@ -89,7 +89,7 @@ module _ {W : Type 0} {contents : W → Option (List ℕ)} {asks : W → WriteCa
       ends is
 
   -- and then the line that goes with it is logged
-  pub Progress-logged : {put end : Writing W} {text : List ℕ} (log : Option (List ℕ)) (status : ℕ)
+  pub Progress-logged : {put end : WriterState W} {text : List ℕ} (log : Option (List ℕ)) (status : ℕ)
       (r : Result ℕ WriteFault) → TraceReport s k rest log text status
       → Puts contents asks mid text put → FinishesLogs contents asks status log put end r
       → PrintsLogs contents asks May old end r
@@ -119,7 +119,7 @@ module _ {W : Type 0} {contents : W → Option (List ℕ)} {asks : W → WriteCa
       abbrev said : LineAnswer
       said = line_answer choice k (trace_line_of line) s
 
-      pub Progress-step : {new : Writing W} → said.is_last ≡ false
+      pub Progress-step : {new : WriterState W} → said.is_last ≡ false
           → Puts contents asks mid said.text new
           → Progress contents asks May said.after (k + 1) after old new
       Progress-step {new} more put =

@@ -1,7 +1,7 @@
 -- Lemmas on what is printed of what a reader gave.
 use Rattle.std.proofs.Common.{◌≡◌, ◌<◌, ◌≤◌, ℕ, Bool, true, false, List, [], length, Option, None, Some, IfSome, Err, ◌⊎◌, inl, inr, refl, sym, ◌∙◌, arith}
 use Rattle.bay_io.specs.Calls.{ReadCall}
-use Rattle.bay_io.specs.Input.{FailsAs, IsEnded, failed_of, octets_of}
+use Rattle.bay_io.specs.Input.{FailsAs, IsEnded, is_read_failure, octets_of}
 use Rattle.bay_io.specs.declared.input.ReadFault.{ReadFault}
 use Rattle.bay_io.specs.declared.input.ReadFault.TheVariants.{TooLong, Failed, OutOfMemory}
 use Rattle.cmd_replay.specs.Replay.{IsReplay, IsReport, UnreadInput}
@@ -18,7 +18,7 @@ read-replay input scenario failed off is within log text status told =
 
 -- why it can't be read
 pub unread-replay : (input : Option (List ℕ)) (fault : ReadFault) (failed : Bool)
-    → failed ≡ failed_of {A = List ℕ} (Err fault)
+    → failed ≡ is_read_failure {A = List ℕ} (Err fault)
     → (fault ≡ TooLong → IfSome input (λ octets. scenario_limit < length octets))
     → (fault ≡ OutOfMemory → IfSome input (λ octets. length octets ≤ scenario_limit))
     → (log : Option (List ℕ)) (text : List ℕ) (status : ℕ) → UnreadInput fault log text status
@@ -46,7 +46,7 @@ gave-few (Failed kind) calls gave is = absurd cc
 gave-few OutOfMemory calls gave is = gave.1
 
 pub unread-ended : (fault : ReadFault) (calls : List ReadCall) (failed : Bool)
-    → failed ≡ failed_of {A = List ℕ} (Err fault) → FailsAs scenario_limit calls fault
+    → failed ≡ is_read_failure {A = List ℕ} (Err fault) → FailsAs scenario_limit calls fault
     → failed ≡ false → IsEnded calls ⊎ (scenario_limit < length (octets_of calls))
 unread-ended TooLong calls failed is over off = inr over
 unread-ended (Failed kind) calls failed is gave off =

@@ -4,7 +4,7 @@ use Rattle.std.proofs.lemmas.List.Elements.{All-nil}
 use Rattle.bay_device.specs.Commands.{CommandsReleased}
 use Rattle.bay_device.specs.Device.{State, bay_of}
 use Rattle.bay_device.specs.Entries.{IsIdle}
-use Rattle.bay_device.specs.Fresh.{Came, Past}
+use Rattle.bay_device.specs.Fresh.{IsHistory, PastEvent}
 use Rattle.bay_device.specs.Load.{IsLoaded, device_of}
 use Rattle.bay_device.specs.Meaning.{HaltsAt, MeansAt, Runs}
 use Rattle.bay_device.specs.Steps.{Steps}
@@ -26,7 +26,7 @@ use Rattle.cmd_replay.proofs.HistoryLemmas.{past-came, past-does, past-fresh, pa
 use Rattle.cmd_replay.proofs.TraceLemmas.{goes}
 
 -- what has happened to a device since load is one run of it
-pub one-run : (first : State) (past : List Past) → Came [] first → IsIdle first
+pub one-run : (first : State) (past : List PastEvent) → IsHistory [] first → IsIdle first
     → EachPast Steps first past → IsOneRun first past (device_after first past)
 one-run first past begin idle steps =
     let tells =

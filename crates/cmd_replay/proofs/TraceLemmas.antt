@@ -3,7 +3,7 @@ use Rattle.std.proofs.Common.{◌≡◌, ℕ, zero, suc, ◌+◌, Bool, true, fa
 use Rattle.std.proofs.lemmas.List.{length-append}
 use Rattle.std.proofs.lemmas.List.Elements.{All-append, All-nil}
 use Rattle.bay_device.specs.Device.{State}
-use Rattle.bay_device.specs.Fresh.{Past}
+use Rattle.bay_device.specs.Fresh.{PastEvent}
 use Rattle.bay_device.specs.Outcomes.{Outcome, outcome}
 use Rattle.bay_device.specs.Steps.{Steps}
 use Rattle.bay_device.specs.declared.event.Event.{Event}
@@ -22,7 +22,7 @@ only : (P : List ℕ → Type 0) (line : List ℕ) → P line → All P (line �
 only P line is zero d within = is
 only P line is (suc k) d within = absurd (omega arith)
 
-blank-more : (first : State) (past : List Past) (done : List (List ℕ)) (line : List ℕ)
+blank-more : (first : State) (past : List PastEvent) (done : List (List ℕ)) (line : List ℕ)
     → IsBlank line → AreOfLines first past done → AreOfLines first past (done ++ line ∷ [])
 blank-more first [] done line is of =
     All-append IsBlank done (line ∷ []) of (only IsBlank line is)
@@ -44,9 +44,9 @@ blank-more first (p ∷ past) done line is of = (
 -- ---- a trace from some line on
 
 -- The rest of a trace goes on with a history, to its end.
-pub record Ends (first : State) (past : List Past) (done lines : List (List ℕ)) (text : List ℕ)
+pub record Ends (first : State) (past : List PastEvent) (done lines : List (List ℕ)) (text : List ℕ)
     (status : ℕ) : Type 0 where
-  pub whole : List Past
+  pub whole : List PastEvent
   pub steps : EachPast Steps first whole
   pub all : List (List ℕ)
   pub rest : List (List ℕ)
@@ -57,13 +57,13 @@ pub record Ends (first : State) (past : List Past) (done lines : List (List ℕ)
   pub printed : printed_of past ++ text ≡ printed_of whole ++ ending
 
 -- a device that a trace has come to
-abbrev at : State → List Past → ℕ → Replaying
+abbrev at : State → List PastEvent → ℕ → Replaying
 at first past room = record { device = device_after first past; room = room }
 
 -- what follows a line
 abbrev Later : Option (List ℕ) → State → List (List ℕ) → List (List ℕ) → Type 0
 Later log first done lines =
-    (past : List Past) (room : ℕ) (text : List ℕ) (status : ℕ) → EachPast Steps first past
+    (past : List PastEvent) (room : ℕ) (text : List ℕ) (status : ℕ) → EachPast Steps first past
     → AreOfLines first past done
     → TraceReport (at first past room) (length done + 1) lines log text status
     → Ends first past done lines text status
@@ -80,7 +80,7 @@ count-more : (done : List (List ℕ)) (line : List ℕ)
 count-more done line = omega (arith, length-append done (line ∷ []))
 
 module _ (log : Option (List ℕ)) (first : State) (done : List (List ℕ)) (line : List ℕ)
-    (lines : List (List ℕ)) (later : Later log first (done ++ line ∷ []) lines) (past : List Past)
+    (lines : List (List ℕ)) (later : Later log first (done ++ line ∷ []) lines) (past : List PastEvent)
     (steps : EachPast Steps first past) (of : AreOfLines first past done) (room : ℕ) where
   -- the trace ends at the line
   stops : (text : List ℕ) (status : ℕ) → EndsAs (length done) (line ∷ lines) text status
@@ -129,7 +129,7 @@ module _ (log : Option (List ℕ)) (first : State) (done : List (List ℕ)) (lin
       abbrev done_by : Option ℕ → Outcome
       done_by choice = outcome choice m event (device_after first past)
 
-      abbrev new : Option ℕ → Past
+      abbrev new : Option ℕ → PastEvent
       new choice = record {
         now = m;
         event = event;

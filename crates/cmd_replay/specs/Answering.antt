@@ -5,7 +5,7 @@ use Rattle.bay_device.specs.Device.{State}
 use Rattle.bay_device.specs.Outcomes.{outcome}
 use Rattle.bay_device.specs.declared.event.Event.{Event}
 use Rattle.bay_io.specs.Sent.{Finishes, Puts}
-use Rattle.bay_io.specs.Watched.{Writing}
+use Rattle.bay_io.specs.Watched.{WriterState}
 use Rattle.bay_io.specs.declared.outbox.WriteFault.{WriteFault}
 use Rattle.cmd_replay.specs.LineAnswers.{Choice, LineAnswer, Replaying}
 use Rattle.cmd_replay.specs.declared.answer.ReplayEnd.{ReplayEnd}
@@ -20,8 +20,8 @@ is_unreadable OutOfMemory = false
 
 -- an event was applied, and its lines were put into the writer
 pub record Does {W : Type 0} (contents : W → Option (List ℕ)) (asks : W → WriteCall → W → Type 0)
-    (old : Writing W) (now : ℕ)
-    (event : Event) (before : State) (new : Writing W) (after : State) : Type 0 where
+    (old : WriterState W) (now : ℕ)
+    (event : Event) (before : State) (new : WriterState W) (after : State) : Type 0 where
   pub choice : Option ℕ
   pub text : Puts contents asks old
       (step_text now (outcome choice now event before).answer
@@ -31,8 +31,8 @@ pub record Does {W : Type 0} (contents : W → Option (List ℕ)) (asks : W → 
 -- a line was answered, with some choice: its text was put into the writer, and if the answer is not
 -- the last, the state after it is the one that results
 pub record Answers {W : Type 0} (contents : W → Option (List ℕ)) (asks : W → WriteCall → W → Type 0)
-    (old : Writing W)
-    (said : Choice → LineAnswer) (new : Writing W) (after : Replaying) (is_last : Bool)
+    (old : WriterState W)
+    (said : Choice → LineAnswer) (new : WriterState W) (after : Replaying) (is_last : Bool)
     : Type 0 where
   pub choice : Choice
   pub text : Puts contents asks old (said choice).text new
@@ -42,9 +42,9 @@ pub record Answers {W : Type 0} (contents : W → Option (List ℕ)) (asks : W �
 -- a writer was flushed, with this status, and then a line was logged, if there is one; after a
 -- failure nothing was logged
 pub record FinishesLogs {W : Type 0} (contents : W → Option (List ℕ))
-    (asks : W → WriteCall → W → Type 0) (status : ℕ) (line : Option (List ℕ)) (old new : Writing W)
+    (asks : W → WriteCall → W → Type 0) (status : ℕ) (line : Option (List ℕ)) (old new : WriterState W)
     (result : Result ℕ WriteFault) : Type 0 where
-  pub between : Writing W
+  pub between : WriterState W
   pub finishes : Finishes contents asks old between result
   pub status_is : IfOk result (λ answered. answered ≡ status)
   pub logged : MatchResult result (λ answered. LogsSome contents asks between line new)

@@ -16,7 +16,7 @@ pub use Rattle.bay_device.specs.Fresh
 pub use Rattle.bay_device.specs.Meaning
 pub use Rattle.bay_device.specs.Operates
 pub use Rattle.bay_device.specs.Steps
-pub use Rattle.bay_device.specs.EntriesTold
+pub use Rattle.bay_device.specs.ObservedRuns
 pub use Rattle.bay_report.specs.Lines
 pub use Rattle.bay_load.specs.Loads
 pub use Rattle.bay_report.specs.Report

@@ -13,7 +13,7 @@ use Rattle.cmd_replay.specs.Runs.{IsOfRun}
 use Rattle.cmd_replay.specs.Scenario.{ScenarioParts, scenario_of, scenario_limit}
 use Rattle.bay_report.specs.TextLines.{lines_of}
 use Rattle.bay_io.specs.Input.{IsEnded, octets_of}
-use Rattle.bay_io.specs.Watched.{Reading, Writing}
+use Rattle.bay_io.specs.Watched.{ReaderState, WriterState}
 use Rattle.bay_io.specs.declared.input.ReadFault.{ReadFault}
 use Rattle.bay_io.specs.declared.input.ReadFault.TheVariants as unread
 use Rattle.bay_io.specs.declared.outbox.WriteFault.{WriteFault}
@@ -98,22 +98,22 @@ IsReplay input has_failed log text status =
 -- returned, in their order, up to the end. The failure of the reader is reported exactly if one of
 -- these reads failed, or one had failed before.
 pub record ReplaysReads {R W : Type 0} (does : R → ReadCall → R → Type 0)
-    (contents : W → Option (List ℕ)) (asks : W → WriteCall → W → Type 0) (old new : Reading R)
-    (before after : Writing W) (result : Result ℕ WriteFault) : Type 0 where
+    (contents : W → Option (List ℕ)) (asks : W → WriteCall → W → Type 0) (old new : ReaderState R)
+    (before after : WriterState W) (result : Result ℕ WriteFault) : Type 0 where
   pub reads : MakesFewCalls does read_failed (scenario_limit + 1) old.inner old.has_failed new.inner
       new.has_failed
-  pub ended : new.has_failed ≡ false → IsEnded reads.asked.calls
-      ⊎ (scenario_limit < length (octets_of reads.asked.calls))
+  pub ended : new.has_failed ≡ false → IsEnded reads.calls_made.calls
+      ⊎ (scenario_limit < length (octets_of reads.calls_made.calls))
   pub prints : PrintsLogs contents asks
-      (IsReplay (Some (octets_of reads.asked.calls)) new.has_failed) before after result
+      (IsReplay (Some (octets_of reads.calls_made.calls)) new.has_failed) before after result
 
 -- A source was replayed to a sink; neither was used before. The result is a fault exactly if a
 -- write or a flush failed, or a write took nothing.
 pub record Replays {R W : Type 0} (does : R → ReadCall → R → Type 0)
     (contents : W → Option (List ℕ)) (asks : W → WriteCall → W → Type 0) (reader : R) (writer : W)
     (result : Result ℕ WriteFault) : Type 0 where
-  pub end : Reading R
-  pub last : Writing W
+  pub end : ReaderState R
+  pub last : WriterState W
   pub replays : ReplaysReads does contents asks
       (record { inner = reader; has_failed = false }) end
       (record {
@@ -123,4 +123,4 @@ pub record Replays {R W : Type 0} (does : R → ReadCall → R → Type 0)
         logs = false;
         pending = [];
       }) last result
-  pub fault : is_err result ≡ some_call write_failed replays.prints.printed.asked.calls
+  pub fault : is_err result ≡ some_call write_failed replays.prints.printed.calls_made.calls

@@ -4,12 +4,12 @@ use Rattle.bay_control.specs.Backing.{AreBacked}
 use Rattle.il_check.specs.Program.{Checked}
 use Rattle.bay_device.specs.Commands.{CommandsReleased}
 use Rattle.bay_device.specs.Device.{State, bay_of}
-use Rattle.bay_device.specs.Fresh.{Came, Past}
+use Rattle.bay_device.specs.Fresh.{IsHistory, PastEvent}
 use Rattle.bay_device.specs.Load.{IsLoaded, device_of}
 use Rattle.bay_device.specs.Meaning.{HaltsAt, MeansAt, Runs}
 use Rattle.bay_device.specs.Operates.{AllOperate}
 use Rattle.bay_device.specs.Steps.{Steps}
-use Rattle.bay_device.specs.EntriesTold.{entries_of_run}
+use Rattle.bay_device.specs.ObservedRuns.{observed_in_run}
 use Rattle.bay_load.specs.Loads.{IsCompiled, LoadData, file_of, load_of, text_of}
 use Rattle.bay_load.specs.Report.{IsReport as IsReportOf}
 use Rattle.bay_load.specs.declared.error.LoadError.TheVariants.{OutOfMemory}
@@ -31,7 +31,7 @@ IsBlank line = trace_line_of line ≡ Some blank
 
 -- The last of some lines that is not empty has this event at its moment, by the names of the device
 -- before it; `before` are the lines before it, and all lines after it are empty.
-pub record IsLast (s : State) (p : Past) (before lines : List (List ℕ)) : Type 0 where
+pub record IsLast (s : State) (p : PastEvent) (before lines : List (List ℕ)) : Type 0 where
   pub line : List ℕ
   pub blanks : List (List ℕ)
   pub split : lines ≡ before ++ line ∷ blanks
@@ -41,7 +41,7 @@ pub record IsLast (s : State) (p : Past) (before lines : List (List ℕ)) : Type
   pub blank : All IsBlank blanks
 
 -- The events are those of these lines, one for each line that is not empty.
-abbrev pub AreOfLines : State → List Past → List (List ℕ) → Type 0
+abbrev pub AreOfLines : State → List PastEvent → List (List ℕ) → Type 0
 AreOfLines first [] lines = All IsBlank lines
 AreOfLines first (p ∷ past) lines =
     (before : List (List ℕ)) × IsLast (device_after first past) p before lines
@@ -50,7 +50,7 @@ AreOfLines first (p ∷ past) lines =
 -- ---- the text
 
 -- what is printed for events, one after the other
-abbrev pub printed_of : List Past → List ℕ
+abbrev pub printed_of : List PastEvent → List ℕ
 printed_of [] = []
 printed_of (p ∷ past) = printed_of past ++ step_text p.now p.answer p.after
 
@@ -65,7 +65,7 @@ EndsAs done (line ∷ lines) ending status =
 
 -- The text and the status of a trace that is replayed on a device, by these events: the line of its
 -- load, what is printed for the events, and how it ends.
-pub record IsTextOf (first : State) (past : List Past) (trace text : List ℕ) (status : ℕ)
+pub record IsTextOf (first : State) (past : List PastEvent) (trace text : List ℕ) (status : ℕ)
     : Type 0 where
   pub report : Report
   pub reported : IsReportOf first.machine.image report
@@ -80,8 +80,8 @@ pub record IsTextOf (first : State) (past : List Past) (trace text : List ℕ) (
 -- ---- a run
 
 -- The events of a device since load, which led from the first state to the last.
-pub record IsOneRun (first : State) (past : List Past) (last : State) : Type 0 where
-  pub came : Came past last
+pub record IsOneRun (first : State) (past : List PastEvent) (last : State) : Type 0 where
+  pub came : IsHistory past last
   -- Each command is one that the interlocking releases, on a fresh scan, while no switch is
   -- operating, and something is sent with it;
   pub commanded : EachPast CommandsReleased first past
@@ -94,7 +94,7 @@ pub record IsOneRun (first : State) (past : List Past) (last : State) : Type 0 w
   -- events and of the answers, each backed by a select if its switch must be selected.
   pub operated : AllOperate (bay_of first) first.connections (events_of past) (answers_of past)
   pub backed : AreBacked first.controls.controls
-      (entries_of_run (bay_of first) first.connections (events_of past) (answers_of past))
+      (observed_in_run (bay_of first) first.connections (events_of past) (answers_of past))
   -- Each scan of a device that runs a program reaches HALT without a trap, within the budget, and
   -- results in what the program means.
   pub halts : (c : Checked) → Runs c first → EachPast HaltsAt first past
@@ -105,7 +105,7 @@ pub record IsOneRun (first : State) (past : List Past) (last : State) : Type 0 w
 pub record IsRun (parts : ScenarioParts) (first : State) (text : List ℕ) (status : ℕ)
     : Type 0 where
   pub loaded : IsLoaded (file_of parts.bay) (IsCompiled (text_of parts.logic)) first
-  pub past : List Past
+  pub past : List PastEvent
   pub steps : EachPast Steps first past
   pub printed : IsTextOf first past parts.trace text status
   pub runs : Runs loaded.made.checked first

@@ -1,7 +1,7 @@
 -- A server as it is made, and what is so of its turns.
 use Rattle.std.proofs.Common.{ℕ, List, [], refl, replicate, sym, subst}
 use Rattle.bay_device.specs.Device.{State}
-use Rattle.bay_device.specs.Fresh.{Came}
+use Rattle.bay_device.specs.Fresh.{IsHistory}
 use Rattle.bay_device.specs.Load.{LoadsDevice}
 use Rattle.bay_load.specs.declared.load.Form.{Form}
 use Rattle.bay_server_turn.specs.Turns.{ServerData}
@@ -13,7 +13,7 @@ use Rattle.cmd_serve.proofs.HistoryLemmas.{stands-first}
 use Rattle.cmd_serve.proofs.OrderLemmas.{all-ordered}
 
 came-of : (bay : List ℕ) (form : Form) (program : List ℕ) (s : State)
-    → LoadsDevice bay form program s → Came [] s
+    → LoadsDevice bay form program s → IsHistory [] s
 came-of bay form program s is = (is.0.bay, is.0.image, is.2)
 
 pub begun-of : (bay : List ℕ) (form : Form) (program : List ℕ) (device : State)

@@ -5,15 +5,15 @@ use Rattle.std.specs.List.{prefix_len}
 use Rattle.std.proofs.lemmas.Bool.{and_parts}
 use Rattle.std.proofs.lemmas.Bool.Decides.{nat_tests}
 use Rattle.std.proofs.lemmas.List.{length-take}
-use Rattle.bay_files.specs.Files.{FileGuards}
-use Rattle.bay_files.specs.Keys.{ReadsNamedKey, is_end, key_in}
+use Rattle.bay_files.specs.Files.{ProtectedReads}
+use Rattle.bay_files.specs.Keys.{ReadsKeyIfNamed, is_key_end, key_in}
 use Rattle.bay_device.specs.Device.{State}
 use Rattle.bay_device.specs.Load.{LoadsDevice}
 use Rattle.bay_load.specs.Report.{IsReport}
 use Rattle.bay_load.specs.declared.report.Report.{Report}
 use Rattle.bay_files.specs.Files.{FilesData}
 use Rattle.bay_io.specs.Calls.{WriteCall}
-use Rattle.bay_io.specs.Watched.{Writing}
+use Rattle.bay_io.specs.Watched.{WriterState}
 use Rattle.bay_io.specs.declared.outbox.WriteFault.{WriteFault}
 use Rattle.bay_device.proofs.LoadedLemmas.{device-loaded, loaded-runs}
 use Rattle.bay_report.specs.Report.{IsLast, Prints, report_text}
@@ -36,27 +36,27 @@ use Rattle.cmd_serve.proofs.TurnLemmas.{service-of, turned}
 -- a key has at most 64 digits
 key-short : (text key : List ℕ) → key_in text ≡ Some key → length key ≤ 64
 key-short text key e =
-    by-test ((nat_le 32 digits && nat_le digits 64) && is_end (drop digits text)) refl e
+    by-test ((nat_le 32 digits && nat_le digits 64) && is_key_end (drop digits text)) refl e
   where
     digits : ℕ
     digits = prefix_len is_ascii_hexdigit text
 
     by-test : (v : Bool)
-        → ((nat_le 32 digits && nat_le digits 64) && is_end (drop digits text)) ≡ v
+        → ((nat_le 32 digits && nat_le digits 64) && is_key_end (drop digits text)) ≡ v
         → (if v then Some (take digits text) else None) ≡ Some key → length key ≤ 64
     by-test false is e = absurd cc
     by-test true is e =
         let few : nat_le digits 64 ≡ true =
         (and_parts (nat_le 32 digits) (nat_le digits 64)
-        (and_parts (nat_le 32 digits && nat_le digits 64) (is_end (drop digits text)) is).0).1 in
+        (and_parts (nat_le 32 digits && nat_le digits 64) (is_key_end (drop digits text)) is).0).1 in
         let same : take digits text ≡ key = cc in
         let within : length (take digits text) ≡ min digits (length text) =
         length-take digits text in
         let low : digits ≤ 64 = grind (arith, nat_tests) in
         subst (λ k. length k ≤ 64) same (omega arith)
 
-pub named-short : {F : Type 0} (guards : FileGuards F) (files : F) (named key : Option (List ℕ))
-    → ReadsNamedKey guards files named (Ok key) → length (key_of key) ≤ 64
+pub named-short : {F : Type 0} (guards : ProtectedReads F) (files : F) (named key : Option (List ℕ))
+    → ReadsKeyIfNamed guards files named (Ok key) → length (key_of key) ≤ 64
 named-short guards files None key read =
     let none : key ≡ None = cc in subst (λ k. length (key_of k) ≤ 64) (sym none) (omega arith)
 named-short guards files (Some name) None read = absurd read
@@ -85,8 +85,8 @@ answer-fails (Err f) fault e = refl
 module _ {L H W : Type 0} (step : L → Call → L → Type 0) (acts : H → HostCall L → H → Type 0)
     (contents : W → Option (List ℕ)) (asks : W → WriteCall → W → Type 0) where
   -- turns of a server as it was made are one run
-  pub one-run : (turns : ℕ) (before : Serving L H) (old : Writing W)
-      (host : H) (new : Writing W) (answer : Result ℕ WriteFault)
+  pub one-run : (turns : ℕ) (before : Serving L H) (old : WriterState W)
+      (host : H) (new : WriterState W) (answer : Result ℕ WriteFault)
       → ServesTurns step acts contents asks turns before old host new answer
       → IsBegun before.held → HaveIds before.held.device.switches
       → ServesRun step acts contents asks turns before old new host answer
@@ -109,7 +109,7 @@ module _ {L H W : Type 0} (step : L → Call → L → Type 0) (acts : H → Hos
 
   -- the line of a load could not be written
   pub line-fails : (numbers : Numbers) (loaded : LoadedFiles) (report : Report)
-      → IsReport loaded.load.image report → (host : H) (old middle : Writing W)
+      → IsReport loaded.load.image report → (host : H) (old middle : WriterState W)
       (fault : WriteFault) → Prints contents asks (IsLast (report_text report) 0) old middle
       (Err fault)
       → (answer : Result ℕ WriteFault) → IsErr answer

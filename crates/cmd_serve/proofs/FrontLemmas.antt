@@ -5,7 +5,7 @@ use Rattle.std.specs.declared.net.socket_addr.SocketAddrV4.{SocketAddrV4}
 use Rattle.std.specs.List.{Contains}
 use Rattle.std.proofs.lemmas.List.Elements.{All-append, All-cons, All-contains, All-head, All-nil, All-tail, Contains-append_right}
 use Rattle.bay_device.specs.Device.{State}
-use Rattle.bay_device.specs.Outcomes.{Outcome, connection_at, last_moment, lost_outcome, outcome, refusal_of}
+use Rattle.bay_device.specs.Outcomes.{Outcome, connection_at, last_moment, lost_outcome, outcome, refusal_outcome}
 use Rattle.bay_device.specs.declared.fault.StepFault.TheVariants.{MomentTooLarge, TimeWentBack}
 use Rattle.std.proofs.lemmas.Bool.Decides.{nat_tests}
 use Rattle.bay_device.specs.Steps.{OfAssociation}
@@ -295,8 +295,8 @@ same-events now (e ∷ es) s of =
 module _ (now : ℕ) (soon : now ≤ last_moment) where
   lost-if : (late early : Bool) (s : State) → s.moment ≤ now → nat_lt last_moment now ≡ late
       → nat_lt now s.moment ≡ early
-      → (let o : Outcome = cond late (refusal_of MomentTooLarge s)
-      (cond early (refusal_of TimeWentBack s) (lost_outcome now s)) in o.after.is_lost) ≡ true
+      → (let o : Outcome = cond late (refusal_outcome MomentTooLarge s)
+      (cond early (refusal_outcome TimeWentBack s) (lost_outcome now s)) in o.after.is_lost) ≡ true
   lost-if true early s time is and = absurd (grind (arith, nat_tests))
   lost-if false true s time is and = absurd (grind (arith, nat_tests))
   lost-if false false s time is and = refl

@@ -1,13 +1,13 @@
 -- A history grows by an event, by those of a turn, and by those of all turns.
 use Rattle.std.proofs.Common.{◌≡◌, ℕ, List, [], ◌∷◌, length, None, refl, ap, sym, subst, ◌∙◌}
-use Rattle.bay_mms_services.specs.Accepted.{AreNamedAlike}
+use Rattle.bay_mms_services.specs.ObservedEntries.{AreNamedAlike}
 use Rattle.bay_device.specs.Device.{State, bay_of}
 use Rattle.bay_device.specs.Entries.{IsIdle}
-use Rattle.bay_device.specs.Fresh.{Came, Past}
+use Rattle.bay_device.specs.Fresh.{IsHistory, PastEvent}
 use Rattle.bay_device.specs.Load.{initial_device}
 use Rattle.bay_device.specs.Outcomes.{outcome}
 use Rattle.bay_device.specs.Steps.{Steps}
-use Rattle.bay_device.specs.EntriesTold.{AreAgreed}
+use Rattle.bay_device.specs.ObservedRuns.{HaveAgreedSize}
 use Rattle.bay_device.proofs.EntryLemmas.{eight-places, leading}
 use Rattle.bay_device.proofs.FreshLemmas.{Tracks, tracks-event, tracks-first}
 use Rattle.bay_device.proofs.RemoteLemmas.{Follows, follows-first, follows-step}
@@ -21,21 +21,21 @@ use Rattle.cmd_serve.specs.Service.{past_after}
 
 -- ---- a device, and all that has happened to it since it was the first
 
-pub record Stands (first : State) (past : List Past) (s : State) : Type 0 where
+pub record Stands (first : State) (past : List PastEvent) (s : State) : Type 0 where
   pub steps : EachPast Steps first past
   pub last : device_after first past ≡ s
   pub unscanned : first.last_scan ≡ None
   pub alike : AreNamedAlike (bay_of first) (bay_of s)
-  pub sized : AreAgreed s.connections
+  pub sized : HaveAgreedSize s.connections
   pub eight : length s.connections ≡ 8
   pub tracks : Tracks past s
   pub follows : Follows past s
 
-idle : (first : State) → Came [] first → IsIdle first
+idle : (first : State) → IsHistory [] first → IsIdle first
 idle first came = let is : IsIdle (initial_device came.0 came.1) =
     record { unselected = refl; closed = refl } in subst IsIdle (sym came.2) is
 
-pub stands-first : (first : State) → Came [] first → Stands first [] first
+pub stands-first : (first : State) → IsHistory [] first → Stands first [] first
 stands-first first came = record {
   steps = tt;
   last = refl;
@@ -48,14 +48,14 @@ stands-first first came = record {
 }
 
 -- the age that a scan may have is that of load
-pub aged : (first : State) (past : List Past) (s : State) → Stands first past s
+pub aged : (first : State) (past : List PastEvent) (s : State) → Stands first past s
     → s.scan_max_age_ms ≡ first.scan_max_age_ms
 aged first past s at =
     ap (λ (d : State). d.scan_max_age_ms) (sym at.last) ∙ (past-fixed first past at.steps).age
 
 module _ (first : State) (now : ℕ) where
   -- one event more
-  stands-event : (e : ChosenEvent) (s : State) (past : List Past) → Stands first past s
+  stands-event : (e : ChosenEvent) (s : State) (past : List PastEvent) → Stands first past s
       → Stands first (past_after now (e ∷ []) s past) (outcome e.0 now e.1 s).after
   stands-event e s past at =
       let o = outcome e.0 now e.1 s in
@@ -80,7 +80,7 @@ module _ (first : State) (now : ℕ) where
       }
 
   -- those of a turn
-  pub stands-events : (es : List ChosenEvent) (s : State) (past : List Past) → Stands first past s
+  pub stands-events : (es : List ChosenEvent) (s : State) (past : List PastEvent) → Stands first past s
       → Stands first (past_after now es s past) (done_at now es s).after
   stands-events [] s past at = at
   stands-events (e ∷ es) s past at =
@@ -89,7 +89,7 @@ module _ (first : State) (now : ℕ) where
 
 -- ---- one run
 
-pub one-run : (first : State) (past : List Past) (last : State) → Came [] first
+pub one-run : (first : State) (past : List PastEvent) (last : State) → IsHistory [] first
     → Stands first past last → IsOneRun first past last
 one-run first past last begin at =
     subst (IsOneRun first past) at.last (past-run first past begin (idle first begin) at.steps)

@@ -2,10 +2,10 @@
 use Rattle.std.proofs.Common.{◌≡◌, ◌≢◌, ◌≤◌, ◌⊎◌, ℕ, zero, suc, true, false, List, [], ◌∷◌, Option, None, Some, Result, Ok, Err, inl, inr, refl, ap, sym, subst, ◌∙◌, arith}
 use Rattle.std.specs.List.{Contains}
 use Rattle.bay_device.specs.Device.{State}
-use Rattle.bay_device.specs.Fresh.{Past}
+use Rattle.bay_device.specs.Fresh.{PastEvent}
 use Rattle.bay_device.proofs.SameLemmas.{Parts}
 use Rattle.bay_io.specs.Calls.{WriteCall}
-use Rattle.bay_io.specs.Watched.{Writing}
+use Rattle.bay_io.specs.Watched.{WriterState}
 use Rattle.bay_io.specs.declared.outbox.WriteFault.{WriteFault}
 use Rattle.bay_process_port.specs.Ports.{PortData, PortReading, lost_of, empty_reading, reading_as, reading_at}
 use Rattle.bay_process_port.specs.Polling.{Script, attendance}
@@ -42,7 +42,7 @@ record Heeds (h : ServerData) (t : DoneTurn) : Type 0 where
   heard : h.device.is_lost ≡ false
   not_told : t.given.is_lost ≡ false
 
-heeds : (first : State) (h : ServerData) (t : DoneTurn) (past : List Past) (command : Command)
+heeds : (first : State) (h : ServerData) (t : DoneTurn) (past : List PastEvent) (command : Command)
     → IsTurn h t → IsOrdered first h t past command → Heeds h t
 heeds first h t past command is o = record {
   heard =
@@ -260,7 +260,7 @@ module _ {L H W : Type 0} (step : L → Call → L → Type 0) (acts : H → Hos
       ap (λ lines. choose_input b.held.device (moment_of clocks b) jump lines b.process) k.alone
       ∙ ap (λ process. choose_input b.held.device (moment_of clocks b) jump [] process) k.is
 
-  module _ (before : Serving L H) (old : Writing W) (after : Serving L H) (new : Writing W)
+  module _ (before : Serving L H) (old : WriterState W) (after : Serving L H) (new : WriterState W)
       (answer : Result ℕ WriteFault)
       (goes : TurnGoes step acts contents asks before old after new answer)
       (k : Keeps duties before) where
@@ -347,10 +347,10 @@ module _ {L H W : Type 0} (step : L → Call → L → Type 0) (acts : H → Hos
       subst (Keeps duties) (sym paused.1)
       (record { process = k.process; is = k.is; stands = k.stands; alone = k.alone })
 
-  live-turns : (first : State) (turns : ℕ) (before : Serving L H) (old : Writing W) (host : H)
-      (new : Writing W) (answer : Result ℕ WriteFault)
+  live-turns : (first : State) (turns : ℕ) (before : Serving L H) (old : WriterState W) (host : H)
+      (new : WriterState W) (answer : Result ℕ WriteFault)
       (serves : ServesTurns step acts contents asks turns before old host new answer)
-      (past : List Past) → Keeps duties before → IsTidy before.held
+      (past : List PastEvent) → Keeps duties before → IsTidy before.held
       → Stands first past before.held.device
       → CommandsLive step acts contents asks duties turns before old host new answer serves
   live-turns first zero before old host new answer serves past k tidy at = tt
@@ -386,8 +386,8 @@ module _ {L H W : Type 0} (step : L → Call → L → Type 0) (acts : H → Hos
       is = is-turn step acts contents asks before old did.0 did.1 did.2 did.3
 
   -- so it is of a server as it was made
-  pub commands-live : (turns : ℕ) (before : Serving L H) (old : Writing W) (host : H)
-      (new : Writing W) (answer : Result ℕ WriteFault)
+  pub commands-live : (turns : ℕ) (before : Serving L H) (old : WriterState W) (host : H)
+      (new : WriterState W) (answer : Result ℕ WriteFault)
       (serves : ServesTurns step acts contents asks turns before old host new answer)
       → IsBegun before.held → IsSupervised duties before
       → CommandsLive step acts contents asks duties turns before old host new answer serves

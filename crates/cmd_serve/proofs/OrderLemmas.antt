@@ -3,16 +3,16 @@ use Rattle.std.proofs.Common.{◌≡◌, ◌<◌, ◌≤◌, ◌+◌, ◌-◌, �
 use Rattle.std.specs.List.{Contains}
 use Rattle.std.proofs.lemmas.List.Elements.{All-contains, Contains-append_cases, Contains-append_right}
 use Rattle.bay_connection.specs.ConnectionStates.{ConnectionState, indications}
-use Rattle.bay_mms_services.specs.Accepted.{accepted_in}
+use Rattle.bay_mms_services.specs.ObservedEntries.{observed_in_pdu}
 use Rattle.bay_mms_services.specs.Entries.{operates_in}
 use Rattle.bay_mms_services.specs.declared.answer.Command.{Command}
 use Rattle.bay_device.specs.Commands.{AreCommanded, IsReleasedAt}
 use Rattle.bay_device.specs.Device.{State, bay_of}
-use Rattle.bay_device.specs.Fresh.{Past}
+use Rattle.bay_device.specs.Fresh.{PastEvent}
 use Rattle.bay_device.specs.Operates.{AreOperates, AreReplied, AreRepliedForEvent, IsReplied}
-use Rattle.bay_device.specs.Outcomes.{Outcome, last_moment, outcome, slot_of, refusal_of}
+use Rattle.bay_device.specs.Outcomes.{Outcome, last_moment, outcome, slot_of, refusal_outcome}
 use Rattle.bay_device.specs.Steps.{Steps}
-use Rattle.bay_device.specs.EntriesTold.{pdu_in, pdus_in, connection_state_at}
+use Rattle.bay_device.specs.ObservedRuns.{pdu_in, pdus_in, connection_state_at}
 use Rattle.bay_device.specs.declared.event.Event.{Event}
 use Rattle.bay_device.specs.declared.event.Event.TheVariants.{Open, Recv, Close, Contact, Input, Measure, BadMeasure, Lost, Scan}
 use Rattle.bay_device.specs.declared.event.Sent.{Sent}
@@ -46,7 +46,7 @@ none-among xs x none has =
 
 -- ---- the event of a command
 
-record Found (first : State) (now : ℕ) (es : List ChosenEvent) (s : State) (past : List Past)
+record Found (first : State) (now : ℕ) (es : List ChosenEvent) (s : State) (past : List PastEvent)
     (command : Command) : Type 0 where
   pub front : List ChosenEvent
   pub event : ChosenEvent
@@ -68,7 +68,7 @@ here (Ok step) command has = record { step = step; is = refl; has = has }
 here (Err fault) command has = absurd (omega (arith, has.1))
 
 module _ (first : State) (now : ℕ) (command : Command) where
-  found : (es : List ChosenEvent) (s : State) (past : List Past) → Stands first past s
+  found : (es : List ChosenEvent) (s : State) (past : List PastEvent) → Stands first past s
       → Contains (commands_of (done_at now es s).answers) command
       → Found first now es s past command
   found [] s past at has = absurd (omega (arith, has.1))
@@ -175,7 +175,7 @@ placed (Some place) a talk talks is spoken =
 
 on-time : (late : Bool) (now : ℕ) (rest : Outcome) (s : State) (step : Step)
     → nat_lt last_moment now ≡ late
-    → (cond late (refusal_of MomentTooLarge s) rest).answer ≡ Ok step → now ≤ last_moment
+    → (cond late (refusal_outcome MomentTooLarge s) rest).answer ≡ Ok step → now ≤ last_moment
 on-time true now rest s step is e = absurd cc
 on-time false now rest s step is e = grind (arith, nat_tests)
 
@@ -185,7 +185,7 @@ stays-tidy h t is tidy =
 
 -- ---- a command
 
-module _ (first : State) (h : ServerData) (t : DoneTurn) (past : List Past) (command : Command)
+module _ (first : State) (h : ServerData) (t : DoneTurn) (past : List PastEvent) (command : Command)
     (is : IsTurn h t) (tidy : IsTidy h) (at : Stands first past h.device) (front : List ChosenEvent)
     (choice : Option ℕ)
     (back : List ChosenEvent)
@@ -259,7 +259,7 @@ module _ (first : State) (h : ServerData) (t : DoneTurn) (past : List Past) (com
             number = there.1;
             flows = (loses-nothing t.now t.given t.script h tidy is.in_time is.all_offered).flows
                 there.0 there.2;
-            accepts = subst (λ p. Contains (operates_in (accepted_in t.now a r.pdu (bay_of first)
+            accepts = subst (λ p. Contains (operates_in (observed_in_pdu t.now a r.pdu (bay_of first)
                 p)) command) (sym m.is) r.accepts;
             allowed = allowed;
             released = released-by first past h.device mid t.now first.scan_max_age_ms command at
@@ -281,7 +281,7 @@ module _ (first : State) (h : ServerData) (t : DoneTurn) (past : List Past) (com
   asked Scan split answered replied allowed = absurd (none-among _ command replied has)
 
 -- what stands behind a command of a turn
-pub ordered : (first : State) (h : ServerData) (t : DoneTurn) (past : List Past) (command : Command)
+pub ordered : (first : State) (h : ServerData) (t : DoneTurn) (past : List PastEvent) (command : Command)
     → IsTurn h t → IsTidy h → Stands first past h.device → Contains t.told.commands command
     → IsOrdered first h t past command
 ordered first h t past command is tidy at has =
@@ -305,13 +305,13 @@ ordered first h t past command is tidy at has =
     f.split f.answered operates.replied
     (All-contains (IsReleasedAt t.now mid) f.step.commands command commanded.released f.has)
 
-pub all-ordered : (first : State) (h : ServerData) (past : List Past) (ts : List DoneTurn)
+pub all-ordered : (first : State) (h : ServerData) (past : List PastEvent) (ts : List DoneTurn)
     → AreTurns h ts → IsTidy h → Stands first past h.device → AreOrdered first h past ts
 all-ordered first h past [] are tidy at = tt
 all-ordered first h past (t ∷ ts) are tidy at =
     let events : List ChosenEvent = turn_events t.now t.given t.script h in
     let whole = Part-turn t.now t.given t.script h in
-    let behind : List Past = past_after t.now events h.device past in (
+    let behind : List PastEvent = past_after t.now events h.device past in (
       λ command has. ordered first h t past command are.0 tidy at has,
       all-ordered first (server_after t h) behind ts are.1 (stays-tidy h t are.0 tidy)
           (subst (Stands first behind) (sym whole.device)
@@ -319,7 +319,7 @@ all-ordered first h past (t ∷ ts) are tidy at =
     )
 
 -- its turn is at a moment that the device does not refuse
-pub ordered-on-time : (first : State) (h : ServerData) (t : DoneTurn) (past : List Past)
+pub ordered-on-time : (first : State) (h : ServerData) (t : DoneTurn) (past : List PastEvent)
     (command : Command) → IsOrdered first h t past command → t.now ≤ last_moment
 ordered-on-time first h t past command order =
     on-time (nat_lt last_moment t.now) t.now _ _ order.heard.step refl order.heard.answered

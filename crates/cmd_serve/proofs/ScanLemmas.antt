@@ -8,11 +8,11 @@ use Rattle.bay_process.specs.Values.{is_truth}
 use Rattle.bay_process.proofs.ToldLemmas.{Keeps}
 use Rattle.bay_mms_services.specs.Released.{enable_name}
 use Rattle.bay_mms_services.specs.declared.answer.Command.{Command}
-use Rattle.bay_tree.specs.Rows.{leaf_of}
+use Rattle.bay_tree.specs.Rows.{leaf_named}
 use Rattle.bay_tree.specs.declared.row.Row.{Row}
 use Rattle.bay_device.specs.Commands.{IsReleasedAt}
 use Rattle.bay_device.specs.Device.{State}
-use Rattle.bay_device.specs.Fresh.{HasScan, IsSameProcess, Past}
+use Rattle.bay_device.specs.Fresh.{HasScan, IsSameProcess, PastEvent}
 use Rattle.bay_device.specs.Remote.{IsAtRemote}
 use Rattle.bay_device.specs.declared.event.Step.{Step}
 use Rattle.bay_device.specs.declared.fault.StepFault.{StepFault}
@@ -28,7 +28,7 @@ use Rattle.cmd_serve.proofs.HistoryLemmas.{Stands}
 
 -- ---- no scan since
 
-abbrev NoneDone : Past → Type 0
+abbrev NoneDone : PastEvent → Type 0
 NoneDone p = IfOk p.answer (λ step. step.scan ≡ None)
 
 none-told : (r : Result Step StepFault) → scan_told r ≡ None
@@ -36,7 +36,7 @@ none-told : (r : Result Step StepFault) → scan_told r ≡ None
 none-told (Ok step) none = none
 none-told (Err fault) none = tt
 
-all-none : (ps : List Past) → AllByRecursion (λ (p : Past). scan_told p.answer ≡ None) ps
+all-none : (ps : List PastEvent) → AllByRecursion (λ (p : PastEvent). scan_told p.answer ≡ None) ps
     → AllByRecursion NoneDone ps
 all-none [] none = tt
 all-none (p ∷ ps) none = (none-told p.answer none.0, all-none ps none.1)
@@ -44,8 +44,8 @@ all-none (p ∷ ps) none = (none-told p.answer none.0, all-none ps none.1)
 -- ---- what stands since
 
 enabled-by : (rows new : List Row) (k : ℕ) (operation : Operation) → Keeps rows new
-    → is_truth true (leaf_of (enable_name k operation) new) ≡ true
-    → is_truth true (leaf_of (enable_name k operation) rows) ≡ true
+    → is_truth true (leaf_named (enable_name k operation) new) ≡ true
+    → is_truth true (leaf_named (enable_name k operation) rows) ≡ true
 enabled-by rows new k operations.Open keeps enabled = ap (is_truth true) (sym (keeps k _)) ∙ enabled
 enabled-by rows new k operations.Close keeps enabled =
     ap (is_truth true) (sym (keeps k _)) ∙ enabled
@@ -65,17 +65,17 @@ same-then a b c p q = record {
       };
 }
 
-same-behind : (first : State) (since : List Past) (scan : Past) (earlier : List Past)
-    → All (λ (p : Past). IsSameProcess scan.after p.after) since
+same-behind : (first : State) (since : List PastEvent) (scan : PastEvent) (earlier : List PastEvent)
+    → All (λ (p : PastEvent). IsSameProcess scan.after p.after) since
     → IsSameProcess scan.after (device_after first (since ++ scan ∷ earlier))
 same-behind first [] scan earlier all = process-same scan.after scan.after refl refl
 same-behind first (p ∷ since) scan earlier all =
-    All-head (λ (p : Past). IsSameProcess scan.after p.after) p since all
+    All-head (λ (p : PastEvent). IsSameProcess scan.after p.after) p since all
 
 -- ---- commands
 
 -- Its key, if it has one, is at remote by the events behind.
-pub remote-behind : (first : State) (past : List Past) (old s : State) (now : ℕ)
+pub remote-behind : (first : State) (past : List PastEvent) (old s : State) (now : ℕ)
     (command : Command) → Stands first past old → Same old s → IsReleasedAt now s command
     → IsAtRemote first past command
 remote-behind first past old s now command stands same released =
@@ -85,7 +85,7 @@ remote-behind first past old s now command stands same released =
 
 -- A switch that may be operated, on a device that has changed only for its clients since, is
 -- released by the last scan behind.
-pub released-by : (first : State) (past : List Past) (old s : State) (now age : ℕ)
+pub released-by : (first : State) (past : List PastEvent) (old s : State) (now age : ℕ)
     (command : Command) → Stands first past old → Same old s → s.scan_max_age_ms ≡ age
     → IsReleasedAt now s command → IsReleasedBy now age past s command
 released-by first past old s now age command stands same aged released =

@@ -3,12 +3,12 @@ use Rattle.std.proofs.Common.{◌≡◌, ◌<◌, ℕ, zero, suc, Bool, true, co
 use Rattle.std.specs.List.{AllByRecursion, Contains, slice_index_or}
 use Rattle.std.proofs.lemmas.Bool.{eq-eqb}
 use Rattle.std.proofs.lemmas.List.Elements.{All-contains}
-use Rattle.bay_connection.specs.ConnectionStates.{Indication, ConnectionState, answers, tells, releases, ends, fails, indications, octets_to_send}
-use Rattle.bay_mms_services.specs.Answers.{Answered, pdu_answer}
+use Rattle.bay_connection.specs.ConnectionStates.{Indication, ConnectionState, answers, delivers, releases, ends, fails, indications, octets_to_send}
+use Rattle.bay_mms_services.specs.Answers.{AnswerData, pdu_answer}
 use Rattle.bay_mms_services.proofs.ReleaseLemmas.{all-of}
 use Rattle.bay_device.specs.Device.{State, bay_of, device_at}
-use Rattle.bay_device.specs.Receiving.{ReceiveResult, Done, after_indications, after_pdu, client_at, on_indication, sent_on, with_sent}
-use Rattle.bay_device.specs.Outcomes.{Outcome, connection_at, event_outcome, last_moment, nothing_done, octets_outcome, outcome, slot_of, recv_outcome, refusal_of}
+use Rattle.bay_device.specs.Receiving.{ReceiveResult, StepState, after_indications, after_pdu, client_at, on_indication, sent_on, with_sent}
+use Rattle.bay_device.specs.Outcomes.{Outcome, connection_at, event_outcome, last_moment, step_start, octets_outcome, outcome, slot_of, recv_outcome, refusal_outcome}
 use Rattle.bay_device.specs.declared.event.Event.TheVariants.{Recv}
 use Rattle.bay_device.specs.declared.event.Sent.{Sent}
 use Rattle.bay_device.specs.declared.event.Step.{Step}
@@ -63,21 +63,21 @@ one-to a octets [] old = (refl, tt)
 one-to a octets (x ∷ xs) old = (old.0, one-to a octets xs old.1)
 
 module _ (now a : ℕ) where
-  heard-one : (i : Indication) (d : Done) (later : Done → ReceiveResult)
+  heard-one : (i : Indication) (d : StepState) (later : StepState → ReceiveResult)
       → AllByRecursion (IsTo a) d.sent
-      → ((e : Done) → AllByRecursion (IsTo a) e.sent
+      → ((e : StepState) → AllByRecursion (IsTo a) e.sent
       → AllByRecursion (IsTo a) (later e).done.sent)
       → AllByRecursion (IsTo a) (on_indication now a i d later).done.sent
   heard-one (answers octets) d later to more =
       more (with_sent a octets d) (one-to a octets d.sent to)
-  heard-one (tells terms pdu) d later to more =
-      let x : Answered = pdu_answer (client_at now a terms d.state) pdu (bay_of d.state) in
+  heard-one (delivers terms pdu) d later to more =
+      let x : AnswerData = pdu_answer (client_at now a terms d.state) pdu (bay_of d.state) in
       more (after_pdu now a terms pdu d) (all-to a terms d.sent x.sent to)
   heard-one (releases octets) d later to more = one-to a octets d.sent to
   heard-one ends d later to more = to
   heard-one (fails code) d later to more = to
 
-  heard-to : (choice : Option ℕ) (is : List Indication) (d : Done)
+  heard-to : (choice : Option ℕ) (is : List Indication) (d : StepState)
       → AllByRecursion (IsTo a) d.sent
       → AllByRecursion (IsTo a) (after_indications choice now a is d).done.sent
   heard-to None [] d to = to
@@ -97,7 +97,7 @@ module _ (now a : ℕ) where
       → AreTo (octets_outcome choice now a s talk octets).answer
   octets-to choice s talk [] = tt
   octets-to choice s talk (octet ∷ octets) =
-      heard-to choice (indications talk (octet ∷ octets)) (nothing_done (device_at now s)) tt
+      heard-to choice (indications talk (octet ∷ octets)) (step_start (device_at now s)) tt
 
   recv-to : (choice : Option ℕ) (s : State) (octets : List ℕ) (talk : Option ConnectionState)
       → AreTo (recv_outcome choice now a octets s talk).answer
@@ -106,7 +106,7 @@ module _ (now a : ℕ) where
 
   to-if : (late early : Bool) (s : State) (o : Outcome) → AreTo o.answer
       → let x : Outcome =
-      cond late (refusal_of MomentTooLarge s) (cond early (refusal_of TimeWentBack s) o) in
+      cond late (refusal_outcome MomentTooLarge s) (cond early (refusal_outcome TimeWentBack s) o) in
       AreTo x.answer
   to-if true early s o to = tt
   to-if false true s o to = tt

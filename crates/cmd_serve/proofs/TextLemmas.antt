@@ -5,7 +5,7 @@ use Rattle.std.specs.List.{Contains}
 use Rattle.bay_nodes.specs.declared.switch.Switch.{Switch}
 use Rattle.bay_mms_services.specs.declared.answer.Command.{Command}
 use Rattle.bay_device.specs.Device.{State}
-use Rattle.bay_device.specs.Fresh.{Past}
+use Rattle.bay_device.specs.Fresh.{PastEvent}
 use Rattle.bay_device.specs.Load.{LoadsDevice}
 use Rattle.bay_device.specs.Outcomes.{last_moment}
 use Rattle.bay_device.specs.declared.event.Step.{Step}
@@ -144,12 +144,12 @@ read-line t s ids line printed has reads = elim has [
 -- ---- the turns of a service
 
 module _ (first : State) (ids : HaveIds first.switches) where
-  switches-stay : (past : List Past) (s : State) → Stands first past s
+  switches-stay : (past : List PastEvent) (s : State) → Stands first past s
       → s.switches ≡ first.switches
   switches-stay past s at =
       ap (λ (d : State). d.switches) (sym at.last) ∙ (past-fixed first past at.steps).switches
 
-  printed-for : (h : ServerData) (t : DoneTurn) (past : List Past)
+  printed-for : (h : ServerData) (t : DoneTurn) (past : List PastEvent)
       → (server_after t h).device.switches ≡ first.switches
       → ((command : Command) → Contains t.told.commands command
       → IsOrdered first h t past command)
@@ -184,14 +184,14 @@ module _ (first : State) (ids : HaveIds first.switches) where
         ordered = order;
       }
 
-  all-printed : (h : ServerData) (past : List Past) (ts : List DoneTurn)
+  all-printed : (h : ServerData) (past : List PastEvent) (ts : List DoneTurn)
       → Stands first past h.device
       → AreOrdered first h past ts → ArePrinted first h past ts
   all-printed h past [] at orders = tt
   all-printed h past (t ∷ ts) at orders =
       let events : List ChosenEvent = turn_events t.now t.given t.script h in
       let whole = Part-turn t.now t.given t.script h in
-      let behind : List Past = past_after t.now events h.device past in
+      let behind : List PastEvent = past_after t.now events h.device past in
       let next : Stands first behind (server_after t h).device =
       subst (Stands first behind) (sym whole.device)
       (stands-events first t.now events h.device past at) in (

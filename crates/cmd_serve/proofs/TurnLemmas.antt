@@ -2,10 +2,10 @@
 use Rattle.std.proofs.Common.{◌≡◌, ℕ, zero, suc, nat_lt, Bool, true, false, if◌then◌else◌, List, [], ◌∷◌, Option, Some, None, Result, Ok, Err, inl, inr, refl, ap, sym, subst, ◌∙◌, arith}
 use Rattle.std.proofs.lemmas.Bool.Decides.{nat_tests}
 use Rattle.bay_device.specs.Device.{State}
-use Rattle.bay_device.specs.Fresh.{Came, Past}
+use Rattle.bay_device.specs.Fresh.{IsHistory, PastEvent}
 use Rattle.bay_device.specs.Outcomes.{last_moment}
 use Rattle.bay_io.specs.Calls.{WriteCall}
-use Rattle.bay_io.specs.Watched.{Writing}
+use Rattle.bay_io.specs.Watched.{WriterState}
 use Rattle.bay_io.specs.declared.outbox.WriteFault.{WriteFault}
 use Rattle.bay_server_turn.specs.Calls.{Call}
 use Rattle.bay_server_turn.specs.Served.{TurnInput, turn_refusal}
@@ -22,7 +22,7 @@ use Rattle.cmd_serve.proofs.HistoryLemmas.{Stands, one-run, stands-events, stand
 
 -- ---- all turns
 
-pub stands-turns : (first : State) (ts : List DoneTurn) (h : ServerData) (past : List Past)
+pub stands-turns : (first : State) (ts : List DoneTurn) (h : ServerData) (past : List PastEvent)
     → Stands first past h.device → Stands first (past_of ts h past) (held_after ts h).device
 stands-turns first [] h past at = at
 stands-turns first (t ∷ ts) h past at =
@@ -58,7 +58,7 @@ module _ {L H W : Type 0} (step : L → Call → L → Type 0) (acts : H → Hos
   paused-held after next (inl same) = ap (λ (b : Serving L H). b.held) same
   paused-held after next (inr paused) = ap (λ (b : Serving L H). b.held) paused.1
 
-  pub is-turn : (before : Serving L H) (old : Writing W) (after : Serving L H) (new : Writing W)
+  pub is-turn : (before : Serving L H) (old : WriterState W) (after : Serving L H) (new : WriterState W)
       (answer : Result ℕ WriteFault)
       (goes : TurnGoes step acts contents asks before old after new answer)
       → IsTurn before.held (turn_in step acts contents asks before old after new answer goes)
@@ -72,8 +72,8 @@ module _ {L H W : Type 0} (step : L → Call → L → Type 0) (acts : H → Hos
     commands = goes.serves.commands;
   }
 
-  pub turned : (turns : ℕ) (before : Serving L H) (old : Writing W)
-      (host : H) (new : Writing W) (answer : Result ℕ WriteFault)
+  pub turned : (turns : ℕ) (before : Serving L H) (old : WriterState W)
+      (host : H) (new : WriterState W) (answer : Result ℕ WriteFault)
       (serves : ServesTurns step acts contents asks turns before old host new answer)
       → AreTurns before.held
       (turns_in step acts contents asks turns before old host new answer serves)
@@ -88,9 +88,9 @@ module _ {L H W : Type 0} (step : L → Call → L → Type 0) (acts : H → Hos
   )
 
   pub service-of : (turns : ℕ) (before : Serving L H)
-      (old new : Writing W) (host : H) (answer : Result ℕ WriteFault)
+      (old new : WriterState W) (host : H) (answer : Result ℕ WriteFault)
       (serves : ServesTurns step acts contents asks turns before old host new answer)
-      → Came [] before.held.device → IsService before.held
+      → IsHistory [] before.held.device → IsService before.held
       (turns_in step acts contents asks turns before old host new answer serves)
   service-of turns before old new host answer serves begin =
       let ts = turns_in step acts contents asks turns before old host new answer serves in

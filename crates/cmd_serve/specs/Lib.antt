@@ -18,7 +18,7 @@ pub use Rattle.bay_device.specs.Fresh
 pub use Rattle.bay_device.specs.Meaning
 pub use Rattle.bay_device.specs.Operates
 pub use Rattle.bay_device.specs.Steps
-pub use Rattle.bay_device.specs.EntriesTold
+pub use Rattle.bay_device.specs.ObservedRuns
 pub use Rattle.bay_files.specs.Files
 pub use Rattle.bay_files.specs.Keys
 pub use Rattle.bay_process_port.specs.Ports

@@ -2,7 +2,7 @@
 use Rattle.std.specs.Prelude.{◌≡◌, ◌≢◌, ◌≤◌, Bool, ℕ, zero, suc, List, [], Option, None, Some, Result, Ok, Err}
 use mathlib.Core.Logic.{inl, inr}
 use Rattle.bay_io.specs.Calls.{WriteCall}
-use Rattle.bay_io.specs.Watched.{Writing}
+use Rattle.bay_io.specs.Watched.{WriterState}
 use Rattle.bay_io.specs.declared.outbox.WriteFault.{WriteFault}
 use Rattle.bay_process_port.specs.Ports.{initial_port}
 use Rattle.bay_process_port.specs.Supervision.{IsLive}
@@ -40,8 +40,8 @@ module _ {L H W : Type 0} (step : L → Call → L → Type 0) (acts : H → Hos
   -- the turn has taken what the process has sent. Since the turn before, the system's clock has
   -- gone on by no more than the milliseconds of the settings beyond the steady one.
   abbrev pub CommandsLive : (duties : SupervisionSettings) (turns : ℕ) (before : Serving L H)
-      (old : Writing W)
-      (host : H) (new : Writing W) (answer : Result ℕ WriteFault)
+      (old : WriterState W)
+      (host : H) (new : WriterState W) (answer : Result ℕ WriteFault)
       → ServesTurns step acts contents asks turns before old host new answer → Type 0
   CommandsLive duties zero before old host new answer serves = Unit {0}
   CommandsLive duties (suc turns) before old host new answer (inl fails) = Unit {0}

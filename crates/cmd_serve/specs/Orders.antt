@@ -3,20 +3,20 @@
 use Rattle.std.specs.Prelude.{ℕ, ◌≡◌, ◌+◌, true, All, List, [], ◌∷◌, ◌++◌, Option, None, Some, Ok, IfOk}
 use Rattle.std.specs.Borrow.{Bor}
 use Rattle.std.specs.List.{Contains}
-use Rattle.bay_connection.specs.ConnectionStates.{ConnectionState, Terms, indications, tells}
+use Rattle.bay_connection.specs.ConnectionStates.{ConnectionState, Terms, indications, delivers}
 use Rattle.bay_process.specs.Values.{is_truth}
-use Rattle.bay_mms_services.specs.Accepted.{accepted_in}
+use Rattle.bay_mms_services.specs.ObservedEntries.{observed_in_pdu}
 use Rattle.bay_mms_services.specs.Entries.{operates_in}
 use Rattle.bay_mms_services.specs.Released.{enable_name}
 use Rattle.bay_mms_services.specs.declared.answer.Command.{Command}
-use Rattle.bay_tree.specs.Rows.{leaf_of}
+use Rattle.bay_tree.specs.Rows.{leaf_named}
 use Rattle.bay_device.specs.Commands.{IsReleasedAt}
 use Rattle.bay_device.specs.Device.{State, bay_of}
-use Rattle.bay_device.specs.Fresh.{HasScan, IsSameProcess, Past}
+use Rattle.bay_device.specs.Fresh.{HasScan, IsSameProcess, PastEvent}
 use Rattle.bay_device.specs.Outcomes.{outcome, slot_of}
 use Rattle.bay_device.specs.Remote.{IsAtRemote}
 use Rattle.bay_device.specs.Steps.{OfAssociation}
-use Rattle.bay_device.specs.EntriesTold.{pdu_in, connection_state_at}
+use Rattle.bay_device.specs.ObservedRuns.{pdu_in, connection_state_at}
 use Rattle.bay_device.specs.declared.event.Event.TheVariants.{Recv}
 use Rattle.bay_device.specs.declared.event.Sent.{Sent}
 use Rattle.bay_device.specs.declared.event.Step.{Step}
@@ -28,12 +28,12 @@ use Rattle.cmd_serve.specs.Service.{DoneTurn, server_after, past_after}
 -- There is such a scan among these events, and none of those since is a scan that was accepted. It
 -- left the interlocking value of the command TRUE (EnaCls for on, EnaOpn for off), and the process
 -- of this device is still as it was after the scan.
-pub record IsReleasedBy (now age : ℕ) (past : List Past) (s : State) (command : Command)
+pub record IsReleasedBy (now age : ℕ) (past : List PastEvent) (s : State) (command : Command)
     : Type 0 where
   pub scan : HasScan now age past
-  pub last : All (λ (p : Past). IfOk p.answer (λ step. step.scan ≡ None)) scan.since
+  pub last : All (λ (p : PastEvent). IfOk p.answer (λ step. step.scan ≡ None)) scan.since
   pub enabled : is_truth true
-      (leaf_of (enable_name command.switch command.operation) scan.scan.after.rows) ≡ true
+      (leaf_named (enable_name command.switch command.operation) scan.scan.after.rows) ≡ true
   pub unchanged : IsSameProcess scan.scan.after s
 
 -- some octets are a part of others
@@ -68,7 +68,7 @@ pub record IsHeard (h : ServerData) (t : DoneTurn) : Type 0 where
 -- last scan of the earlier turns released the command, and the events of this turn before it are of
 -- associations, so they are no scans. If the switch has a key, the events of the earlier turns say
 -- that it is at remote.
-pub record IsOrdered (first : State) (h : ServerData) (t : DoneTurn) (past : List Past)
+pub record IsOrdered (first : State) (h : ServerData) (t : DoneTurn) (past : List PastEvent)
     (command : Command) : Type 0 where
   pub heard : IsHeard h t
   pub talk : ConnectionState
@@ -76,7 +76,7 @@ pub record IsOrdered (first : State) (h : ServerData) (t : DoneTurn) (past : Lis
       (done_at t.now heard.front h.device).after.connections ≡ Some talk
   pub terms : Terms
   pub pdu : List ℕ
-  pub asked : Contains (indications talk heard.octets.now) (tells terms pdu)
+  pub asked : Contains (indications talk heard.octets.now) (delivers terms pdu)
   pub sent : Sent
   pub answers : Contains heard.step.sent sent
   pub to : sent.association ≡ heard.association
@@ -84,7 +84,7 @@ pub record IsOrdered (first : State) (h : ServerData) (t : DoneTurn) (past : Lis
   pub place : ℕ
   pub number : heard.association ≡ place + 1
   pub flows : FlowsAt t.now t.given t.script h place
-  pub accepts : Contains (operates_in (accepted_in t.now heard.association pdu (bay_of first)
+  pub accepts : Contains (operates_in (observed_in_pdu t.now heard.association pdu (bay_of first)
       (pdu_in sent.octets))) command
   pub allowed : IsReleasedAt t.now (done_at t.now heard.front h.device).after command
   pub released : IsReleasedBy t.now first.scan_max_age_ms past
@@ -92,7 +92,7 @@ pub record IsOrdered (first : State) (h : ServerData) (t : DoneTurn) (past : Lis
   pub remote : IsAtRemote first past command
 
 -- Each command that one of the turns reports is ordered so.
-abbrev pub AreOrdered : State → ServerData → List Past → List DoneTurn → Type 0
+abbrev pub AreOrdered : State → ServerData → List PastEvent → List DoneTurn → Type 0
 AreOrdered first h past [] = Unit {0}
 AreOrdered first h past (t ∷ ts) =
     ((command : Command) → Contains t.told.commands command → IsOrdered first h t past command)

@@ -1,6 +1,6 @@
 -- Whether a service may go on after its rules and its diagram were judged, and what is printed.
 use Rattle.bay_io.specs.Calls.{WriteCall}
-use Rattle.bay_io.specs.Watched.{Writing}
+use Rattle.bay_io.specs.Watched.{WriterState}
 use Rattle.bay_io.specs.declared.outbox.WriteFault.{WriteFault}
 use Rattle.std.specs.Prelude.{◌≡◌, ℕ, List, Option, None, Some, Result, Ok, Err}
 use Rattle.bay_load.specs.Loads.{LoadData}
@@ -46,7 +46,7 @@ AfterPermit (Ok (Granted count)) ends goes = goes count
 module _ {W : Type 0} (contents : W → Option (List ℕ)) (asks : W → WriteCall → W → Type 0) where
   -- a verdict is printed, and this is the permit
   pub record WritesVerdict {V : Type 0} (IsVerdict : V → Type 0) (held : V → Option ℕ)
-      (ReportOf : V → Option (List ℕ) → List ℕ → ℕ → Type 0) (old new : Writing W)
+      (ReportOf : V → Option (List ℕ) → List ℕ → ℕ → Type 0) (old new : WriterState W)
       (permit : Result Permit WriteFault) : Type 0 where
     pub verdict : V
     pub is : IsVerdict verdict
@@ -55,14 +55,14 @@ module _ {W : Type 0} (contents : W → Option (List ℕ)) (asks : W → WriteCa
     pub permits : permit ≡ permit_of status (held verdict)
 
   -- the verdict on rules is printed, if there are some; without them the permit is granted
-  abbrev pub WritesOnRules : LoadData → Option (List ℕ) → Writing W → Writing W
+  abbrev pub WritesOnRules : LoadData → Option (List ℕ) → WriterState W → WriterState W
       → Result Permit WriteFault → Type 0
   WritesOnRules loaded None old new permit = (new ≡ old) × (permit ≡ Ok (Granted 0))
   WritesOnRules loaded (Some text) old new permit =
       WritesVerdict (IsVerdictOn loaded text) rules_held VerdictReport old new permit
 
   -- the verdict on a diagram is printed, if there is one; without one the permit is granted
-  abbrev pub WritesOnDiagram : LoadData → Option (List ℕ) → Writing W → Writing W
+  abbrev pub WritesOnDiagram : LoadData → Option (List ℕ) → WriterState W → WriterState W
       → Result Permit WriteFault → Type 0
   WritesOnDiagram loaded None old new permit = (new ≡ old) × (permit ≡ Ok (Granted 0))
   WritesOnDiagram loaded (Some text) old new permit =

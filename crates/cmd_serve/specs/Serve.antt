@@ -7,12 +7,12 @@ use Rattle.bay_device.specs.Device.{State}
 use Rattle.bay_device.specs.Load.{IsLoaded, device_of}
 use Rattle.bay_device.specs.Meaning.{Runs}
 use Rattle.bay_device.specs.Outcomes.{associations}
-use Rattle.bay_files.specs.Files.{FileGuards, FileReads, FilesData, ReadsBoth, ReadsNamed, unread_view}
-use Rattle.bay_files.specs.Keys.{ReadsNamedKey, keyless_view}
+use Rattle.bay_files.specs.Files.{ProtectedReads, FileReads, FilesData, ReadsBoth, ReadsIfNamed, unread_view}
+use Rattle.bay_files.specs.Keys.{ReadsKeyIfNamed, key_fault_view}
 use Rattle.bay_files.specs.declared.key.KeyFault.{KeyFault}
 use Rattle.bay_files.specs.declared.key.KeyFault.TheVariants as keyless
 use Rattle.bay_io.specs.Sent.{Logs}
-use Rattle.bay_io.specs.Watched.{Writing}
+use Rattle.bay_io.specs.Watched.{WriterState}
 use Rattle.bay_io.specs.declared.outbox.WriteFault.{WriteFault}
 use Rattle.bay_process_port.specs.Ports.{initial_port}
 use Rattle.bay_process_port.specs.Supervised.{SupervisionSettings}
@@ -100,13 +100,13 @@ UnservedReport (unserved.Unrecorded name kind) = λ logged text status. ⊥
 -- the file of the record can't be created: this is logged, and the command fails as at a failed
 -- write
 abbrev pub Unrecorded : {W : Type 0} → (W → Option (List ℕ)) → (W → WriteCall → W → Type 0)
-    → List ℕ → ErrorKind → Writing W → Writing W → Result ℕ WriteFault → Type 0
+    → List ℕ → ErrorKind → WriterState W → WriterState W → Result ℕ WriteFault → Type 0
 Unrecorded contents asks name kind old new answer =
     Logs contents asks old (unwritten_line name kind) new × (is_err answer ≡ true)
 
 -- how the command ends if no turn is served
 abbrev pub EndsUnserved : {W : Type 0} → (W → Option (List ℕ)) → (W → WriteCall → W → Type 0)
-    → ServeStartFault → Writing W → Writing W → Result ℕ WriteFault → Type 0
+    → ServeStartFault → WriterState W → WriterState W → Result ℕ WriteFault → Type 0
 EndsUnserved contents asks (unserved.Unrecorded name kind) old new answer =
     Unrecorded contents asks name.now kind old new answer
 EndsUnserved contents asks (unserved.Unread unread) old new answer =
@@ -139,12 +139,12 @@ data_of loaded =
 -- The files were read: the bay and the program or the image, then the trace, the key, the rules and
 -- the diagram, if they were named. Their contents were loaded; or one could not be read, or had no
 -- key, or the load was refused.
-abbrev pub LoadsFiles : {F : Type 0} → FileReads F → FileGuards F → F → FileNames
+abbrev pub LoadsFiles : {F : Type 0} → FileReads F → ProtectedReads F → F → FileNames
     → Result LoadedFiles ServeStartFault → Type 0
 LoadsFiles reads guards files named (Ok loaded) =
     ReadsBoth reads files named.bay named.program (Ok (data_of loaded))
-    × ReadsNamed reads files named.trace (Ok loaded.trace.items)
-    × ReadsNamedKey guards files named.key (Ok (option_map (λ key. key.items) loaded.key))
+    × ReadsIfNamed reads files named.trace (Ok loaded.trace.items)
+    × ReadsKeyIfNamed guards files named.key (Ok (option_map (λ key. key.items) loaded.key))
     × ReadsOptional reads files named.rules (Ok loaded.rules)
     × ReadsOptional reads files named.diagram (Ok loaded.diagram)
     × (loaded.form ≡ named.form)
@@ -153,20 +153,20 @@ LoadsFiles reads guards files named (Ok loaded) =
 LoadsFiles reads guards files named (Err (unserved.Unread unread)) =
     ReadsBoth reads files named.bay named.program (Err (unread_view unread))
     ⊎ ((both : FilesData) × ReadsBoth reads files named.bay named.program (Ok both)
-    × (ReadsNamed reads files named.trace (Err (unread_view unread))
-    ⊎ ((trace : List ℕ) × ReadsNamed reads files named.trace (Ok trace)
-    × ((key : Option (List ℕ)) × ReadsNamedKey guards files named.key (Ok key)
+    × (ReadsIfNamed reads files named.trace (Err (unread_view unread))
+    ⊎ ((trace : List ℕ) × ReadsIfNamed reads files named.trace (Ok trace)
+    × ((key : Option (List ℕ)) × ReadsKeyIfNamed guards files named.key (Ok key)
     × (ReadsOptional reads files named.rules (Err (unread_view unread))
     ⊎ ((rules : Option (List ℕ)) × ReadsOptional reads files named.rules (Ok rules)
     × ReadsOptional reads files named.diagram (Err (unread_view unread))))))))
 LoadsFiles reads guards files named (Err (unserved.KeyFileFault none)) =
     (both : FilesData) × ReadsBoth reads files named.bay named.program (Ok both)
-    × ((trace : List ℕ) × ReadsNamed reads files named.trace (Ok trace)
-    × ReadsNamedKey guards files named.key (Err (keyless_view none)))
+    × ((trace : List ℕ) × ReadsIfNamed reads files named.trace (Ok trace)
+    × ReadsKeyIfNamed guards files named.key (Err (key_fault_view none)))
 LoadsFiles reads guards files named (Err (unserved.Refused error)) =
     (both : FilesData) × ReadsBoth reads files named.bay named.program (Ok both)
-    × ((trace : List ℕ) × ReadsNamed reads files named.trace (Ok trace)
-    × ((key : Option (List ℕ)) × ReadsNamedKey guards files named.key (Ok key)
+    × ((trace : List ℕ) × ReadsIfNamed reads files named.trace (Ok trace)
+    × ((key : Option (List ℕ)) × ReadsKeyIfNamed guards files named.key (Ok key)
     × ((rules : Option (List ℕ)) × ReadsOptional reads files named.rules (Ok rules)
     × ((diagram : Option (List ℕ)) × ReadsOptional reads files named.diagram (Ok diagram)
     × MayLoadTo both.bay named.form both.program (Err error)))))
@@ -255,7 +255,7 @@ module _ {L H W : Type 0} (step : L → Call → L → Type 0) (acts : H → Hos
   -- this client, and the last scan of an earlier turn, which released it; and so before each line
   -- that is printed, or sent to the process, and reads as one. If the process is supervised, it is
   -- live in each turn that reports a command.
-  pub record ServesRun (turns : ℕ) (before : Serving L H) (old new : Writing W) (host : H)
+  pub record ServesRun (turns : ℕ) (before : Serving L H) (old new : WriterState W) (host : H)
       (answer : Result ℕ WriteFault) : Type 0 where
     pub serves : ServesTurns step acts contents asks turns before old host new answer
     pub done : List DoneTurn
@@ -268,10 +268,10 @@ module _ {L H W : Type 0} (step : L → Call → L → Type 0) (acts : H → Hos
 
   -- the server's clock is started, the ports, the record's room and the sums of the files are
   -- logged, and turns are served
-  abbrev pub ServesBound : Numbers → ServedFiles → Bound L → List ℕ → H → H → Writing W → Writing W
+  abbrev pub ServesBound : Numbers → ServedFiles → Bound L → List ℕ → H → H → WriterState W → WriterState W
       → Result ℕ WriteFault → Type 0
   ServesBound numbers served bound trace host after old new answer =
-      (clocks : Clocks) × (began : H) × (mid : Writing W)
+      (clocks : Clocks) × (began : H) × (mid : WriterState W)
       × acts host (Tells clocks.system clocks.steady) began
       × LogsAll contents asks old (start_log clocks.system numbers served) mid
       × ServesRun numbers.turns
@@ -288,7 +288,7 @@ module _ {L H W : Type 0} (step : L → Call → L → Type 0) (acts : H → Hos
   -- the ports are opened, and the device is served, with these numbers of rules and releases that
   -- hold; or it is reported why no turn is served
   pub record ServesPorts (numbers : Numbers) (loaded : LoadedFiles) (held : HeldCounts)
-      (before after : H) (old new : Writing W) (answer : Result ℕ WriteFault) : Type 0 where
+      (before after : H) (old new : WriterState W) (answer : Result ℕ WriteFault) : Type 0 where
     pub bound : Result (Bound L) ServeStartFault
     pub host : H
     pub binds : BindsPorts acts numbers
@@ -301,18 +301,18 @@ module _ {L H W : Type 0} (step : L → Call → L → Type 0) (acts : H → Hos
 
   -- A verdict is printed. What follows it is done only if the permit is granted; otherwise nothing
   -- more is done.
-  pub record ServesPermitted (Writes : Writing W → Writing W → Result Permit WriteFault → Type 0)
-      (Goes : ℕ → Writing W → Type 0) (before after : H) (old new : Writing W)
+  pub record ServesPermitted (Writes : WriterState W → WriterState W → Result Permit WriteFault → Type 0)
+      (Goes : ℕ → WriterState W → Type 0) (before after : H) (old new : WriterState W)
       (answer : Result ℕ WriteFault) : Type 0 where
     pub permit : Result Permit WriteFault
-    pub middle : Writing W
+    pub middle : WriterState W
     pub writes : Writes old middle permit
     pub goes_on : AfterPermit permit
         (λ told. (new ≡ middle) × (after ≡ before) × (answer ≡ told))
         (λ count. Goes count middle)
 
   -- the releases are judged by the diagram, if one was named, and then the ports are served
-  abbrev pub ServesDiagram : Numbers → LoadedFiles → ℕ → H → H → Writing W → Writing W
+  abbrev pub ServesDiagram : Numbers → LoadedFiles → ℕ → H → H → WriterState W → WriterState W
       → Result ℕ WriteFault → Type 0
   ServesDiagram numbers loaded rules before after old new answer =
       ServesPermitted (WritesOnDiagram contents asks loaded.load loaded.diagram)
@@ -321,7 +321,7 @@ module _ {L H W : Type 0} (step : L → Call → L → Type 0) (acts : H → Hos
       old new answer
 
   -- the rules are judged, if they were named, and then the diagram
-  abbrev pub ServesRules : Numbers → LoadedFiles → H → H → Writing W → Writing W
+  abbrev pub ServesRules : Numbers → LoadedFiles → H → H → WriterState W → WriterState W
       → Result ℕ WriteFault → Type 0
   ServesRules numbers loaded before after old new answer =
       ServesPermitted (WritesOnRules contents asks loaded.load loaded.rules)
@@ -331,10 +331,10 @@ module _ {L H W : Type 0} (step : L → Call → L → Type 0) (acts : H → Hos
   -- the line of a load is printed, then the rules and the diagram are judged, and the ports are
   -- served
   pub record ServesLoaded (numbers : Numbers) (loaded : LoadedFiles) (before after : H)
-      (old new : Writing W) (answer : Result ℕ WriteFault) : Type 0 where
+      (old new : WriterState W) (answer : Result ℕ WriteFault) : Type 0 where
     pub report : Report
     pub is : IsReportOf loaded.load.image report
-    pub middle : Writing W
+    pub middle : WriterState W
     pub told : Result ℕ WriteFault
     pub printed : Prints contents asks (IsLast (report_text report) 0) old middle told
     pub goes_on : AfterTurn told ((new ≡ middle) × (after ≡ before) × (answer ≡ told))
@@ -342,8 +342,8 @@ module _ {L H W : Type 0} (step : L → Call → L → Type 0) (acts : H → Hos
 
   -- Files are read and loaded, and their contents are served; or it is reported why no turn is
   -- served.
-  pub record ServesFiles {F : Type 0} (reads : FileReads F) (guards : FileGuards F) (files : F)
-      (named : FileNames) (numbers : Numbers) (before after : H) (old new : Writing W)
+  pub record ServesFiles {F : Type 0} (reads : FileReads F) (guards : ProtectedReads F) (files : F)
+      (named : FileNames) (numbers : Numbers) (before after : H) (old new : WriterState W)
       (answer : Result ℕ WriteFault) : Type 0 where
     pub loaded : Result LoadedFiles ServeStartFault
     pub loads : LoadsFiles reads guards files named loaded

@@ -2,10 +2,10 @@
 use Rattle.std.specs.Prelude.{ℕ, ◌≡◌, zero, suc, List, [], ◌∷◌, length, replicate, Option, Result, Ok, Err}
 use mathlib.Core.Logic.{inl, inr}
 use Rattle.bay_device.specs.Device.{State}
-use Rattle.bay_device.specs.Fresh.{Came, Past}
+use Rattle.bay_device.specs.Fresh.{IsHistory, PastEvent}
 use Rattle.bay_device.specs.Outcomes.{associations, outcome}
 use Rattle.bay_io.specs.Calls.{WriteCall}
-use Rattle.bay_io.specs.Watched.{Writing}
+use Rattle.bay_io.specs.Watched.{WriterState}
 use Rattle.bay_io.specs.declared.outbox.WriteFault.{WriteFault}
 use Rattle.cmd_replay.specs.Runs.{IsOneRun}
 use Rattle.bay_server_turn.specs.Calls.{Call}
@@ -22,7 +22,7 @@ use Rattle.bay_server.specs.ServeReport.{AfterTurn, Serving, ServesTurns, TurnGo
 
 -- The device is as it was loaded, and the queues of the eight associations are empty.
 pub record IsBegun (h : ServerData) : Type 0 where
-  pub loaded : Came [] h.device
+  pub loaded : IsHistory [] h.device
   pub empty : h.queues ≡ replicate associations []
 
 -- ---- turns
@@ -68,8 +68,8 @@ later_turns Ends Goes (Ok status) goes more = more goes
 
 module _ {L H W : Type 0} (step : L → Call → L → Type 0) (acts : H → HostCall L → H → Type 0)
     (contents : W → Option (List ℕ)) (asks : W → WriteCall → W → Type 0) where
-  abbrev pub turn_in : (before : Serving L H) (old : Writing W) (after : Serving L H)
-      (new : Writing W) (answer : Result ℕ WriteFault)
+  abbrev pub turn_in : (before : Serving L H) (old : WriterState W) (after : Serving L H)
+      (new : WriterState W) (answer : Result ℕ WriteFault)
       → TurnGoes step acts contents asks before old after new answer → DoneTurn
   turn_in before old after new answer goes = record {
     now = moment_of goes.clocks before;
@@ -79,8 +79,8 @@ module _ {L H W : Type 0} (step : L → Call → L → Type 0) (acts : H → Hos
   }
 
   -- each turn that was done, in their order
-  abbrev pub turns_in : (turns : ℕ) (before : Serving L H) (old : Writing W) (host : H)
-      (new : Writing W) (answer : Result ℕ WriteFault)
+  abbrev pub turns_in : (turns : ℕ) (before : Serving L H) (old : WriterState W) (host : H)
+      (new : WriterState W) (answer : Result ℕ WriteFault)
       → ServesTurns step acts contents asks turns before old host new answer
       → List DoneTurn
   turns_in zero before old host new answer serves = []
@@ -92,7 +92,7 @@ module _ {L H W : Type 0} (step : L → Call → L → Type 0) (acts : H → Hos
 -- ---- the history
 
 -- the history after these events, at this moment
-abbrev pub past_after : ℕ → List ChosenEvent → State → List Past → List Past
+abbrev pub past_after : ℕ → List ChosenEvent → State → List PastEvent → List PastEvent
 past_after now [] s past = past
 past_after now (e ∷ es) s past =
     let o = outcome e.0 now e.1 s in
@@ -100,7 +100,7 @@ past_after now (e ∷ es) s past =
     (record { now = now; event = e.1; answer = o.answer; after = o.after } ∷ past)
 
 -- the history after these turns
-abbrev pub past_of : List DoneTurn → ServerData → List Past → List Past
+abbrev pub past_of : List DoneTurn → ServerData → List PastEvent → List PastEvent
 past_of [] h past = past
 past_of (t ∷ ts) h past =
     past_of ts (server_after t h)

@@ -4,7 +4,7 @@ use Rattle.std.specs.List.{Contains}
 use Rattle.bay_nodes.specs.declared.switch.Switch.{Switch}
 use Rattle.bay_mms_services.specs.declared.answer.Command.{Command}
 use Rattle.bay_device.specs.Device.{State}
-use Rattle.bay_device.specs.Fresh.{Past}
+use Rattle.bay_device.specs.Fresh.{PastEvent}
 use Rattle.bay_process_port.specs.ProcessOutput.{process_turn_text}
 use Rattle.bay_replay_laws.specs.Printed.{PrintedCommand, lines_in, printed_command}
 use Rattle.bay_server_turn.specs.Turns.{ServerData}
@@ -15,7 +15,7 @@ use Rattle.cmd_serve.specs.Service.{DoneTurn, server_after, past_after}
 
 -- A line that reads as a command is that of a command that the turn reported, at the turn's moment,
 -- to the switch with this id; and this command was ordered.
-pub record IsPrintedFor (first : State) (h : ServerData) (t : DoneTurn) (past : List Past)
+pub record IsPrintedFor (first : State) (h : ServerData) (t : DoneTurn) (past : List PastEvent)
     (printed : PrintedCommand) : Type 0 where
   pub command : Command
   pub told : Contains t.told.commands command
@@ -33,7 +33,7 @@ IsTurnLine t s line =
     ⊎ Contains (lines_in (process_turn_text t.now t.told s)) line
 
 -- Each line of the turns that reads as a command is that of such a command.
-abbrev pub ArePrinted : State → ServerData → List Past → List DoneTurn → Type 0
+abbrev pub ArePrinted : State → ServerData → List PastEvent → List DoneTurn → Type 0
 ArePrinted first h past [] = Unit {0}
 ArePrinted first h past (t ∷ ts) =
     ((line : List ℕ) (printed : PrintedCommand)

@@ -1,8 +1,8 @@
 // Laws of a service. Each function does nothing, and its contract is the law.
 ghost use Rattle.std.specs.Prelude.{ℕ, List, [], Result, replicate};
 ghost use Rattle.bay_device.specs.Device.{State};
-ghost use Rattle.bay_device.specs.Fresh.{Came};
-ghost use Rattle.bay_io.specs.Watched.{Writing};
+ghost use Rattle.bay_device.specs.Fresh.{IsHistory};
+ghost use Rattle.bay_io.specs.Watched.{WriterState};
 ghost use Rattle.bay_io.specs.declared.outbox.WriteFault.{WriteFault};
 ghost use Rattle.bay_device.specs.Load.{IsLoaded, LoadsDevice};
 ghost use Rattle.bay_device.specs.Meaning.{Runs};
@@ -31,10 +31,10 @@ use bay_server_turn::link::Link;
 /// the octets of the answer accept, backed by a select if its switch must be selected. Each scan of
 /// a device that runs a program results in what the program means.
 pub fn all_turns_are_one_run<L: Link, H: Host<L>, W: Sink>(_link: &L, _host: &H, _sink: &W)
-    ensures run { (turns : ℕ) (before : Serving L H) (old new : Writing W) (host : H)
+    ensures run { (turns : ℕ) (before : Serving L H) (old new : WriterState W) (host : H)
         (answer : Result ℕ WriteFault)
         (serves : ServesTurns (Called L.does L.failures) H.does W.contents W.does turns before old
-        host new answer) → Came [] before.held.device
+        host new answer) → IsHistory [] before.held.device
         → IsService before.held (turns_in (Called L.does L.failures) H.does W.contents W.does turns
         before old host new answer serves) }
     // A new server of a device that was just loaded meets `IsBegun`.
@@ -61,7 +61,7 @@ pub fn all_turns_are_one_run<L: Link, H: Host<L>, W: Sink>(_link: &L, _host: &H,
 /// events of associations come before the octets. If the switch has a key, the process last
 /// reported before this turn that the key is at remote, and it was not lost since.
 pub fn each_command_is_requested<L: Link, H: Host<L>, W: Sink>(_link: &L, _host: &H, _sink: &W)
-    ensures { (turns : ℕ) (before : Serving L H) (old new : Writing W) (host : H)
+    ensures { (turns : ℕ) (before : Serving L H) (old new : WriterState W) (host : H)
         (answer : Result ℕ WriteFault)
         (serves : ServesTurns (Called L.does L.failures) H.does W.contents W.does turns before old
         host new answer) → IsBegun before.held
@@ -74,7 +74,7 @@ pub fn each_command_is_requested<L: Link, H: Host<L>, W: Sink>(_link: &L, _host:
 /// to the switch with this id. This command has the client's octets, the success sent to the client
 /// and the last scan of the earlier turns that the law above requires.
 pub fn printed_commands_are_requested<L: Link, H: Host<L>, W: Sink>(_link: &L, _host: &H, _sink: &W)
-    ensures lines { (turns : ℕ) (before : Serving L H) (old new : Writing W) (host : H)
+    ensures lines { (turns : ℕ) (before : Serving L H) (old new : WriterState W) (host : H)
         (answer : Result ℕ WriteFault)
         (serves : ServesTurns (Called L.does L.failures) H.does W.contents W.does turns before old
         host new answer) → IsBegun before.held → HaveIds before.held.device.switches
@@ -101,9 +101,9 @@ pub fn no_octets_command_alone()
 /// moment than that of the turn that took it. Since the turn before, the system's clock has gone on
 /// by no more than these milliseconds beyond the steady one.
 pub fn commands_need_a_live_process<L: Link, H: Host<L>, W: Sink>(_link: &L, _host: &H, _sink: &W)
-    ensures { (duties : SupervisionSettings) (turns : ℕ) (before : Serving L H) (old : Writing W)
+    ensures { (duties : SupervisionSettings) (turns : ℕ) (before : Serving L H) (old : WriterState W)
         (host : H)
-        (new : Writing W) (answer : Result ℕ WriteFault)
+        (new : WriterState W) (answer : Result ℕ WriteFault)
         (serves : ServesTurns (Called L.does L.failures) H.does W.contents W.does turns before old
         host new answer) → IsBegun before.held → IsSupervised duties before
         → CommandsLive (Called L.does L.failures) H.does W.contents W.does duties turns before old

@@ -1,7 +1,7 @@
 // The checks of a program: the typed program, or the fault to report.
 ghost use Rattle.std.specs.Prelude.{◌≢◌, IfErr, IfOk, IsErrOf};
 ghost use Rattle.il_text.specs.Views.{plain_program};
-ghost use Rattle.bay_base.specs.Exact.{Gives};
+ghost use Rattle.bay_base.specs.Exact.{ExactOr};
 ghost use Rattle.il_check.specs.Checking.{Allocates, checked_of, faults_of};
 ghost use Rattle.il_check.specs.Faults.{IsLeast};
 ghost use Rattle.il_check.specs.RightProgram.{IsRightProgram};
@@ -41,7 +41,7 @@ use std::alloc::Global;
 pub fn check(alloc: Global, program: &Program<'_>, points: &[Point]) -> Result<Typed, CheckFault>
     // The checked program, or the fault of the first faulty line with the lowest number, unless an
     // allocation fails.
-    ensures checked { Gives OutOfMemory checked_view result
+    ensures checked { ExactOr OutOfMemory checked_view result
         (checked_of points.now (plain_program program.now)) }
     // It passes exactly if its declarations are valid and some labelling makes every instruction
     // valid.
@@ -60,7 +60,7 @@ pub fn check(alloc: Global, program: &Program<'_>, points: &[Point]) -> Result<T
 
 // Returns the typed program, or the fault to report; `check` states what holds of each.
 fn check_program(alloc: Global, program: &Program<'_>, points: &[Point]) -> Result<Typed, CheckFault>
-    ensures checked { Gives OutOfMemory checked_view result
+    ensures checked { ExactOr OutOfMemory checked_view result
         (checked_of points.now (plain_program program.now)) }
     ensures memory { IsErrOf result OutOfMemory → Allocates (plain_program program.now) }
 {

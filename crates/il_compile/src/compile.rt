@@ -1,6 +1,6 @@
 // Compiles a checked program to an image.
 ghost use Rattle.std.specs.Prelude.{◌≡◌, ◌+◌, ◌*◌, ◌≤◌, ◌++◌, [], ◌∷◌, Ok, length, map, min, reverse, IfOk, OnOk};
-ghost use Rattle.bay_base.specs.Exact.{Gives};
+ghost use Rattle.bay_base.specs.Exact.{ExactOr};
 ghost use Rattle.il_image.specs.Images.{Each, all_spelled};
 ghost use Rattle.il_image.specs.Tables.{HasTable};
 ghost use Rattle.il_image.specs.Machine.{most_slots};
@@ -115,7 +115,7 @@ fn head_size(program: &Typed) -> usize
 
 // Returns the image of a program, or `CodeTooLong` if it would have more than 65,535 octets.
 fn compile_image(alloc: Global, program: &Typed) -> Result<Image, CompileFault>
-    ensures image { Gives OutOfMemory (λ image. image) result
+    ensures image { ExactOr OutOfMemory (λ image. image) result
         (compiled_of (checked_view program.now)) }
     ensures typed { IsTyped (checked_view program.now) }
 {
@@ -148,7 +148,7 @@ fn compile_image(alloc: Global, program: &Typed) -> Result<Image, CompileFault>
 /// out of memory is returned only after a failed allocation.
 pub fn compile(alloc: Global, program: &Typed) -> Result<Image, CompileFault>
     // The image of the program, or that it is too long, unless an allocation fails.
-    ensures image { Gives OutOfMemory (λ image. image) result
+    ensures image { ExactOr OutOfMemory (λ image. image) result
         (compiled_of (checked_view program.now)) }
     // From all values of the program's types, at each moment, the machine runs the code without a
     // trap to HALT, in no more steps than the code has octets, and leaves in slots and timers what

@@ -1,8 +1,8 @@
 // Decodes images, from the left up to the first fault.
 ghost use Rattle.std.specs.Prelude.{◌≡◌, ◌≤◌, ◌^◌, ◌<◌, length, IsErrOf, IsTrue, MatchResult, None, Some};
 ghost use Rattle.std.specs.List.{list_all};
-ghost use Rattle.bay_base.specs.Exact.{Gives};
-ghost use Rattle.bay_base.specs.Results.{IsRead};
+ghost use Rattle.bay_base.specs.Exact.{ExactOr};
+ghost use Rattle.bay_base.specs.Results.{Exact};
 ghost use Rattle.il_image.specs.Decoding.{Allocates, access_of, octets_after_prefix, code_fault, counted_at, decoded_image, kind_of_octet};
 ghost use Rattle.il_image.specs.Decoding as spec;
 ghost use Rattle.il_image.specs.Images.{mark};
@@ -21,7 +21,7 @@ use std::alloc::Global;
 
 // Returns the octets after the mark.
 fn octets_after_mark(octets: &[u8]) -> Result<&[u8], ImageFault>
-    ensures { IsRead (λ r. r.now) result (octets_after_prefix mark octets.now) }
+    ensures { Exact (λ r. r.now) result (octets_after_prefix mark octets.now) }
 {
     match octets {
         [0x49, 0x4C, 0x42, 0x43, rest @ ..] => Ok(rest),
@@ -32,7 +32,7 @@ fn octets_after_mark(octets: &[u8]) -> Result<&[u8], ImageFault>
 
 // Reads the version of the format.
 fn version_at(octets: &[u8]) -> Result<(Version, &[u8]), ImageFault>
-    ensures { IsRead (λ r. (r.0, r.1.now)) result (spec.version_at octets.now) }
+    ensures { Exact (λ r. (r.0, r.1.now)) result (spec.version_at octets.now) }
 {
     match octets {
         [0x01, rest @ ..] => Ok((Version::One, rest)),
@@ -58,7 +58,7 @@ fn type_of_octet(version: Version, octet: u8) -> Option<ElementaryType>
 
 // Reads a type.
 fn type_at(version: Version, octets: &[u8]) -> Result<(ElementaryType, &[u8]), ImageFault>
-    ensures { IsRead (λ r. (r.0, r.1.now)) result (spec.type_at version octets.now) }
+    ensures { Exact (λ r. (r.0, r.1.now)) result (spec.type_at version octets.now) }
 {
     let (octet, rest) = octet_at(octets)?;
     match type_of_octet(version, octet) {
@@ -69,7 +69,7 @@ fn type_at(version: Version, octets: &[u8]) -> Result<(ElementaryType, &[u8]), I
 
 // Reads whether code may write a point.
 fn access_at(octets: &[u8]) -> Result<(bool, &[u8]), ImageFault>
-    ensures { IsRead (λ r. (r.0, r.1.now)) result (spec.access_at octets.now) }
+    ensures { Exact (λ r. (r.0, r.1.now)) result (spec.access_at octets.now) }
 {
     let (octet, rest) = octet_at(octets)?;
     match octet {
@@ -106,7 +106,7 @@ fn text_of(octets: &[u8]) -> &str
 
 // Reads a name of this length.
 fn name_of_length(count: usize, octets: &[u8]) -> Result<(&str, &[u8]), ImageFault>
-    ensures { IsRead (λ r. (r.0.now, r.1.now)) result (spec.name_of_length count octets.now) }
+    ensures { Exact (λ r. (r.0.now, r.1.now)) result (spec.name_of_length count octets.now) }
 {
     if octets.len() < count {
         if is_name(octets) {
@@ -123,7 +123,7 @@ fn name_of_length(count: usize, octets: &[u8]) -> Result<(&str, &[u8]), ImageFau
 
 // Reads a name after the octet of its length, which is 1 to 64.
 fn name_at(octets: &[u8]) -> Result<(&str, &[u8]), ImageFault>
-    ensures { IsRead (λ r. (r.0.now, r.1.now)) result (spec.name_at octets.now) }
+    ensures { Exact (λ r. (r.0.now, r.1.now)) result (spec.name_at octets.now) }
 {
     let (count, rest) = octet_at(octets)?;
     if count == 0 || count > 64 {
@@ -139,7 +139,7 @@ fn point_at(
     version: Version,
     octets: &[u8],
 ) -> Result<(ImagePoint, &[u8]), ImageFault>
-    ensures { Gives ImageFault.OutOfMemory (λ r. (r.0, r.1.now)) result
+    ensures { ExactOr ImageFault.OutOfMemory (λ r. (r.0, r.1.now)) result
         (spec.point_at version octets.now) }
 {
     let (elementary, rest) = type_at(version, octets)?;
@@ -176,7 +176,7 @@ trait ListItem: Sized {
 
     // Reads the item at the start of the octets. Returns the item and the octets after it.
     fn read(version: Version, octets: &[u8]) -> Result<(Self, &[u8]), ImageFault>
-        ensures { IsRead (λ r. (r.0, r.1.now)) result (at version octets.now) };
+        ensures { Exact (λ r. (r.0, r.1.now)) result (at version octets.now) };
 }
 
 // A variable: its type and its initial value.
@@ -214,7 +214,7 @@ fn points_at(
     version: Version,
     octets: &[u8],
 ) -> Result<(Listing<ImagePoint>, &[u8]), ImageFault>
-    ensures read { Gives ImageFault.OutOfMemory (λ r. (r.0, r.1.now)) result
+    ensures read { ExactOr ImageFault.OutOfMemory (λ r. (r.0, r.1.now)) result
         (counted_at (spec.point_at version) octets.now) }
     ensures memory { IsErrOf result ImageFault.OutOfMemory → 2 ≤ length octets.now }
 {
@@ -234,7 +234,7 @@ fn items_at<T: ListItem + Drop>(
     version: Version,
     octets: &[u8],
 ) -> Result<(Listing<T>, &[u8]), ImageFault>
-    ensures { Gives ImageFault.OutOfMemory (λ r. (r.0, r.1.now)) result
+    ensures { ExactOr ImageFault.OutOfMemory (λ r. (r.0, r.1.now)) result
         (counted_at (T.at version) octets.now) }
 {
     let (count, mut rest) = number_at(octets)?;
@@ -263,7 +263,7 @@ fn check_code(version: Version, code: &[u8]) -> Result<(), ImageFault>
 // Reads the octets of the code after their count. No octets may follow them.
 #[tactic(auto, unfolding(crate::specs::Decoding::code_at))]
 fn code_at(alloc: Global, version: Version, octets: &[u8]) -> Result<Listing<u8>, ImageFault>
-    ensures { Gives ImageFault.OutOfMemory (λ c. c) result (spec.code_at version octets.now) }
+    ensures { ExactOr ImageFault.OutOfMemory (λ c. c) result (spec.code_at version octets.now) }
 {
     let (count, code) = number_at(octets)?;
     let count = usize::from(count);
@@ -282,7 +282,7 @@ fn code_at(alloc: Global, version: Version, octets: &[u8]) -> Result<Listing<u8>
 /// 65,535.
 #[tactic(auto, unfolding(crate::specs::Decoding::decoded_image))]
 pub fn decode(alloc: Global, octets: &[u8]) -> Result<Image, ImageFault>
-    ensures image { Gives ImageFault.OutOfMemory (λ i. i) result (decoded_image octets.now) }
+    ensures image { ExactOr ImageFault.OutOfMemory (λ i. i) result (decoded_image octets.now) }
     ensures memory { IsErrOf result ImageFault.OutOfMemory → Allocates octets.now }
 {
     let rest = octets_after_mark(octets)?;

@@ -1,7 +1,7 @@
 // Readers of one item at the start of octets. Each returns the item and the octets after it, or the
 // first fault from the left, and does not allocate. An offset counts octets of the code from 0.
 ghost use Rattle.std.specs.Prelude.{◌≡◌, ◌+◌, ◌<◌, ◌≤◌, IfOk, IfSome, length};
-ghost use Rattle.bay_base.specs.Results.{IsRead};
+ghost use Rattle.bay_base.specs.Results.{Exact};
 ghost use Rattle.il_image.specs.Reading.{with_next_offset};
 ghost use Rattle.il_image.specs.Reading as spec;
 
@@ -15,7 +15,7 @@ use bay_base::types::ElementaryType;
 
 /// Reads one octet.
 pub(crate) fn octet_at(octets: &[u8]) -> Result<(u8, &[u8]), ImageFault>
-    ensures { IsRead (λ r. (r.0, r.1.now)) result (spec.octet_at octets.now) }
+    ensures { Exact (λ r. (r.0, r.1.now)) result (spec.octet_at octets.now) }
 {
     match octets {
         [octet, rest @ ..] => Ok((*octet, rest)),
@@ -25,7 +25,7 @@ pub(crate) fn octet_at(octets: &[u8]) -> Result<(u8, &[u8]), ImageFault>
 
 /// Reads a number of two octets.
 pub(crate) fn number_at(octets: &[u8]) -> Result<(u16, &[u8]), ImageFault>
-    ensures { IsRead (λ r. (r.0, r.1.now)) result (spec.number_at octets.now) }
+    ensures { Exact (λ r. (r.0, r.1.now)) result (spec.number_at octets.now) }
 {
     match octets {
         [high, low, rest @ ..] => Ok((u16::from_be_bytes([*high, *low]), rest)),
@@ -35,7 +35,7 @@ pub(crate) fn number_at(octets: &[u8]) -> Result<(u16, &[u8]), ImageFault>
 
 // Reads a number in two's complement.
 fn signed_at(size: Size, octets: &[u8]) -> Result<(i64, &[u8]), ImageFault>
-    ensures { IsRead (λ r. (r.0, r.1.now)) result (spec.signed_at size octets.now) }
+    ensures { Exact (λ r. (r.0, r.1.now)) result (spec.signed_at size octets.now) }
 {
     match (size, octets) {
         (Size::One, [a, rest @ ..]) => Ok((i64::from(i8::from_be_bytes([*a])), rest)),
@@ -56,7 +56,7 @@ pub(crate) fn value_at(
     elementary: ElementaryType,
     octets: &[u8],
 ) -> Result<(Value, &[u8]), ImageFault>
-    ensures { IsRead (λ r. (r.0, r.1.now)) result (spec.value_at size elementary octets.now) }
+    ensures { Exact (λ r. (r.0, r.1.now)) result (spec.value_at size elementary octets.now) }
 {
     let (number, rest) = signed_at(size, octets)?;
     match Value::of(elementary, number) {
@@ -67,7 +67,7 @@ pub(crate) fn value_at(
 
 // Reads a width of the version.
 fn width_at(version: Version, octets: &[u8]) -> Result<(Width, &[u8]), ImageFault>
-    ensures { IsRead (λ r. (r.0, r.1.now)) result (spec.width_at version octets.now) }
+    ensures { Exact (λ r. (r.0, r.1.now)) result (spec.width_at version octets.now) }
 {
     let (octet, rest) = octet_at(octets)?;
     match width_of(version, octet) {
@@ -82,7 +82,7 @@ fn operand_from(
     opcode: Opcode,
     octets: &[u8],
 ) -> Result<(Instr, &[u8]), ImageFault>
-    ensures { IsRead (λ r. (r.0, r.1.now)) result (spec.operand_from version opcode octets.now) }
+    ensures { Exact (λ r. (r.0, r.1.now)) result (spec.operand_from version opcode octets.now) }
 {
     match opcode {
         Opcode::Halt => Ok((Instr::Halt, octets)),
@@ -117,7 +117,7 @@ fn operand_from(
 /// Reads an instruction of the version.
 #[tactic(auto, unfolding(crate::specs::Reading::instr_from))]
 pub(crate) fn instr_from(version: Version, octets: &[u8]) -> Result<(Instr, &[u8]), ImageFault>
-    ensures { IsRead (λ r. (r.0, r.1.now)) result (spec.instr_from version octets.now) }
+    ensures { Exact (λ r. (r.0, r.1.now)) result (spec.instr_from version octets.now) }
 {
     let (octet, rest) = octet_at(octets)?;
     match Opcode::of(octet) {

@@ -1,9 +1,9 @@
 use Rattle.std.proofs.Common.{◌≡◌, drop}
-use Rattle.bay_ber.specs.EncoderBuffers.{sheet_with}
+use Rattle.bay_ber.specs.EncoderBuffers.{buffer_with}
 use Rattle.bay_assoc.specs.Texts.{results_text}
 use Rattle.bay_assoc.proofs.text.put_each.Given as goal
 
 abbrev pub invariant-loop-context : goal.invariant-loop-context
 invariant-loop-context l =
-    sheet_with l.writer (results_text l.accepted (drop l.context-index l.contexts))
-    ≡ sheet_with l.fn.writer (results_text l.accepted l.contexts)
+    buffer_with l.writer (results_text l.accepted (drop l.context-index l.contexts))
+    ≡ buffer_with l.fn.writer (results_text l.accepted l.contexts)

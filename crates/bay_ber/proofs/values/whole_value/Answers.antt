@@ -1,6 +1,6 @@
 use Rattle.std.proofs.Common.{sym, ap}
-use Rattle.bay_ber.specs.Reading.{Reading}
-use Rattle.bay_ber.specs.Values.{part_in}
+use Rattle.bay_ber.specs.Reading.{TlvData}
+use Rattle.bay_ber.specs.Values.{part_of_tlv}
 use Rattle.bay_ber.proofs.ValueLemmas.{whole-begins, begins-whole, not-empty}
 use Rattle.bay_ber.proofs.ListingLemmas.{one-is, one-more, one-stop, is-nothing}
 use Rattle.bay_ber.proofs.values.whole_value.Goals as goal
@@ -12,13 +12,13 @@ returns-then-is_empty-clause-some c =
 
 pub returns-then-is_empty-clause-only : goal.returns-then-is_empty-clause-only
 returns-then-is_empty-clause-only c =
-    λ tag content s. ap part_in
+    λ tag content s. ap part_of_tlv
     (c.in-Ok.ensures.only _ (whole-begins c.args.octets.now tag content s))
 
 pub returns-else-is_empty-clause-only : goal.returns-else-is_empty-clause-only
 returns-else-is_empty-clause-only c =
     λ tag content s. not-empty c.in-Ok.tlv.rest.now c.if-is_empty.ensures
-    (ap (λ (r : Reading). r.rest)
+    (ap (λ (r : TlvData). r.rest)
     (c.in-Ok.ensures.only _ (whole-begins c.args.octets.now tag content s)))
 
 pub returns-in-Err-clause-only : goal.returns-in-Err-clause-only

@@ -4,4 +4,4 @@ use Rattle.bay_config.proofs.nodes.interlocking_name.Goals as goal
 
 pub returns : goal.returns
 returns c =
-    names-interlocking c.args.bay.now c.args.place c.in_ok-name.name c.requires (search rules)
+    names-interlocking c.args.bay.now c.args.index c.in_ok-name.name c.requires (search rules)

@@ -18,7 +18,7 @@ pub loop-pdu-preserved : goal.loop-pdu-preserved
 loop-pdu-preserved c =
     let at = c.loop-pdu in
     let a = c.args.association in
-    let terms : Terms = terms_of c.args.connection.now.talk in
+    let terms : Terms = terms_of c.args.connection.now.state in
     let pdu : List ℕ = c.in-Some.pdu in
     let rest = into_iter_items c.next.new.self in
     let steps : into_iter_items at.pdu-iterator ≡ pdu ∷ rest = c.in-Some.ensures.steps.0 in
@@ -40,7 +40,7 @@ pub returns-clause-ok : goal.returns-clause-ok
 returns-clause-ok c =
     let at = c.loop-pdu in
     let a = c.args.association in
-    let terms : Terms = terms_of c.args.connection.now.talk in
+    let terms : Terms = terms_of c.args.connection.now.state in
     let frame : List ℕ → Sent = λ p. sent_on a (octets_to_send terms p) in
     let empty : into_iter_items at.pdu-iterator ≡ [] =
     nil_from_length _ (sym at.invariant.counted ∙ c.in-None.ensures.steps.0) in

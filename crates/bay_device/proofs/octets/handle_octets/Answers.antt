@@ -4,7 +4,7 @@ use Rattle.std.proofs.Math.Seq.{take-length}
 use Rattle.std.proofs.lemmas.Grind.{common_steps}
 use Rattle.std.proofs.lemmas.Result.{err_from_is_err_and}
 use Rattle.bay_connection.specs.ConnectionStates.{connection_after}
-use Rattle.bay_device.specs.ReceivingViews.{done_of}
+use Rattle.bay_device.specs.ReceivingViews.{step_state}
 use Rattle.bay_device.specs.StateView.{state_view}
 use Rattle.bay_device.proofs.TurnLemmas.{ends-all, left-on, moves-none, moves-on, stops-then}
 use Rattle.bay_device.proofs.octets.handle_octets.Goals as goal
@@ -22,8 +22,8 @@ loop-at-init c = record {
   going = c.requires.going;
   first = λ none. refl;
   later = λ some. absurd (omega (arith, some));
-  moves = λ connections. moves-none c.args.now c.args.association c.args.connection.now.talk
-      c.args.octets.now (done_of (state_view connections c.args.state.now) c.args.made.now);
+  moves = λ connections. moves-none c.args.now c.args.association c.args.connection.now.state
+      c.args.octets.now (step_state (state_view connections c.args.state.now) c.args.effects.now);
 }
 
 pub loop-at-preserved : goal.loop-at-preserved
@@ -38,9 +38,9 @@ loop-at-preserved c =
       within = omega (arith, stood.within, length-drop at octets);
       going = did.going;
       first = λ none. absurd (omega (arith, did.moves, none));
-      later = λ some. left-on c.args.connection.now.talk c.loop-at.connection.talk
-          c.feed_once.new.connection.talk octets at used stood.first stood.later
-          (did.left ∙ ap (λ rest. connection_after c.loop-at.connection.talk (take used rest))
+      later = λ some. left-on c.args.connection.now.state c.loop-at.connection.state
+          c.feed_once.new.connection.state octets at used stood.first stood.later
+          (did.left ∙ ap (λ rest. connection_after c.loop-at.connection.state (take used rest))
           (rest-of octets at));
       moves = λ connections. rw (← drop-drop octets at used)
           (moves-on _ _ _ _ _ _ _ _ _ _ _ (stood.moves connections)
@@ -62,15 +62,15 @@ returns-clause-left c =
     let whole : take c.loop-at.at octets ≡ octets =
     ap (λ n. take n octets) all ∙ take-length octets in
     stood.later (omega (arith, all, c.requires.some))
-    ∙ ap (connection_after c.args.connection.now.talk) whole
+    ∙ ap (connection_after c.args.connection.now.state) whole
 
 pub returns-clause-ok : goal.returns-clause-ok
 returns-clause-ok c connections =
     let octets = c.args.octets.now in
     let past : length octets ≤ c.loop-at.at = omega (arith, c.loop-at-test.false) in
     let none : drop c.loop-at.at octets ≡ [] = drop_of_length-le octets past in
-    ends-all c.args.now c.args.association c.args.connection.now.talk octets
-    (done_of (state_view connections c.args.state.now) c.args.made.now)
-    c.loop-at.connection.talk
-    (done_of (state_view connections c.loop-at.state) c.loop-at.made) (returns-clause-left c)
+    ends-all c.args.now c.args.association c.args.connection.now.state octets
+    (step_state (state_view connections c.args.state.now) c.args.effects.now)
+    c.loop-at.connection.state
+    (step_state (state_view connections c.loop-at.state) c.loop-at.effects) (returns-clause-left c)
     (rw none at (c.loop-at.invariant.moves connections))

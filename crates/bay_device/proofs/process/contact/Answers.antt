@@ -9,8 +9,8 @@ use Rattle.bay_device.proofs.ApartLemmas.{shows-contact}
 use Rattle.bay_device.proofs.ProcessLemmas.{named-there}
 use Rattle.bay_device.proofs.process.contact.Goals as goal
 
-pub take_position-requires : goal.take_position-requires
-take_position-requires c =
+pub apply_position-requires : goal.apply_position-requires
+apply_position-requires c =
     let d = c.args.bay.now in
     let bound = get_or c.as_slice.result.now c.args.switch c.index-as_slice-switch.result in
     (d.placed c.args.switch bound
@@ -22,8 +22,8 @@ invariant_of-bay c =
     let k = c.args.switch in
     let bound = get_or c.as_slice.result.now c.args.switch c.index-as_slice-switch.result in
     let here = there d.switches _ k _ c.as_slice.ensures c.requires in
-    let did = c.take_position.ensures in
-    let written : c.take_position.new.tree
+    let did = c.apply_position.ensures in
+    let written : c.apply_position.new.tree
     ≡ rows_after_contact (switch_names (switches_of d.switches) k bound.switch) c.args.position
     c.args.now d.tree =
     did.rows ∙ ap (λ (n : SwitchNames). rows_after_contact n c.args.position c.args.now d.tree)
@@ -43,7 +43,7 @@ returns-clause-changed c s is =
     let d = c.args.bay.now in
     let bound = get_or c.as_slice.result.now c.args.switch c.index-as_slice-switch.result in
     let here = there d.switches _ c.args.switch _ c.as_slice.ensures c.requires in
-    c.take_position.ensures.changed
+    c.apply_position.ensures.changed
     ∙ ap (λ (n : SwitchNames). not (has_position n.position c.args.position d.tree))
     (named-there (layout_of d.tree) d.switches c.args.switch bound s d.placed here is)
 
@@ -53,6 +53,6 @@ returns-clause-after c s is =
     let bound = get_or c.as_slice.result.now c.args.switch c.index-as_slice-switch.result in
     let here = there d.switches _ c.args.switch _ c.as_slice.ensures c.requires in
     ap (λ rows. record (bay_view d) { rows = rows })
-    (c.take_position.ensures.rows
+    (c.apply_position.ensures.rows
     ∙ ap (λ (n : SwitchNames). rows_after_contact n c.args.position c.args.now d.tree)
     (named-there (layout_of d.tree) d.switches c.args.switch bound s d.placed here is))

@@ -1,7 +1,7 @@
 use Rattle.std.proofs.Common.{◌≡◌, ap, sym, ◌∙◌, length, not}
 use Rattle.std.proofs.lemmas.Int.{to_z-of_z}
 use Rattle.bay_nodes.specs.Names.{StatusNames, meter_names}
-use Rattle.bay_process.specs.Layout.{layout_of, status_in, switches_of}
+use Rattle.bay_process.specs.Layout.{layout_of, status_names_in, switches_of}
 use Rattle.bay_process.specs.Names.{field_names}
 use Rattle.bay_process.specs.Values.{rows_after_measure, has_measure}
 use Rattle.bay_process.proofs.FieldLemmas.{field-leaf_typed, field-named}
@@ -10,8 +10,8 @@ use Rattle.bay_mms_services.proofs.PlaceLemmas.{names-kept, rows-kept}
 use Rattle.bay_device.proofs.ApartLemmas.{shows-measure}
 use Rattle.bay_device.proofs.process.measure.Goals as goal
 
-pub take_measure-requires : goal.take_measure-requires
-take_measure-requires c =
+pub apply_measure-requires : goal.apply_measure-requires
+apply_measure-requires c =
     rw c.field.ensures (field-leaf_typed (layout_of c.args.bay.now.tree) c.args.rows c.args.field
     c.requires.leaf_typed)
 
@@ -20,12 +20,12 @@ invariant_of-bay c =
     let d = c.args.bay.now in
     let f = c.args.field in
     let named =
-    ap (status_in (layout_of d.tree)) c.field.ensures
+    ap (status_names_in (layout_of d.tree)) c.field.ensures
     ∙ field-named (layout_of d.tree) c.args.rows f ∙ ap (field_names f) c.requires.named in
-    let did = c.take_measure.ensures in
+    let did = c.apply_measure.ensures in
     let fits = c.ranges.value in
     let rows = simp to_z-of_z at did.rows in
-    let written : c.take_measure.new.tree
+    let written : c.apply_measure.new.tree
     ≡ rows_after_measure (field_names f (meter_names c.args._meter)) c.args.value c.args.now
     d.tree =
     rows ∙ ap (λ (n : StatusNames). rows_after_measure n c.args.value c.args.now d.tree) named in
@@ -44,10 +44,10 @@ returns-clause-changed c =
     let d = c.args.bay.now in
     let f = c.args.field in
     let named =
-    ap (status_in (layout_of d.tree)) c.field.ensures
+    ap (status_names_in (layout_of d.tree)) c.field.ensures
     ∙ field-named (layout_of d.tree) c.args.rows f ∙ ap (field_names f) c.requires.named in
     let fits = c.ranges.value in
-    let changed = simp to_z-of_z at c.take_measure.ensures.changed in
+    let changed = simp to_z-of_z at c.apply_measure.ensures.changed in
     changed ∙ ap (λ (n : StatusNames). not (has_measure n c.args.value d.tree)) named
 
 pub returns-clause-after : goal.returns-clause-after
@@ -55,9 +55,9 @@ returns-clause-after c =
     let d = c.args.bay.now in
     let f = c.args.field in
     let named =
-    ap (status_in (layout_of d.tree)) c.field.ensures
+    ap (status_names_in (layout_of d.tree)) c.field.ensures
     ∙ field-named (layout_of d.tree) c.args.rows f ∙ ap (field_names f) c.requires.named in
     let fits = c.ranges.value in
-    let rows = simp to_z-of_z at c.take_measure.ensures.rows in
+    let rows = simp to_z-of_z at c.apply_measure.ensures.rows in
     ap (λ rs. record (bay_view d) { rows = rs })
     (rows ∙ ap (λ (n : StatusNames). rows_after_measure n c.args.value c.args.now d.tree) named)

@@ -1,6 +1,6 @@
 use Rattle.std.proofs.Common.{◌≡◌, sym, length}
 use Rattle.bay_process.specs.Layout.{layout_of, switches_of}
-use Rattle.bay_process.specs.Scans.{outputs_put}
+use Rattle.bay_process.specs.Scans.{rows_after_outputs}
 use Rattle.bay_mms_services.proofs.PlaceLemmas.{names-kept, rows-kept}
 use Rattle.bay_device.proofs.ApartLemmas.{shows-scan}
 use Rattle.bay_device.proofs.process.write_scan.Goals as goal
@@ -13,7 +13,7 @@ invariant_of-bay c =
     let d = c.args.bay.now in
     let did = c.write_outputs.ensures in
     let written : c.write_outputs.new.tree
-    ≡ outputs_put (layout_of d.tree) d.switches c.args.outputs.now c.args.now d.tree =
+    ≡ rows_after_outputs (layout_of d.tree) d.switches c.args.outputs.now c.args.now d.tree =
     rw c.as_slice.ensures at did.rows in
     record {
       listed = names-kept _ d.tree d.names (sym did.layout) d.listed;

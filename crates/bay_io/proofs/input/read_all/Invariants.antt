@@ -6,7 +6,7 @@ abbrev pub invariant-loop-turn : goal.invariant-loop-turn
 invariant-loop-turn g l = record {
   within : l.count ≤ l.limit;
   at_least : l.turn ≤ l.count;
-  asked : HasAsked g.R.OctetSource.does l.initial.reader.inner l.initial.reader.has_failed
+  calls_made : HasAsked g.R.OctetSource.does l.initial.reader.inner l.initial.reader.has_failed
       l.reader.inner l.reader.has_failed (g.R.OctetSource.remaining l.initial.reader.inner)
       (g.R.OctetSource.remaining l.reader.inner) l.turn l.count (is_ok l.kept) l.all.items;
   quiet : l.reader.has_failed ≡ false;

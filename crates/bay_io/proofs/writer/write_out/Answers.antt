@@ -26,8 +26,8 @@ loop-done-preserved g c =
           c.in-Ok.n-test.1;
       sent =
           subst (Appends _ _) joined (Appends-trans _ _ _ _ _ before.sent c.in-Ok.ensures.bytes);
-      asked =
-          Asked-then _ _ _ _ _ _ before.asked
+      calls_made =
+          Asked-then _ _ _ _ _ _ before.calls_made
           (Asked-one _ _ _ _ _ (c.write.ensures.call, refl)
           (c.write.ensures.failed
           ∙ ap (λ b. c.loop-done.sink.has_failed || b) (write-failed _ c.write.result)));
@@ -54,19 +54,19 @@ returns-in-Err-clause-err g c =
 pub returns-then-has_failed-clause-err : goal.returns-then-has_failed-clause-err
 returns-then-has_failed-clause-err g c = SendsPart-none _ _
 
-pub returns-in-Ok-eq0-clause-asked : goal.returns-in-Ok-eq0-clause-asked
-returns-in-Ok-eq0-clause-asked g c =
-    Asked-then _ _ _ _ _ _ c.loop-done.invariant.asked
+pub returns-in-Ok-eq0-clause-calls_made : goal.returns-in-Ok-eq0-clause-calls_made
+returns-in-Ok-eq0-clause-calls_made g c =
+    Asked-then _ _ _ _ _ _ c.loop-done.invariant.calls_made
     (Asked-one _ _ _ _ _ (c.write.ensures.call, refl)
     (c.write.ensures.failed
     ∙ ap (λ b. c.loop-done.sink.has_failed || b) (write-failed _ c.write.result)))
 
-pub returns-in-Err-clause-asked : goal.returns-in-Err-clause-asked
-returns-in-Err-clause-asked g c =
-    Asked-then _ _ _ _ _ _ c.loop-done.invariant.asked
+pub returns-in-Err-clause-calls_made : goal.returns-in-Err-clause-calls_made
+returns-in-Err-clause-calls_made g c =
+    Asked-then _ _ _ _ _ _ c.loop-done.invariant.calls_made
     (Asked-one _ _ _ _ _ (c.write.ensures.call, refl)
     (c.write.ensures.failed
     ∙ ap (λ b. c.loop-done.sink.has_failed || b) (write-failed _ c.write.result)))
 
-pub returns-then-has_failed-clause-asked : goal.returns-then-has_failed-clause-asked
-returns-then-has_failed-clause-asked g c = Asked-none _ _
+pub returns-then-has_failed-clause-calls_made : goal.returns-then-has_failed-clause-calls_made
+returns-then-has_failed-clause-calls_made g c = Asked-none _ _

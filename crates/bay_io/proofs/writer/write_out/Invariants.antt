@@ -1,6 +1,6 @@
 use Rattle.std.proofs.Common.{◌≡◌, ◌-◌, ◌≤◌, false, length, take}
 use Rattle.std.specs.Io.KnownBytes.{Appends}
-use Rattle.bay_io.specs.Calls.{CallsMade, Unlogged, write_failed}
+use Rattle.bay_io.specs.Calls.{SomeCalls, Unlogged, write_failed}
 use Rattle.bay_io.proofs.writer.write_out.Given as goal
 
 abbrev pub invariant-loop-done : goal.invariant-loop-done
@@ -9,7 +9,7 @@ invariant-loop-done g l = record {
   sent : Appends (g.W.Sink.contents l.initial.sink.inner) (g.W.Sink.contents l.sink.inner)
       (take l.done l.text);
   unfailed : l.sink.has_failed ≡ false;
-  asked : CallsMade (Unlogged g.W.Sink.does) write_failed l.initial.sink.inner
+  calls_made : SomeCalls (Unlogged g.W.Sink.does) write_failed l.initial.sink.inner
       l.initial.sink.has_failed
       l.sink.inner l.sink.has_failed;
   logs : l.sink.logs ≡ l.initial.sink.logs;

@@ -8,9 +8,9 @@ use Rattle.bay_mms.specs.Views.{datum_of, data_in}
 use Rattle.bay_mms.proofs.RequestLemmas.{gives-stop, some-value, gives-option, spelled-ok, too_deep, structure-ok, structure-err, simple-is, view-structure}
 use Rattle.bay_mms.proofs.data_parser.+received.Goals as goal
 
-pub read_data-returns-in_err-part-in-Ok-Some-clause-asked :
-    goal.read_data-returns-in_err-part-in-Ok-Some-clause-asked
-read_data-returns-in_err-part-in-Ok-Some-clause-asked t c =
+pub read_data-returns-in_err-part-in-Ok-Some-clause-requested :
+    goal.read_data-returns-in_err-part-in-Ok-Some-clause-requested
+read_data-returns-in_err-part-in-Ok-Some-clause-requested t c =
     let p = err_from_is_err_and c.from_residual.result c.from_residual.ensures.1 in
     let step = rw c.in-Ok-Some.field-0-is at c.in-Ok-Some.ensures.exact in
     let f = (datum_at c.args.depth).reads in
@@ -56,7 +56,7 @@ read_datum-returns-in_err-parts t c =
     ap (same_tag c.args.value.now.tag) (sym c.context_constructed.ensures) ∙ sym c.is.ensures
     ∙ c.if-is.true in
     rw (p.1, p.2) (structure-err c.args.depth (part_of c.args.value.now) c.in_err-parts.field-0.0
-    (omega arith) is c.in_err-parts.ensures.asked)
+    (omega arith) is c.in_err-parts.ensures.requested)
 
 pub read_datum-returns-in_ok-parts : goal.read_datum-returns-in_ok-parts
 read_datum-returns-in_ok-parts t c =
@@ -64,7 +64,7 @@ read_datum-returns-in_ok-parts t c =
     ap (same_tag c.args.value.now.tag) (sym c.context_constructed.ensures) ∙ sym c.is.ensures
     ∙ c.if-is.true in
     structure-ok c.args.depth (part_of c.args.value.now) (data_in c.in_ok-parts.parts.items)
-    (omega arith) is c.in_ok-parts.ensures.asked ∙ ap Ok (sym (view-structure c.in_ok-parts.parts))
+    (omega arith) is c.in_ok-parts.ensures.requested ∙ ap Ok (sym (view-structure c.in_ok-parts.parts))
 
 pub read_datum-returns-else-is : goal.read_datum-returns-else-is
 read_datum-returns-else-is t c =

@@ -3,8 +3,8 @@ use Rattle.bay_mms.proofs.AskLemmas.{asked-read, asked-back, one-asked}
 use Rattle.bay_mms_initiate.proofs.InitiateLemmas.{initiate-read, initiate-back}
 use Rattle.bay_mms.proofs.laws.one_request.Goals as goal
 
-pub returns-clause-asked : goal.returns-clause-asked
-returns-clause-asked c = asked-read
+pub returns-clause-requested : goal.returns-clause-requested
+returns-clause-requested c = asked-read
 
 pub returns-clause-spelled : goal.returns-clause-spelled
 returns-clause-spelled c = asked-back

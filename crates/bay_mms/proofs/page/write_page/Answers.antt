@@ -1,6 +1,6 @@
 use Rattle.std.proofs.Common.{◌≡◌, ℕ, ◌-◌, ltb, Some, is_none, ap, ◌∙◌}
 use Rattle.std.specs.Option.{option_copied}
-use Rattle.bay_ber.specs.EncoderBuffers.{message, sheet_with}
+use Rattle.bay_ber.specs.EncoderBuffers.{message, buffer_with}
 use Rattle.bay_ber.proofs.SheetLemmas.{short-message}
 use Rattle.bay_tree.specs.Page.{rows_after}
 use Rattle.bay_tree.specs.Rows.{names_of}
@@ -8,8 +8,8 @@ use Rattle.bay_mms.specs.Pages.{first_page}
 use Rattle.bay_mms.proofs.PageLemmas.{first-page-short, page-texts, within-ends}
 use Rattle.bay_mms.proofs.page.write_page.Goals as goal
 
-pub fitting-count-requires-clause-within : goal.fitting-count-requires-clause-within
-fitting-count-requires-clause-within c =
+pub count_fitting-count-requires-clause-within : goal.count_fitting-count-requires-clause-within
+count_fitting-count-requires-clause-within c =
     within-ends c.args.tree.now c.args.names.now c.in_ok-start.start c.requires.texts
     c.in_ok-start.ensures.within
 
@@ -21,12 +21,12 @@ held c =
     let names = names_of c.args.tree.now in
     let rows = rows_after c.args.tree.now (option_copied c.args.after) in
     let is = page-texts c.args.tree.now rows c.args.names.now c.args.id c.args.size
-    c.in_ok-start.start c.fitting-count.result c.texts.result.now _ c.requires.texts
-    c.in_ok-start.ensures.rows (c.fitting-count.ensures.count names c.requires.texts)
+    c.in_ok-start.start c.count_fitting-count.result c.texts.result.now _ c.requires.texts
+    c.in_ok-start.ensures.rows (c.count_fitting-count.ensures.count names c.requires.texts)
     (c.texts.ensures names c.requires.texts)
-    (ap (λ (k : ℕ). ltb c.fitting-count.result (k - c.in_ok-start.start)) c.count.ensures) in
+    (ap (λ (k : ℕ). ltb c.count_fitting-count.result (k - c.in_ok-start.start)) c.count.ensures) in
     short-message c.args.size _ c.in_ok-writer.writer _ c.in_ok-writer.ensures
-    (c.put_page.ensures ∙ ap (sheet_with c.in_ok-writer.writer) is)
+    (c.put_page.ensures ∙ ap (buffer_with c.in_ok-writer.writer) is)
     (first-page-short c.args.id c.args.size (names_of rows) c.requires.some)
 
 pub finish_untruncated-requires : goal.finish_untruncated-requires

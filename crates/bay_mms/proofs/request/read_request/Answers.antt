@@ -7,5 +7,5 @@ pub returns : goal.returns
 returns c =
     let octets = c.args.octets.now in
     let bytes : IsBytes octets = λ i. omega (arith, c.type_inv.octets i) in
-    answer-is octets c.answer_to.result bytes c.answer_to.ensures.asked
-    (λ e. memory-taken octets bytes (c.answer_to.ensures.memory e))
+    answer-is octets c.parse_request.result bytes c.parse_request.ensures.requested
+    (λ e. memory-taken octets bytes (c.parse_request.ensures.memory e))

@@ -1,9 +1,9 @@
 use Rattle.std.proofs.Common.{◌≡◌, drop}
-use Rattle.bay_ber.specs.EncoderBuffers.{sheet_with}
+use Rattle.bay_ber.specs.EncoderBuffers.{buffer_with}
 use Rattle.bay_mms.specs.Responses.{names_text}
 use Rattle.bay_mms.proofs.response.put_names.Given as goal
 
 abbrev pub invariant-loop-name : goal.invariant-loop-name
 invariant-loop-name l =
-    sheet_with l.writer (names_text (drop l.name-index l.names))
-    ≡ sheet_with l.fn.writer (names_text l.names)
+    buffer_with l.writer (names_text (drop l.name-index l.names))
+    ≡ buffer_with l.fn.writer (names_text l.names)

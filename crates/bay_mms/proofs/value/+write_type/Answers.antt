@@ -1,5 +1,5 @@
 use Rattle.std.proofs.Common.{◌∙◌, [], ◌∷◌, ◌++◌, refl, sym}
-use Rattle.bay_ber.specs.EncoderBuffers.{sheet_with}
+use Rattle.bay_ber.specs.EncoderBuffers.{buffer_with}
 use Rattle.bay_ber.specs.Writing.{element}
 use Rattle.bay_ber.proofs.SheetLemmas.{put-put, put-twice, open-value, long-value, is_open-put}
 use Rattle.bay_tree.specs.Names.{word_of}
@@ -13,7 +13,7 @@ use Rattle.bay_mms.proofs.value.+write_type.Goals as goal
 pub loop-next-init : goal.loop-next-init
 loop-next-init t c =
     written-first c.args.tree.now c.args.handle nodes_types_text 0xA1
-    (sheet_with c.args.writer.now (0xA2 ∷ 0 ∷ [])) _ c.below-next.result
+    (buffer_with c.args.writer.now (0xA2 ∷ 0 ∷ [])) _ c.below-next.result
     (rw (
       c.context_constructed-in-None.ensures,
       c.open-structure.ensures.tag,
@@ -50,7 +50,7 @@ loop-next-preserved t c =
     let name = element (context 0) (word_of (name_at rows part)) in
     let type = type_text (type_at rows part) in
     written-more rows c.args.handle part nodes_types_text 0xA1
-    (sheet_with c.args.writer.now (0xA2 ∷ 0 ∷ [])) c.loop-next.writer _ (component_text rows part)
+    (buffer_with c.args.writer.now (0xA2 ∷ 0 ∷ [])) c.loop-next.writer _ (component_text rows part)
     c.beside-next.result refl (rw c.in-Some-next.is at c.loop-next.invariant)
     (long-value c.loop-next.writer _ _ _ sequence c.open-component.result
     (name ++ element (constructed 1) type) c.open-component.ensures.start
@@ -66,7 +66,7 @@ loop-next-preserved t c =
 
 pub close-requires-in-None : goal.close-requires-in-None
 close-requires-in-None t c =
-    let front = sheet_with c.args.writer.now (0xA2 ∷ 0 ∷ []) in
+    let front = buffer_with c.args.writer.now (0xA2 ∷ 0 ∷ []) in
     let parts = nodes_types_text (parts_at c.args.tree.now c.args.handle) in
     rw (written-end c.args.tree.now c.args.handle nodes_types_text 0xA1 front c.loop-next.writer
     refl (rw c.in_default.is at c.loop-next.invariant))
@@ -76,11 +76,11 @@ close-requires-in-None t c =
 
 pub close-requires-in-None-2 : goal.close-requires-in-None-2
 close-requires-in-None-2 t c =
-    let front = sheet_with c.args.writer.now (0xA2 ∷ 0 ∷ []) in
+    let front = buffer_with c.args.writer.now (0xA2 ∷ 0 ∷ []) in
     let parts = nodes_types_text (parts_at c.args.tree.now c.args.handle) in
     open-value c.args.writer.now front _ (constructed 2) c.open-structure.result
     (element (constructed 1) parts) c.open-structure.ensures.start refl
-    (long-value front (sheet_with front (0xA1 ∷ 0 ∷ [])) c.loop-next.writer _ (constructed 1)
+    (long-value front (buffer_with front (0xA1 ∷ 0 ∷ [])) c.loop-next.writer _ (constructed 1)
     c.open-components.result parts
     (rw (c.open-structure.ensures.tag, c.context_constructed.ensures) at
     c.open-components.ensures.start) refl
@@ -90,12 +90,12 @@ close-requires-in-None-2 t c =
 
 pub returns-in_default : goal.returns-in_default
 returns-in_default t c =
-    let front = sheet_with c.args.writer.now (0xA2 ∷ 0 ∷ []) in
+    let front = buffer_with c.args.writer.now (0xA2 ∷ 0 ∷ []) in
     let parts = nodes_types_text (parts_at c.args.tree.now c.args.handle) in
     rw (structure-type c.args.tree.now c.args.handle (sym c.in-None.ensures.value))
     (long-value c.args.writer.now front c.close-in-None.new.self _ (constructed 2)
     c.open-structure.result (element (constructed 1) parts) c.open-structure.ensures.start refl
-    (long-value front (sheet_with front (0xA1 ∷ 0 ∷ [])) c.loop-next.writer _ (constructed 1)
+    (long-value front (buffer_with front (0xA1 ∷ 0 ∷ [])) c.loop-next.writer _ (constructed 1)
     c.open-components.result parts
     (rw (c.open-structure.ensures.tag, c.context_constructed.ensures) at
     c.open-components.ensures.start) refl

@@ -1,6 +1,6 @@
 use Rattle.std.proofs.Common.{codes}
-use Rattle.bay_nodes.specs.Node.{rows_of, operation}
-use Rattle.bay_nodes.specs.NodeRows.{group_row}
+use Rattle.bay_nodes.specs.Node.{rows_of, operate_part}
+use Rattle.bay_nodes.specs.NodeRows.{group_rows}
 use Rattle.bay_nodes.proofs.NodeLemmas.{two-groups}
 use Rattle.bay_nodes.proofs.rows.push_commands.Goals as goal
 
@@ -13,8 +13,8 @@ returns-in_ok-push_table-in-Direct-2 c =
       c.in_ok-push_table-in-Direct.ensures,
     )
     (rw (c.group_table.ensures n, c.operate_table.ensures n)
-    (two-groups c.args.node.now c.args.rows.now.items group_row
-    (rows_of (codes "$CO$Pos") (operation (codes "Oper")))))
+    (two-groups c.args.node.now c.args.rows.now.items group_rows
+    (rows_of (codes "$CO$Pos") (operate_part (codes "Oper")))))
 
 pub returns-in-Sbo : goal.returns-in-Sbo
 returns-in-Sbo c =

@@ -1,7 +1,7 @@
 use Rattle.std.proofs.Common.{◌++◌, ◌∷◌, [], ◌∙◌, map, codes, Some, ap}
 use Rattle.bay_tree.specs.declared.leaf.Leaf.TheVariants.{Unsigned32}
 use Rattle.bay_nodes.specs.Node.{row}
-use Rattle.bay_nodes.specs.NodeRows.{under, table_rows, command_rows}
+use Rattle.bay_nodes.specs.NodeRows.{row_of_node, table_rows, command_rows}
 use Rattle.bay_nodes.proofs.NodeLemmas.{control_appended}
 use Rattle.bay_nodes.proofs.rows.push_control_node.Goals as goal
 
@@ -18,7 +18,7 @@ returns c =
     (c.in_ok-push_table-2.ensures
     ∙ ap (λ rs. rs ++ table_rows n node last)
     (c.in_ok-push_commands.ensures
-    ∙ ap (λ rs. rs ++ map (under node) (command_rows s.control))
+    ∙ ap (λ rs. rs ++ map (row_of_node node) (command_rows s.control))
     (c.in_ok-push_table.ensures
     ∙ ap (λ rs. rs ++ table_rows n node first) c.in_ok-push_row.ensures)))
     ∙ control_appended n c.args.rows.now.items node s.control s.sbo_timeout_ms first last

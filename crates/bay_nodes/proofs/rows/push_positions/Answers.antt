@@ -1,6 +1,6 @@
 use Rattle.std.proofs.Common.{arith, sym, ◌∙◌}
 use Rattle.bay_nodes.proofs.NodeLemmas.{position-turn, position-passed}
-use Rattle.bay_nodes.proofs.rows.push_positions.Goals.{then-is_of+in_ok-push_position, else-is_of}
+use Rattle.bay_nodes.proofs.rows.push_positions.Goals.{then-is_in_group+in_ok-push_position, else-is_in_group}
 use Rattle.bay_nodes.proofs.rows.push_positions.Goals as goal
 
 pub loop-switch-preserved : goal.loop-switch-preserved
@@ -10,19 +10,19 @@ loop-switch-preserved c =
     let n = c.loop-switch.number in
     let s = c.switch-item.result in
     let done = c.loop-switch.rows.items in
-    elim c.if-is_of.branch [
-      | then-is_of+in_ok-push_position w ↦ (
+    elim c.if-is_in_group.branch [
+      | then-is_in_group+in_ok-push_position w ↦ (
         omega arith,
         rw (w.rows-is, w.number-is, w.in_ok-push_position.ensures)
             (c.loop-switch.invariant.1
             ∙ position-turn c.args.breakers ss i n s done (omega arith) c.switch-item.is
-            (sym c.is_of.ensures ∙ w.if-is_of.true)),
+            (sym c.is_in_group.ensures ∙ w.if-is_in_group.true)),
       )
-      | else-is_of w ↦ (
+      | else-is_in_group w ↦ (
         omega arith,
         rw (w.rows-is, w.number-is)
             (c.loop-switch.invariant.1
             ∙ position-passed c.args.breakers ss i n s done (omega arith) c.switch-item.is
-            (sym c.is_of.ensures ∙ w.if-is_of.false)),
+            (sym c.is_in_group.ensures ∙ w.if-is_in_group.false)),
       )
     ]

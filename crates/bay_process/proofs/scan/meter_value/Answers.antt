@@ -2,7 +2,7 @@ use Rattle.std.proofs.Common.{◌≡◌, Some, w32, ap, sym, ◌∙◌, slice_ge
 use Rattle.std.proofs.lemmas.Int.{to_z-of_z}
 use Rattle.il_image.specs.declared.value.Value.TheVariants.{Long}
 use Rattle.bay_process.specs.Values.{number_of_leaf}
-use Rattle.bay_process.specs.Scans.{leaf_at, meter_value}
+use Rattle.bay_process.specs.Scans.{leaf_at_handle, meter_value}
 use Rattle.bay_process.proofs.ListLemmas.{got-some, got-none}
 use Rattle.bay_process.proofs.scan.meter_value.Goals as goal
 
@@ -13,7 +13,7 @@ returns-in-Some-clause-value c =
     got-some _ c.args.meter c.in-Some.bound c.in-Some.ensures.lookup in
     ap (λ z. Long z) (to_z-of_z w32 c.count_at.result (record { sfits = c.count_at.type_inv }))
     ∙ sym (ap (λ o. Long (number_of_leaf o)) c.count_at.ensures)
-    ∙ ap (λ r. Long (number_of_leaf (leaf_at rows r.value))) c.field.ensures
+    ∙ ap (λ r. Long (number_of_leaf (leaf_at_handle rows r.value))) c.field.ensures
     ∙ sym (ap (meter_value rows c.args.field) here)
 
 pub returns-in-None-clause-value : goal.returns-in-None-clause-value

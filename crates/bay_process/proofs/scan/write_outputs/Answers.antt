@@ -7,16 +7,16 @@ use Rattle.bay_process.proofs.scan.write_outputs.Goals as goal
 
 pub write_interlocking-requires-clause-rows : goal.write_interlocking-requires-clause-rows
 write_interlocking-requires-clause-rows c =
-    let i = c.loop-place.place in
+    let i = c.loop-index.index in
     let switches = c.args.switches.now in
-    rw c.loop-place.invariant.layout
-    (c.requires.interlocked i c.index-switches-place.result
-    (slice_get_read switches (length switches) i c.index-switches-place.result refl
-    c.loop-place-test.true c.index-switches-place.is))
+    rw c.loop-index.invariant.layout
+    (c.requires.interlocked i c.index-switches-index.result
+    (slice_get_read switches (length switches) i c.index-switches-index.result refl
+    c.loop-index-test.true c.index-switches-index.is))
 
 pub returns-clause-kept : goal.returns-clause-kept
 returns-clause-kept c =
-    let i = c.loop-place.invariant.kept in
+    let i = c.loop-index.invariant.kept in
     let bs = c.args.switches.now in
     let many : length (switches_of bs) ≡ length bs =
     length-map bs (λ (b : BoundSwitch). b.switch) in

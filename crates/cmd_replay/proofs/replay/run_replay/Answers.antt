@@ -16,11 +16,11 @@ returns-in-Ok-clause-printed g c =
 
 pub returns-in-Ok-clause-given : goal.returns-in-Ok-clause-given
 returns-in-Ok-clause-given g c =
-    let r = c.in-Ok.ensures.asked in
+    let r = c.in-Ok.ensures.calls_made in
     let failed = c.read_all.new.reader.has_failed in
-    let input = Some (octets_of r.asked.asked.calls) in
+    let input = Some (octets_of r.calls_made.calls_made.calls) in
     record {
-      reads = r.asked;
+      reads = r.calls_made;
       ended = λ off. inl r.gave.1;
       prints = PrintsLogs-weaker (IsReplay input failed) c.replay_scenario.result
           (read-replay input c.in-Ok.input.items failed c.in-Ok.ensures.failed r.gave.0
@@ -40,13 +40,13 @@ returns-in-Err-clause-printed g c =
 
 pub returns-in-Err-clause-given : goal.returns-in-Err-clause-given
 returns-in-Err-clause-given g c =
-    let r = c.in-Err.ensures.asked in
+    let r = c.in-Err.ensures.calls_made in
     let fault = c.in-Err.fault in
-    let calls = r.asked.asked.calls in
+    let calls = r.calls_made.calls_made.calls in
     let failed = c.read_all.new.reader.has_failed in
     let input = Some (octets_of calls) in
     record {
-      reads = r.asked;
+      reads = r.calls_made;
       ended = unread-ended fault calls failed c.in-Err.ensures.failed r.gave;
       prints = PrintsLogs-weaker (IsReplay input failed) c.report_unread.result
           (unread-replay input fault failed c.in-Err.ensures.failed

@@ -1,6 +1,6 @@
 use Rattle.std.proofs.Common.{◌≡◌, ℕ, List, refl, sym, ap, subst, ◌∙◌}
 use Rattle.std.proofs.lemmas.Result.{err_from_is_err_and}
-use Rattle.bay_ber.specs.Reading.{Begins}
+use Rattle.bay_ber.specs.Reading.{BeginsWithTlv}
 use Rattle.bay_ber.specs.Values.{values_in}
 use Rattle.bay_ber.proofs.ValueLemmas.{not-empty}
 use Rattle.bay_ber.proofs.ListingLemmas.{nothing-more, values-step, values-stop}
@@ -14,7 +14,7 @@ returns-in_err-tlv-clause-next c =
       refl,
       λ e. not-empty c.self.inside.rest.now c.if-is_empty.ensures (left ∙ e),
       λ s. c.in_err-tlv.ensures.only s.0
-          (subst (λ (octets : List ℕ). Begins octets s.0) (sym left) s.1),
+          (subst (λ (octets : List ℕ). BeginsWithTlv octets s.0) (sym left) s.1),
     )
 
 pub returns-then-is_empty-clause-exact : goal.returns-then-is_empty-clause-exact

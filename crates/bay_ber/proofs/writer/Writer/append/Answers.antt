@@ -19,7 +19,7 @@ invariant_of-self-2 c =
     let n = ap length c.extend.ensures.items
     ∙ length-append c.self.inside.octets.items c.args.octets.now in
     record {
-      heads = c.self.invariant.heads;
+      headers = c.self.invariant.headers;
       front = omega arith;
       within = omega arith;
       room = omega arith;

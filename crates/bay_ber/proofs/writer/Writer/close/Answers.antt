@@ -46,7 +46,7 @@ invariant_of-self-2 c =
     (length_octets (c.len.result - (64 + c.args.start + 2))) (64 + c.args.start + 1) (omega arith)
     in
     record {
-      heads = c.self.invariant.heads;
+      headers = c.self.invariant.headers;
       front = omega arith;
       within = omega arith;
       room = omega arith;

@@ -8,4 +8,4 @@ pub returns : goal.returns
 returns c =
     rw (c.behind.ensures, c.shrink_to_fit.ensures.items)
     (message-is c.self.inside _ c.self.view_is c.if-over.false c.self.invariant.front
-    c.self.invariant.heads)
+    c.self.invariant.headers)

@@ -9,4 +9,4 @@ pub returns : goal.returns
 returns c =
     rw (take_rest c.deref.result.now c.self.inside.first, c.deref.ensures.value)
     (message-is c.self.inside _ c.self.view_is c.if-self.false c.self.invariant.front
-    c.self.invariant.heads)
+    c.self.invariant.headers)

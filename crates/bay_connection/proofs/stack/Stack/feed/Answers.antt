@@ -1,5 +1,5 @@
 use Rattle.std.proofs.Common.{◌∙◌, sym, ap}
-use Rattle.bay_connection.specs.ConnectionStates.{over_state}
+use Rattle.bay_connection.specs.ConnectionStates.{ended_state}
 use Rattle.bay_connection.specs.Feeding.{indication_of}
 use Rattle.bay_connection.specs.Stack.{connection_state_of, client_of}
 use Rattle.bay_connection.proofs.FeedingLemmas.{is-ready, fed-got, fed-fault}
@@ -44,4 +44,4 @@ returns-in-Some-clause-left c =
     let f = fed-fault (connection_state_of c.args.self.now) c.args.piece.now c.in-Err.fault code
     c.requires.joined c.in-Err.ensures.refused
     (sym c.code.ensures ∙ c.in-Some.is) in
-    c.close.ensures.closed ∙ ap over_state c.in-Err.ensures.broken ∙ f.left
+    c.close.ensures.closed ∙ ap ended_state c.in-Err.ensures.broken ∙ f.left

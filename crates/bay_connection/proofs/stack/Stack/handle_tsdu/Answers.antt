@@ -1,7 +1,7 @@
 use Rattle.std.proofs.Common.{◌≡◌, length, Ok, ap, arith}
 use Rattle.std.proofs.lemmas.List.{length-append}
 use Rattle.bay_transport.specs.Feeding.{size_agreed}
-use Rattle.bay_assoc.specs.Receiving.{mms, tsdu_meaning}
+use Rattle.bay_assoc.specs.TsduMeanings.{mms, tsdu_meaning}
 use Rattle.bay_connection.proofs.FeedingLemmas.{sized-joined}
 use Rattle.bay_connection.proofs.HearingLemmas.{hears-pdu, last-part}
 use Rattle.bay_connection.proofs.stack.Stack.handle_tsdu.Goals as goal

@@ -1,7 +1,7 @@
 use Rattle.std.proofs.Common.{Ok, Result, slice_get, subst, ap, sym, ◌∙◌}
 use Rattle.std.proofs.lemmas.Result.{err_from_is_err_and}
 use Rattle.bay_device.specs.Device.{State}
-use Rattle.bay_device.specs.Outcomes.{doubt_outcome}
+use Rattle.bay_device.specs.Outcomes.{bad_measure_outcome}
 use Rattle.bay_device.specs.StateView.{state_view}
 use Rattle.bay_device.specs.Steps.{IsOutcome, quiet_answer}
 use Rattle.bay_device.specs.declared.event.Step.{Step}
@@ -15,7 +15,7 @@ returns-in_err-ended c =
     (c.bad_measure.ensures inside.connections.value) in
     let p = err_from_is_err_and c.from_residual.result c.from_residual.ensures.1 in
     subst (λ (t : State). IsOutcome
-    (doubt_outcome c.args.now c.args.meter c.args.field t
+    (bad_measure_outcome c.args.now c.args.meter c.args.field t
     (slice_get t.meters c.args.meter)) c.from_residual.result
     (state_view inside.connections.value c.bad_measure.new.self)) c.self.view_is
     (record {
@@ -29,7 +29,7 @@ returns c =
     let quiet = rw c.deref_mut.ensures.value at
     (c.bad_measure.ensures inside.connections.value) in
     subst (λ (t : State). IsOutcome
-    (doubt_outcome c.args.now c.args.meter c.args.field t
+    (bad_measure_outcome c.args.now c.args.meter c.args.field t
     (slice_get t.meters c.args.meter)) (let r : Result Step StepFault = Ok c.quiet.result in r)
     (state_view inside.connections.value c.bad_measure.new.self)) c.self.view_is
     (record {

@@ -16,11 +16,11 @@ returns c =
     let inside = c.self.inside in
     let cs = inside.connections.value in
     let s : State = state_view cs inside.state.value in
-    let here : slot_of a ≡ Some c.in-Some.place =
+    let here : slot_of a ≡ Some c.in-Some.slot =
     sym c.association_slot.ensures.value ∙ c.in-Some.is in
-    let talk = opened _ (sym (rw c.deref.ensures at c.is_open.ensures) ∙ c.if-not-is_open.false) in
-    let some : connection_at (slot_of a) s ≡ Some talk.0 =
-    ap (λ (o : Option ℕ). connection_at o s) here ∙ talk.1 in
+    let state = opened _ (sym (rw c.deref.ensures at c.is_open.ensures) ∙ c.if-not-is_open.false) in
+    let some : connection_at (slot_of a) s ≡ Some state.0 =
+    ap (λ (o : Option ℕ). connection_at o s) here ∙ state.1 in
     let whole = ap (close_outcome now a s) some in
     subst (λ (t : State). IsOutcome (close_outcome now a t (connection_at (slot_of a) t))
     (let r : Result Step StepFault = Ok c.quiet.result in r) c.drop_connection.new.self)

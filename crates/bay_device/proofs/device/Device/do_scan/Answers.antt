@@ -1,5 +1,5 @@
 use Rattle.std.proofs.Common.{ℕ, Ok, Option, Result, subst, ap, ap₂, ◌∙◌}
-use Rattle.bay_device.specs.Device.{State, device_at, ran_at, after_scan}
+use Rattle.bay_device.specs.Device.{State, device_at, run_result_at, after_scan}
 use Rattle.bay_device.specs.Meaning.{Halts}
 use Rattle.bay_device.specs.Outcomes.{scan_outcome, scan_step}
 use Rattle.bay_device.specs.StateView.{state_view}
@@ -25,7 +25,7 @@ returns-clause-gives c =
       answered =
           ap₂ told (rw c.deref_mut.ensures.value at c.advance-ended.ensures.sent cs)
           ((rw c.deref_mut-2.ensures.value at c.scan-steps.ensures.steps cs)
-          ∙ ap (λ (t : State). (ran_at now t).steps) after);
+          ∙ ap (λ (t : State). (run_result_at now t).steps) after);
       left = (rw c.deref_mut-2.ensures.value at c.scan-steps.ensures.after cs)
           ∙ ap (after_scan now) after;
     })

@@ -10,7 +10,7 @@ returns c =
     let inside = c.self.inside in
     ap (λ (cs : List (Option ConnectionState)). state_view cs c.drop_owner.new.self)
     (rw c.deref_mut.ensures.value at c.put.ensures)
-    ∙ ap (with_connection (Some c.args.place) None)
+    ∙ ap (with_connection (Some c.args.slot) None)
     (rw c.deref_mut-2.ensures.value at c.drop_owner.ensures inside.connections.value)
     ∙ sym (ap (λ (o : Option ℕ). with_connection o None
     (without_owner a (state_view inside.connections.value inside.state.value))) c.requires)

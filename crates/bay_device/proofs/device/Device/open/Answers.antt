@@ -1,5 +1,5 @@
 use Rattle.std.proofs.Common.{◌≡◌, ℕ, List, Option, Some, None, Ok, Result, slice_set, subst, ap, sym, ◌∙◌}
-use Rattle.bay_connection.specs.Feeding.{Client}
+use Rattle.bay_connection.specs.Feeding.{ConnectionData}
 use Rattle.bay_connection.specs.ConnectionStates.{ConnectionState}
 use Rattle.bay_device.specs.Device.{State, device_at}
 use Rattle.bay_device.specs.Outcomes.{Outcome, connection_at, initial_connection, open_outcome, slot_of, with_connection}
@@ -17,15 +17,15 @@ returns c =
     let a = c.args.association in
     let inside = c.self.inside in
     let cs = inside.connections.value in
-    let place = c.in-Some.place in
+    let slot = c.in-Some.slot in
     let s : State = state_view cs inside.state.value in
-    let here : slot_of a ≡ Some place = sym c.association_slot.ensures.value ∙ c.in-Some.is in
+    let here : slot_of a ≡ Some slot = sym c.association_slot.ensures.value ∙ c.in-Some.is in
     let none : connection_at (slot_of a) s ≡ None =
     ap (λ (o : Option ℕ). connection_at o s) here
     ∙ not-opened _ (sym (rw c.deref.ensures at c.is_open.ensures) ∙ c.if-is_open.false) in
     let whole =
     ap (λ (o : Option ℕ). open_outcome now a s o (connection_at (slot_of a) s)) here
-    ∙ ap (open_outcome now a s (Some place)) none in
+    ∙ ap (open_outcome now a s (Some slot)) none in
     let new : State = state_view c.put.new.self c.advance-ended.new.self in
     subst (λ (t : State). IsOutcome
     (open_outcome now a t (slot_of a) (connection_at (slot_of a) t))
@@ -38,9 +38,9 @@ returns c =
           ∙ sym (ap (λ (o : Outcome). o.answer) whole);
       left = ap (λ (xs : List (Option ConnectionState)). state_view xs c.advance-ended.new.self)
           ((rw c.deref_mut-2.ensures.value at c.put.ensures)
-          ∙ ap (λ (x : Client). slice_set cs place (Some x.talk))
+          ∙ ap (λ (x : ConnectionData). slice_set cs slot (Some x.state))
           c.new-connection.ensures)
-          ∙ ap (with_connection (Some place) (Some (initial_connection a)))
+          ∙ ap (with_connection (Some slot) (Some (initial_connection a)))
           (rw c.deref_mut.ensures.value at c.advance-ended.ensures.after cs)
           ∙ sym (ap (λ (o : Option ℕ). with_connection o (Some (initial_connection a))
           (device_at now s))

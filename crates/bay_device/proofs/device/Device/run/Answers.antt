@@ -80,7 +80,7 @@ returns-clause-remote c =
 pub returns-clause-operates : goal.returns-clause-operates
 returns-clause-operates c sized =
     (tells _ (bay_of c.args.self.now) c.args.events.now c.args.self.now c.loop-now.answers.items
-    c.loop-now.self c.is_sound.ensures.places
+    c.loop-now.self c.is_sound.ensures.slots
     (record { domain = refl; switches = refl; names = refl })
     sized (returns-clause-ok c)).operates
 
@@ -89,6 +89,6 @@ returns-clause-backed c none sized =
     tells-backed (bay_of c.args.self.now) c.args.events.now c.args.self.now
     c.loop-now.answers.items c.loop-now.self none
     (tells _ (bay_of c.args.self.now) c.args.events.now c.args.self.now c.loop-now.answers.items
-    c.loop-now.self c.is_sound.ensures.places
+    c.loop-now.self c.is_sound.ensures.slots
     (record { domain = refl; switches = refl; names = refl })
     sized (returns-clause-ok c))

@@ -3,13 +3,13 @@ use Rattle.bay_device.specs.Meaning.{HaltsAt}
 use Rattle.bay_device.specs.Outcomes.{event_outcome}
 use Rattle.bay_device.specs.Steps.{IsOutcome}
 use Rattle.bay_device.specs.declared.event.Event.TheVariants.{Scan}
-use Rattle.bay_device.specs.declared.event.Scanned.{Scanned}
+use Rattle.bay_device.specs.declared.event.ScanResult.{ScanResult}
 use Rattle.bay_device.specs.declared.event.Step.{Step}
 use Rattle.bay_device.specs.declared.fault.StepFault.{StepFault}
 use Rattle.bay_device.proofs.device.Device.scan_step.Goals as goal
 
 -- with the number of steps
-abbrev told : Scanned → Step → Result Step StepFault
+abbrev told : ScanResult → Step → Result Step StepFault
 told scanned step = Ok (record step { scan = Some scanned.steps })
 
 pub returns-clause-gives : goal.returns-clause-gives

@@ -36,7 +36,7 @@ returns-clause-runs c program runs =
 pub returns-clause-leads : goal.returns-clause-leads
 returns-clause-leads c =
     leading c.args.now c.args.event c.args.self.now c.do_event.result c.do_event.new.self
-    c.is_sound.ensures.places c.do_event.ensures.steps
+    c.is_sound.ensures.slots c.do_event.ensures.steps
 
 pub returns-clause-tells : goal.returns-clause-tells
 returns-clause-tells c names alike sized =

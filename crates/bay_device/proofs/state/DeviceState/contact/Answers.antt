@@ -1,5 +1,5 @@
 use Rattle.std.proofs.Common.{◌≡◌, ◌<◌, [], length, slice_get, Option, Ok, ap, sym, ◌∙◌, arith}
-use Rattle.bay_device.specs.Device.{State, device_at, device_after_contact, ended_at, reached_at}
+use Rattle.bay_device.specs.Device.{State, device_at, device_after_contact, expiry_report, reached_report_at}
 use Rattle.bay_device.specs.Outcomes.{Outcome, contact_outcome, or_else}
 use Rattle.bay_device.specs.StateView.{state_view}
 use Rattle.bay_device.specs.Steps.{quiet_answer}
@@ -7,8 +7,8 @@ use Rattle.bay_device.specs.declared.event.Sent.{Sent}
 use Rattle.bay_device.proofs.ProcessLemmas.{as-many, switch-there}
 use Rattle.bay_device.proofs.state.DeviceState.contact.Goals as goal
 
-pub take_contact-report_reached-requires : goal.take_contact-report_reached-requires
-take_contact-report_reached-requires c =
+pub apply_contact-report_reached-requires : goal.apply_contact-report_reached-requires
+apply_contact-report_reached-requires c =
     let d = c.args.self.now in
     let many =
     as-many d.bay.switches c.advance-over.new.self.bay.switches
@@ -27,15 +27,15 @@ returns c connections =
     let after = c.advance-over.ensures.after connections in
     let whole = ap (contact_outcome c.args.now k c.args.position s) here.1 in
     let own = ap (λ (t : State). slice_get t.switches k) after ∙ here.1 in
-    let took = c.take_contact-report_reached.ensures.after connections here.0 own in
+    let took = c.apply_contact-report_reached.ensures.after connections here.0 own in
     let told : c.or_else.result
-    ≡ or_else (ended_at c.args.now s) (reached_at k c.args.position (device_at c.args.now s)) =
+    ≡ or_else (expiry_report c.args.now s) (reached_report_at k c.args.position (device_at c.args.now s)) =
     c.or_else.ensures
-    ∙ ap (λ (o : Option Sent). or_else o c.take_contact-report_reached.result)
+    ∙ ap (λ (o : Option Sent). or_else o c.apply_contact-report_reached.result)
     (c.advance-over.ensures.sent connections)
-    ∙ ap (or_else (ended_at c.args.now s))
-    (c.take_contact-report_reached.ensures.sent connections
-    ∙ ap (reached_at k c.args.position) after)
+    ∙ ap (or_else (expiry_report c.args.now s))
+    (c.apply_contact-report_reached.ensures.sent connections
+    ∙ ap (reached_report_at k c.args.position) after)
     in
     record {
       answered =

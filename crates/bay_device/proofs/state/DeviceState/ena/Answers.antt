@@ -4,7 +4,7 @@ use Rattle.std.proofs.lemmas.List.{length-map}
 use Rattle.bay_process.specs.Layout.{switches_of}
 use Rattle.bay_process.specs.ReportedRows.{enabled_at, enabled_from}
 use Rattle.bay_process.specs.declared.switch.BoundSwitch.{BoundSwitch}
-use Rattle.bay_process.specs.declared.switch.Enabled.{Enabled}
+use Rattle.bay_process.specs.declared.switch.SwitchEnables.{SwitchEnables}
 use Rattle.bay_process.proofs.KeptLemmas.{from-shown}
 use Rattle.bay_process.proofs.ReleaseLemmas.{places-sized}
 use Rattle.bay_device.proofs.state.DeviceState.ena.Goals as goal
@@ -27,7 +27,7 @@ get-enabled-requires-clause-within c =
       many,
       places-sized (switches_of d.bay.switches)
           (enabled_from d.bay.tree 0 (switches_of d.bay.switches))
-          d.releases.text.items d.releases.places.items d.released.shows,
+          d.releases.text.items d.releases.offsets.items d.released.shows,
     )
 
 pub get-enabled-requires-clause-shows : goal.get-enabled-requires-clause-shows
@@ -57,4 +57,4 @@ returns c connections =
     let got = c.get-enabled.ensures ss (enabled_from d.bay.tree 0 ss) d.released.shows in
     let is : enabled_at d.bay.tree k ≡ c.get-enabled.result =
     from-shown d.bay.tree 0 ss k k c.get-enabled.result (omega arith) got in
-    ap (λ (e : Enabled). Some (e.may_open, e.may_close)) (sym is) ∙ within k (length ss) _ lt
+    ap (λ (e : SwitchEnables). Some (e.may_open, e.may_close)) (sym is) ∙ within k (length ss) _ lt

@@ -6,9 +6,9 @@ use Rattle.bay_device.proofs.state.DeviceState.lose_meter.Goals as goal
 pub returns-clause-after : goal.returns-clause-after
 returns-clause-after c connections =
     let then = device_after_bad_measure c.args.now c.args.meter in
-    c.take_doubt-6.ensures.after connections
-    ∙ ap (then PhaseC) (c.take_doubt-5.ensures.after connections
-    ∙ ap (then PhaseB) (c.take_doubt-4.ensures.after connections
-    ∙ ap (then PhaseA) (c.take_doubt-3.ensures.after connections
-    ∙ ap (then Hz) (c.take_doubt-2.ensures.after connections
-    ∙ ap (then TotVAr) (c.take_doubt.ensures.after connections)))))
+    c.invalidate_field-6.ensures.after connections
+    ∙ ap (then PhaseC) (c.invalidate_field-5.ensures.after connections
+    ∙ ap (then PhaseB) (c.invalidate_field-4.ensures.after connections
+    ∙ ap (then PhaseA) (c.invalidate_field-3.ensures.after connections
+    ∙ ap (then Hz) (c.invalidate_field-2.ensures.after connections
+    ∙ ap (then TotVAr) (c.invalidate_field.ensures.after connections)))))

@@ -11,8 +11,8 @@ use Rattle.bay_device.proofs.LostLemmas.{next-behind}
 use Rattle.bay_device.proofs.ProcessLemmas.{as-many, switch-there}
 use Rattle.bay_device.proofs.state.DeviceState.lose_positions.Goals as goal
 
-pub take_contact-requires : goal.take_contact-requires
-take_contact-requires c =
+pub apply_contact-requires : goal.apply_contact-requires
+apply_contact-requires c =
     let many =
     as-many c.args.self.now.bay.switches c.loop-switch.self.bay.switches
     c.loop-switch.invariant.switches in
@@ -30,9 +30,9 @@ loop-switch-preserved c =
     let own : slice_get (switches_of c.loop-switch.self.bay.switches) k ≡ Some here.0 =
     ap (λ xs. slice_get xs k) c.loop-switch.invariant.switches ∙ here.1 in
     let took : (connections : List (Option ConnectionState))
-    → state_view connections c.take_contact.new.self
+    → state_view connections c.apply_contact.new.self
     ≡ device_after_contact c.args.now k here.0 Bad (state_view connections c.loop-switch.self) =
-    λ connections. c.take_contact.ensures.after connections here.0 own in
+    λ connections. c.apply_contact.ensures.after connections here.0 own in
     record {
       switches = ap (λ (s : State). s.switches) (took []) ∙ c.loop-switch.invariant.switches;
       left = λ connections.

@@ -1,7 +1,7 @@
 use Rattle.std.proofs.Common.{◌≡◌, ◌<◌, ℕ, cond, nat_lt, Option, Some, None, option_map, slice_get, length, ap, sym, ◌∙◌, arith}
 use Rattle.std.proofs.lemmas.Bool.Decides.{nat_tests}
 use Rattle.std.proofs.lemmas.Option.{slice_get-map, slice_get_within}
-use Rattle.bay_tree.specs.Rows.{leaf_of}
+use Rattle.bay_tree.specs.Rows.{leaf_named}
 use Rattle.bay_tree.specs.declared.leaf.Leaf.{Leaf}
 use Rattle.bay_nodes.specs.Names.{SwitchNames}
 use Rattle.bay_process.specs.Layout.{switches_of}
@@ -33,5 +33,5 @@ returns c connections =
     ∙ ap (λ o. option_map (λ (b : BoundSwitch). b.switch) o) here) in
     let named = (d.bound k bound.now here).named in
     sym c.position_at.ensures
-    ∙ ap (λ (n : SwitchNames). leaf_of n.control.value d.bay.tree) named
+    ∙ ap (λ (n : SwitchNames). leaf_named n.control.value d.bay.tree) named
     ∙ within k (length (switches_of d.bay.switches)) _ lt

@@ -2,7 +2,7 @@ use Rattle.std.proofs.Common.{map, Some, false, refl, ap, sym, ◌∙◌}
 use Rattle.il_image.specs.Images.{Image}
 use Rattle.il_scan.specs.Scans.{outputs_of, read_only, type_of_point}
 use Rattle.bay_mms_services.specs.Bay.{Bay}
-use Rattle.bay_device.specs.Device.{Ran, State, with_bay}
+use Rattle.bay_device.specs.Device.{RunResult, State, with_bay}
 use Rattle.bay_device.specs.StateView.{state_view}
 use Rattle.bay_process.specs.Layout.{layout_of}
 use Rattle.bay_device.proofs.HeldLemmas.{scan-held}
@@ -67,7 +67,7 @@ returns-clause-steps c connections =
     let m = c.run_program-steps.new.machine in
     let did = rw (c.as_slice.ensures, c.as_slice-2.ensures) at c.run_program-steps.ensures.scans in
     let read = inputs-named connections d d.bay.switches d.meters d.reads refl refl refl in
-    sym (ap (λ (r : Ran). r.steps)
+    sym (ap (λ (r : RunResult). r.steps)
     (ran connections d c.args.now _ read m c.run_program-steps.result
     (outputs_of m.image.points m.slots) did))
 

@@ -1,7 +1,7 @@
 use Rattle.std.proofs.Common.{ℕ, List, Option, length, ap, arith, subst, pos}
-use Rattle.bay_base.specs.Exact.{Gives}
+use Rattle.bay_base.specs.Exact.{ExactOr}
 use Rattle.bay_ber.specs.Tags.{int_tag}
-use Rattle.bay_mms.specs.Writing.{or_long}
+use Rattle.bay_mms.specs.Writing.{or_too_long}
 use Rattle.bay_mms.specs.declared.fault.EncodeFault.TheVariants.{OutOfMemory}
 use Rattle.bay_mms.proofs.ResponseLemmas.{number-few, response-is}
 use Rattle.bay_mms.proofs.results.ReadResponse.finish.Goals as goal
@@ -20,8 +20,8 @@ pub returns : goal.returns
 returns c =
     rw (← c.self.view_is) (
     subst
-    (λ (m : Option (List ℕ)). Gives OutOfMemory (λ (octets : List ℕ). octets)
-    c.finish.result (or_long m))
+    (λ (m : Option (List ℕ)). ExactOr OutOfMemory (λ (octets : List ℕ). octets)
+    c.finish.result (or_too_long m))
     (response-is c.args.id c.self.inside.results c.wrap.new.self c.wrap-2.new.self
     c.prepend_id.new.writer c.wrap-3.new.self c.self.invariant c.wrap.ensures.limit
     (rw c.context_constructed.ensures at c.wrap.ensures.message) c.wrap-2.ensures.limit

@@ -22,8 +22,8 @@ returns-clause-short c =
     (bay_with c.args.inputs.now c.args.self.now)
     c.read_request-request.result c.requires.most c.respond.ensures.ok
 
-pub returns-clause-ending : goal.returns-clause-ending
-returns-clause-ending c =
+pub returns-clause-termination : goal.returns-clause-termination
+returns-clause-termination c =
     end_short c.respond.result c.args.client (controls_view c.args.self.now c.respond.new.controls)
     (bay_with c.args.inputs.now c.args.self.now)
     c.read_request-request.result c.requires.most c.respond.ensures.ok

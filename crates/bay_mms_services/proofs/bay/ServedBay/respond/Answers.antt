@@ -1,5 +1,5 @@
 use Rattle.std.proofs.Common.{ap, Result, Ok, None, ◌∙◌}
-use Rattle.bay_mms.specs.Responses.{concluded_text}
+use Rattle.bay_mms.specs.Responses.{conclude_response_text}
 use Rattle.bay_mms.specs.declared.fault.MmsFault.{MmsFault}
 use Rattle.bay_mms.specs.declared.request.Request.{Request}
 use Rattle.bay_mms.specs.declared.response.RejectReason.TheVariants.{InvalidPdu}
@@ -23,7 +23,7 @@ pub returns-in-Ok-Conclude-clause-ok : goal.returns-in-Ok-Conclude-clause-ok
 returns-in-Ok-Conclude-clause-ok c =
     let b = bay_with c.args.inputs.now c.args.self.now in
     rw c.requires.first (answered_from c.answer_conclude.result
-    (λ (d : Bay). plain_answer concluded_text d) b _
+    (λ (d : Bay). plain_answer conclude_response_text d) b _
     c.answer_conclude.ensures
     (ap (λ (q : Result Request MmsFault). answer_of c.args.client b (request_result_view q))
     (c.in-Ok-Conclude.is ∙ ap Ok c.in-Ok-Conclude.field-0-is)))

@@ -4,7 +4,7 @@ use Rattle.std.proofs.lemmas.Option.{slice_get-get_or}
 use Rattle.bay_process.specs.Controls.{AreAllControlRows}
 use Rattle.bay_process.specs.declared.switch.BoundSwitch.{BoundSwitch}
 use Rattle.bay_tree.specs.Rows.{name_at}
-use Rattle.bay_mms_services.specs.Targets.{part_at, target_from}
+use Rattle.bay_mms_services.specs.Targets.{part_named, target_from}
 use Rattle.bay_mms_services.proofs.PlaceLemmas.{part-named, target-here, target-later, target-there}
 use Rattle.bay_mms_services.proofs.bay.ServedBay.target.Goals as goal
 
@@ -20,8 +20,8 @@ returns-in-Some-clause-target c =
     ∙ ap Some (sym c.index-rows-switch.is) in
     let all : AreAllControlRows d.tree rows = rw c.as_slice-rows.ensures d.controlled in
     let names = all k c.index-rows-switch.result here in
-    let is : part_at k name ≡ Some c.in-Some.part =
-    sym (part-named d.tree k _ c.args.row names c.requires.first) ∙ sym c.part_at.ensures
+    let is : part_named k name ≡ Some c.in-Some.part =
+    sym (part-named d.tree k _ c.args.row names c.requires.first) ∙ sym c.part_of_row.ensures
     ∙ c.in-Some.is in
     sym (c.loop-switch.invariant
     ∙ target-here k (length rows - k) name c.in-Some.part (omega arith) is)
@@ -46,8 +46,8 @@ loop-switch-preserved c =
     ∙ ap Some (sym c.index-rows-switch.is) in
     let all : AreAllControlRows d.tree rows = rw c.as_slice-rows.ensures d.controlled in
     let names = all k c.index-rows-switch.result here in
-    let is : part_at k name ≡ None =
-    sym (part-named d.tree k _ c.args.row names c.requires.first) ∙ sym c.part_at.ensures
+    let is : part_named k name ≡ None =
+    sym (part-named d.tree k _ c.args.row names c.requires.first) ∙ sym c.part_of_row.ensures
     ∙ c.in_default.is in
     let one : length rows - k ≡ suc (length rows - (k + 1)) = omega arith in
     c.loop-switch.invariant ∙ target-later k (length rows - k) (length rows - (k + 1)) name one is

@@ -3,7 +3,7 @@ use Rattle.bay_control.specs.Decisions.{State}
 use Rattle.bay_mms.specs.RequestViews.{object_name_view}
 use Rattle.bay_mms_services.specs.Answers.{one_pdu_answer}
 use Rattle.bay_mms_services.specs.Bay.{with_controls}
-use Rattle.bay_mms_services.specs.Reads.{nothing_read, read_all}
+use Rattle.bay_mms_services.specs.Reads.{initial_read, read_all}
 use Rattle.bay_mms_services.specs.Views.{bay_of, controls_view}
 use Rattle.bay_mms_services.proofs.ReplyLemmas.{done, read-fits, read-over, said-with, said_as}
 use Rattle.bay_mms_services.proofs.invocation.Invocation.read.Goals as goal
@@ -12,7 +12,7 @@ pub returns-in-Some : goal.returns-in-Some
 returns-in-Some c =
     let b = bay_of c.args.self.now in
     let r = read_all c.args.self.now.client b (map object_name_view c.args.names.now)
-    (nothing_read b) in
+    (initial_read b) in
     let made : is_ok c.read_response-response.result ≡ true =
     rw c.in-Some.is at c.in_ok-pdu.ensures.made in
     let after : controls_view c.args.self.now.bay.now c.read_response-response.new.controls
@@ -34,7 +34,7 @@ pub returns-in-None : goal.returns-in-None
 returns-in-None c =
     let b = bay_of c.args.self.now in
     let r = read_all c.args.self.now.client b (map object_name_view c.args.names.now)
-    (nothing_read b) in
+    (initial_read b) in
     rw c.duplicate.ensures (said_as c.answer_error.result _ b _ c.answer_error.ensures
     (read-over c.args.self.now.client c.args.self.now.id b r c.in_ok-pdu.field-0
     (c.in_ok-pdu.ensures.pdu c.args.self.now.client.size _

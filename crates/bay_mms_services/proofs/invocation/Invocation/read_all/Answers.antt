@@ -1,6 +1,6 @@
 use Rattle.std.proofs.Common.{arith}
 use Rattle.std.proofs.lemmas.Result.{err_from_is_err_and}
-use Rattle.bay_mms_services.specs.Views.{bay_of, reading_view}
+use Rattle.bay_mms_services.specs.Views.{bay_of, read_state_view}
 use Rattle.bay_mms_services.proofs.ReadLemmas.{long-all}
 use Rattle.bay_mms_services.proofs.invocation.Invocation.read_all.Goals as goal
 
@@ -11,9 +11,9 @@ returns-in_err-read_one-clause-long c =
     c.args.response.now.size
     c.args.names.now
     c.loop-name.name-index _
-    (reading_view c.args.self.now.bay.now c.args.controls.now c.args.decisions.now.items
+    (read_state_view c.args.self.now.bay.now c.args.controls.now c.args.decisions.now.items
     c.args.response.now.octets)
-    (reading_view c.args.self.now.bay.now c.loop-name.controls c.loop-name.decisions.items
+    (read_state_view c.args.self.now.bay.now c.loop-name.controls c.loop-name.decisions.items
     c.loop-name.response.octets)
     c.loop-name.invariant.ok
     (omega (arith, c.loop-name-test.true))

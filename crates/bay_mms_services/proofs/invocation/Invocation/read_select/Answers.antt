@@ -1,7 +1,7 @@
 use Rattle.std.proofs.Common.{◌≡◌, Ok, sym, ◌∙◌}
 use Rattle.bay_mms_services.specs.Controls.{object_of}
 use Rattle.bay_mms_services.specs.Reads.{selected_text}
-use Rattle.bay_mms_services.specs.Views.{bay_of, reading_view}
+use Rattle.bay_mms_services.specs.Views.{bay_of, read_state_view}
 use Rattle.bay_control.specs.Decisions.{select_outcome}
 use Rattle.bay_tree.specs.Rows.{name_at}
 use Rattle.bay_mms_services.proofs.ReadLemmas.{selected, selected-long}
@@ -12,7 +12,7 @@ pub returns-in_ok-object-in-Ok-clause-ok : goal.returns-in_ok-object-in-Ok-claus
 returns-in_ok-object-in-Ok-clause-ok c =
     let d = c.args.self.now.bay.now in
     let b = bay_of c.args.self.now in
-    let r = reading_view d c.args.controls.now c.args.decisions.now.items c.args.response.now.octets
+    let r = read_state_view d c.args.controls.now c.args.decisions.now.items c.args.response.now.octets
     in
     let told : c.as_str.result.now
     ≡ selected_text (object_of b (name_at d.tree c.args.row)) (Ok tt) =
@@ -31,7 +31,7 @@ pub returns-in_ok-object-in-Ok-clause-long : goal.returns-in_ok-object-in-Ok-cla
 returns-in_ok-object-in-Ok-clause-long c =
     let d = c.args.self.now.bay.now in
     let b = bay_of c.args.self.now in
-    let r = reading_view d c.args.controls.now c.args.decisions.now.items c.args.response.now.octets
+    let r = read_state_view d c.args.controls.now c.args.decisions.now.items c.args.response.now.octets
     in
     let told : c.as_str.result.now
     ≡ selected_text (object_of b (name_at d.tree c.args.row)) (Ok tt) =

@@ -2,8 +2,8 @@ use Rattle.std.proofs.Common.{◌≡◌, map, ap, sym, ◌∙◌}
 use Rattle.bay_mms.specs.RequestViews.{object_name_view}
 use Rattle.bay_mms.specs.Views.{data_in}
 use Rattle.bay_mms_services.specs.Answers.{answer_from_writing}
-use Rattle.bay_mms_services.specs.Views.{bay_of, writing_view}
-use Rattle.bay_mms_services.specs.Writes.{nothing_written, write_all}
+use Rattle.bay_mms_services.specs.Views.{bay_of, write_state_view}
+use Rattle.bay_mms_services.specs.Writes.{initial_write, write_all}
 use Rattle.bay_mms_services.proofs.ReplyLemmas.{said_as, write-over}
 use Rattle.bay_mms_services.proofs.invocation.Invocation.write.Goals as goal
 
@@ -13,8 +13,8 @@ returns-in-None c =
     let b = bay_of c.args.self.now in
     let w = write_all c.args.self.now.client b (map object_name_view c.args.names.now)
     (data_in c.args.values.now)
-    (nothing_written b) in
-    let made = writing_view d c.write_all.new.controls c.write_all.new.written in
+    (initial_write b) in
+    let made = write_state_view d c.write_all.new.controls c.write_all.new.written in
     let ok : made ≡ w =
     rw (
       c.requires,

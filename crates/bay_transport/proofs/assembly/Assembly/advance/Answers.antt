@@ -3,14 +3,14 @@ use Rattle.std.proofs.lemmas.List.{length-drop, take_rest}
 use Rattle.std.proofs.lemmas.Result.{err_from_is_err_and}
 use Rattle.bay_transport.specs.declared.fed.Got.TheVariants.{More}
 use Rattle.bay_transport.specs.Doings.{Fails, run_of}
-use Rattle.bay_transport.specs.Assembly.{stream_state_of, FailsWhere, Takes}
+use Rattle.bay_transport.specs.Assembly.{stream_state_of, FaultImplies, StepConsumes}
 use Rattle.bay_transport.proofs.AssemblyLemmas.{quiet-more, reaches-kind, refuses-later}
 use Rattle.bay_transport.proofs.assembly.Assembly.advance.Goals as goal
 
 pub returns-in_err-taken-clause-err : goal.returns-in_err-taken-clause-err
 returns-in_err-taken-clause-err c =
     let p = err_from_is_err_and c.from_residual.result c.from_residual.ensures.1 in
-    let r : FailsWhere c.in_err-taken.field-0.0
+    let r : FaultImplies c.in_err-taken.field-0.0
     ((run_of c.loop-used.self.number (stream_state_of c.loop-used.self)
     (drop c.loop-used.used c.args.piece.now)).doings ≡ Fails c.in_err-taken.field-0.0 ∷ []) =
     rw (take_rest c.args.piece.now c.loop-used.used) at c.in_err-taken.ensures.err in
@@ -19,7 +19,7 @@ returns-in_err-taken-clause-err c =
 
 pub loop-used-preserved : goal.loop-used-preserved
 loop-used-preserved c =
-    let t : Takes c.loop-used.self (drop c.loop-used.used c.args.piece.now) c.in_ok-taken.taken More
+    let t : StepConsumes c.loop-used.self (drop c.loop-used.used c.args.piece.now) c.in_ok-taken.taken More
     c.step.new.self =
     rw (c.in-More.is, take_rest c.args.piece.now c.loop-used.used) at c.in_ok-taken.ensures.ok
     in
@@ -37,7 +37,7 @@ loop-used-preserved c =
 
 pub returns-in_default-clause-ok : goal.returns-in_default-clause-ok
 returns-in_default-clause-ok c =
-    let t : Takes c.loop-used.self (drop c.loop-used.used c.args.piece.now) c.in_ok-taken.taken
+    let t : StepConsumes c.loop-used.self (drop c.loop-used.used c.args.piece.now) c.in_ok-taken.taken
     c.in_ok-taken.kind c.step.new.self =
     rw (take_rest c.args.piece.now c.loop-used.used) at c.in_ok-taken.ensures.ok in
     reaches-kind c.args.self.now c.loop-used.self c.step.new.self c.args.piece.now c.loop-used.used

@@ -1,0 +1,23 @@
+use Rattle.std.proofs.Common.{map, rules}
+use Rattle.toml.specs.View.{items_view}
+use Rattle.bay_config.specs.Bay.{name_keys, name_in, max_names}
+use Rattle.bay_config.specs.Key.{entry_refusal}
+use Rattle.bay_config.specs.Section.{tables_of, list_checks}
+use Rattle.bay_config.proofs.ListLemmas.{judged-append}
+use Rattle.bay_config.proofs.names.read_name_list.Goals as goal
+
+pub returns-in_err-check_list : goal.returns-in_err-check_list
+returns-in_err-check_list c =
+    let items = items_view c.args.values.now in
+    let which = c.args.which in
+    rw (judged-append (list_checks 0 (max_names which) items)
+    (map (λ t. entry_refusal (name_keys which) t) (tables_of items))
+    (map (name_in which) (tables_of items))) (search rules)
+
+pub returns : goal.returns
+returns c =
+    let items = items_view c.args.values.now in
+    let which = c.args.which in
+    rw (judged-append (list_checks 0 (max_names which) items)
+    (map (λ t. entry_refusal (name_keys which) t) (tables_of items))
+    (map (name_in which) (tables_of items))) (search rules)
