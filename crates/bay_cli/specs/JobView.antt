@@ -3,7 +3,7 @@ use Rattle.std.specs.Prelude.{option_map, List, ℕ}
 use Rattle.std.specs.Borrow.{Bor}
 use Rattle.bay_cli.specs.declared.task.ProgramFile.{ProgramFile}
 use Rattle.bay_cli.specs.declared.task.ProgramFile.TheVariants.{Logic, Image}
-use Rattle.bay_cli.specs.declared.task.Invoked.{Invoked}
+use Rattle.bay_cli.specs.declared.task.Invocation.{Invocation}
 use Rattle.bay_cli.specs.declared.task.Task.{Task}
 use Rattle.bay_cli.specs.declared.task.Task.TheVariants.{Check, Replay, Serve, Compile, Audit}
 use Rattle.bay_cli.specs.declared.parse.Job.{Job}
@@ -19,9 +19,9 @@ abbrev pub task_view : Task (Bor (List ℕ)) → Task (List ℕ)
 task_view (Check bay program) = Check bay.now (program_view program)
 task_view Replay = Replay
 task_view
-    (Serve bay program port turns trace process tells limit key file most idle rules diagram) =
+    (Serve bay program port turns trace process sends limit key file most idle rules diagram) =
     Serve bay.now (program_view program) port turns (option_map (λ name. name.now) trace) process
-    tells limit (option_map (λ name. name.now) key) (option_map (λ name. name.now) file) most idle
+    sends limit (option_map (λ name. name.now) key) (option_map (λ name. name.now) file) most idle
     (option_map (λ name. name.now) rules) (option_map (λ name. name.now) diagram)
 task_view (Compile bay logic out) = Compile bay.now logic.now out.now
 task_view (Audit bay program rules diagram effort) =
@@ -29,8 +29,8 @@ task_view (Audit bay program rules diagram effort) =
     (option_map (λ name. name.now) diagram) effort
 
 -- the view of a task, with whether the log is written
-abbrev pub invoked_view : Invoked (Bor (List ℕ)) → Invoked (List ℕ)
-invoked_view asked = record { task = task_view asked.task; log = asked.log }
+abbrev pub invoked_view : Invocation (Bor (List ℕ)) → Invocation (List ℕ)
+invoked_view invocation = record { task = task_view invocation.task; log = invocation.log }
 
 -- the view of a job
 abbrev pub job_view : Job → JobData

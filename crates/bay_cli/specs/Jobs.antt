@@ -12,7 +12,7 @@ use Rattle.bay_cli.specs.declared.parse.Verb.{Verb}
 use Rattle.bay_cli.specs.declared.parse.Verb.TheVariants as verb
 use Rattle.bay_cli.specs.declared.task.ProgramFile.{ProgramFile}
 use Rattle.bay_cli.specs.declared.task.ProgramFile.TheVariants.{Logic, Image}
-use Rattle.bay_cli.specs.declared.task.Invoked.{Invoked}
+use Rattle.bay_cli.specs.declared.task.Invocation.{Invocation}
 use Rattle.bay_cli.specs.declared.task.Task.{Task}
 use Rattle.bay_cli.specs.declared.task.Task.TheVariants.{Check, Replay, Serve, Compile, Audit}
 
@@ -137,15 +137,15 @@ abbrev pub effort_in : List Row → Option ℕ
 effort_in rows = option_and_then (number_of 1 100000) (first_of (codes "effort") rows)
 
 -- the one or the other, and not both
-abbrev pub either : Option Text → Option Text → Option (ProgramFile Text)
-either (Some logic) None = Some (Logic logic)
-either (Some logic) (Some image) = None
-either None (Some image) = Some (Image image)
-either None None = None
+abbrev pub exactly_one : Option Text → Option Text → Option (ProgramFile Text)
+exactly_one (Some logic) None = Some (Logic logic)
+exactly_one (Some logic) (Some image) = None
+exactly_one None (Some image) = Some (Image image)
+exactly_one None None = None
 
 -- the program in Instruction List or the compiled one, if exactly one of them was named
 abbrev pub program_in : List Row → Option (ProgramFile Text)
-program_in rows = either (first_of (codes "logic") rows) (first_of (codes "image") rows)
+program_in rows = exactly_one (first_of (codes "logic") rows) (first_of (codes "image") rows)
 
 -- the task of `check`: a bay and a program
 abbrev pub check_in : List Row → Option (Task Text)
@@ -154,9 +154,9 @@ check_in rows =
     (first_of (codes "bay") rows)
 
 -- whether the port of the process, if there is one, differs from that of the clients
-abbrev pub is_apart : ℕ → Option ℕ → Bool
-is_apart port None = true
-is_apart port (Some process) = not (process == port)
+abbrev pub ports_differ : ℕ → Option ℕ → Bool
+ports_differ port None = true
+ports_differ port (Some process) = not (process == port)
 
 -- whether releases are reported to the process; None if the word is another one, or if there is no
 -- process
@@ -179,9 +179,9 @@ is_recordable file most = is_some file || is_none most
 abbrev pub serve_task : Text → ProgramFile Text → ℕ → ℕ → Option Text → Option ℕ → Option ℕ
     → Option Text → Option Text → Option ℕ → Option ℕ → Option Text → Option Text → Bool
     → Option (Task Text)
-serve_task bay program port turns trace process limit key file most idle rules diagram tells =
-    if is_apart port process && is_supervisable process trace limit key && is_recordable file most
-    then Some (Serve bay program port turns trace process tells limit key file most idle rules
+serve_task bay program port turns trace process limit key file most idle rules diagram sends =
+    if ports_differ port process && is_supervisable process trace limit key && is_recordable file most
+    then Some (Serve bay program port turns trace process sends limit key file most idle rules
     diagram)
     else None
 
@@ -236,12 +236,12 @@ logs rows =
     option_map_or (λ value. bytes_eq value (codes "true")) (first_of (codes "log") rows) false
 
 -- the task, and whether the log is written
-abbrev pub named_invocation : Text → List Row → Option (Invoked Text)
+abbrev pub named_invocation : Text → List Row → Option (Invocation Text)
 named_invocation name rows =
     option_map (λ task. record { task = task; log = logs rows }) (named_task name rows)
 
 -- the task of the parsed words, and whether the log is written
-abbrev pub entered_task : Option (Text × List Row) → Option (Invoked Text)
+abbrev pub entered_task : Option (Text × List Row) → Option (Invocation Text)
 entered_task = option_and_then (λ p. named_invocation p.0 p.1)
 
 -- the parsed words, if they have no fault
@@ -254,7 +254,7 @@ abbrev pub parsed_words : List Text → Option (Text × List Row)
 parsed_words words = faultless (fault_of job_app words) (subcommand_of job_app words)
 
 -- the task that the words spell, and whether the log is written
-abbrev pub task_in : List Text → Option (Invoked Text)
+abbrev pub task_in : List Text → Option (Invocation Text)
 task_in words = entered_task (parsed_words words)
 
 -- ---- jobs: records of all options
@@ -285,7 +285,7 @@ pub record JobData : Type 0 where
 abbrev pub verb_of : Task Text → Verb
 verb_of (Check bay program) = verb.Check
 verb_of Replay = verb.Replay
-verb_of (Serve bay program port turns trace process tells limit key file most idle rules diagram) =
+verb_of (Serve bay program port turns trace process sends limit key file most idle rules diagram) =
     verb.Serve
 verb_of (Compile bay logic out) = verb.Compile
 verb_of (Audit bay program rules diagram effort) = verb.Audit

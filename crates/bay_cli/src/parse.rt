@@ -7,7 +7,7 @@ ghost use Rattle.bay_cli.specs.Jobs as spec;
 ghost use Rattle.bay_cli.specs.JobView.{invoked_view, job_view, program_view, task_view};
 
 use crate::command::clap_command;
-use crate::task::{Invoked, ProgramFile, Task};
+use crate::task::{Invocation, ProgramFile, Task};
 use clap::error::ErrorKind;
 use clap::{ArgMatches, Error};
 use std::alloc::{AllocError, Global};
@@ -169,8 +169,8 @@ fn check_from<'a>(found: &ArgMatches<'a>) -> Option<Task<&'a str>>
 }
 
 // Returns whether the port of the process, if there is one, differs from that of the clients.
-fn is_apart(port: u16, process: Option<u16>) -> bool
-    ensures { result ≡ spec.is_apart port process }
+fn ports_differ(port: u16, process: Option<u16>) -> bool
+    ensures { result ≡ spec.ports_differ port process }
 {
     match process {
         Some(process) => process != port,
@@ -232,7 +232,7 @@ fn serve_from<'a>(found: &ArgMatches<'a>) -> Option<Task<&'a str>>
     let turns = turns_in(found)?;
     let trace = value_of(found, "trace");
     let process = port_in(found, "process");
-    let tells_releases = reports_releases(process, value_of(found, "tell"))?;
+    let sends_releases = reports_releases(process, value_of(found, "tell"))?;
     let limit_ms = limit_in(found);
     let key = value_of(found, "key");
     let record_file = value_of(found, "record");
@@ -240,7 +240,7 @@ fn serve_from<'a>(found: &ArgMatches<'a>) -> Option<Task<&'a str>>
     let idle_s = idle_in(found);
     let rules = value_of(found, "rules");
     let diagram = value_of(found, "diagram");
-    if !is_apart(port, process)
+    if !ports_differ(port, process)
         || !is_supervisable(process, trace, limit_ms, key)
         || record_file.is_none() && record_most.is_some()
     {
@@ -253,7 +253,7 @@ fn serve_from<'a>(found: &ArgMatches<'a>) -> Option<Task<&'a str>>
         turns,
         trace,
         process,
-        tells_releases,
+        sends_releases,
         limit_ms,
         key,
         record_file,
@@ -316,12 +316,12 @@ fn named_task<'a>(name: &str, found: &ArgMatches<'a>) -> Option<Task<&'a str>>
 }
 
 // Returns the task of the parsed words.
-fn task_from<'a>(matches: &ArgMatches<'a>) -> Option<Invoked<&'a str>>
+fn task_from<'a>(matches: &ArgMatches<'a>) -> Option<Invocation<&'a str>>
     ensures { option_map invoked_view result ≡ spec.entered_task (subcommand_rows_of matches.now) }
 {
     let (name, found) = matches.subcommand()?;
     let task = named_task(name, found)?;
-    Some(Invoked {
+    Some(Invocation {
         task,
         log: logs(found),
     })
@@ -472,7 +472,7 @@ fn matches_of<'a>(alloc: Global, words: &'a [&'a str]) -> Result<ArgMatches<'a>,
 /// takes a bay file, a program and the file for the image; `audit` takes what `check` takes, and
 /// rules, a diagram or both, and may have an effort. Each may request the log. Fails with `Refused`
 /// if the words spell no task or request help, and with `OutOfMemory`.
-pub fn task_of<'a>(alloc: Global, words: &'a [&'a str]) -> Result<Invoked<&'a str>, WordsFault>
+pub fn task_of<'a>(alloc: Global, words: &'a [&'a str]) -> Result<Invocation<&'a str>, WordsFault>
     ensures ok { IfOk result
         (λ t. task_in (map (λ w. w.now) words.entry.now) ≡ Some (invoked_view t)) }
     ensures refused { IfErr result

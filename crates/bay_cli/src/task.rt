@@ -9,7 +9,7 @@ pub enum ProgramFile<T> {
 
 /// What a command line requests.
 #[derive(Drop)]
-pub struct Invoked<T> {
+pub struct Invocation<T> {
     pub task: Task<T>,
     /// Whether the log is written.
     pub log: bool,
@@ -41,7 +41,7 @@ pub enum Task<T> {
         turns: u32,
         trace: Option<T>,
         process: Option<u16>,
-        tells_releases: bool,
+        sends_releases: bool,
         limit_ms: Option<u32>,
         key: Option<T>,
         record_file: Option<T>,

@@ -16,7 +16,7 @@ use Rattle.il_image.specs.Images.{Image}
 use Rattle.il_compile.specs.Compiled.{compiled_of, image_of, image_size}
 use Rattle.il_compile.specs.declared.fault.CompileFault.TheVariants.{CodeTooLong}
 use Rattle.bay_load.specs.Errors.{check_error}
-use Rattle.bay_load.specs.Loads.{checked_in, of_bay, of_checked, of_compiled, of_program}
+use Rattle.bay_load.specs.Loads.{checked_in, load_of_bay, load_of_checked, load_of_compiled, load_of_program}
 use Rattle.bay_load.specs.Names.{NamesData, names_of}
 use Rattle.bay_load.specs.declared.error.LoadError.{LoadError}
 use Rattle.bay_device.specs.Accepts.{IsRight}
@@ -56,13 +56,13 @@ accepted bay logic c is = right-by (bay_of bay) (program_of logic) bay logic c r
 -- ---- what is refused
 
 compiled-if : (b : Bay) (names : NamesData) (fits : Bool) (image : Image) (e : LoadFault)
-    → device_from (of_compiled b names (cond fits (Ok image) (Err CodeTooLong))) ≡ Err e
+    → device_from (load_of_compiled b names (cond fits (Ok image) (Err CodeTooLong))) ≡ Err e
     → e ≡ Refused 85 0
 compiled-if b names true image e is = absurd (cc)
 compiled-if b names false image e is = cc
 
 pub refused : (bay logic : List ℕ) (e : LoadFault)
-    → device_from (of_bay (bay_of bay) (program_of logic)) ≡ Err e
+    → device_from (load_of_bay (bay_of bay) (program_of logic)) ≡ Err e
     → IsRight bay logic → e ≡ Refused 85 0
 refused bay logic e is right =
     let b = right.read in
@@ -70,9 +70,9 @@ refused bay logic e is right =
     let text : program_of logic ≡ Ok program = (program_is_read logic (Ok program)).0 right.text in
     let checked = (right_programs_pass b.points program).1 right.right in
     let names = names_of program.declarations in
-    let whole : of_bay (bay_of bay) (program_of logic) ≡ of_compiled b names (compiled_of checked.0)
-    = ap (λ (r : Result Bay BayFault). of_bay r (program_of logic)) right.file
-    ∙ ap (of_program b) text ∙ ap (of_checked b names) checked.1 in
+    let whole : load_of_bay (bay_of bay) (program_of logic) ≡ load_of_compiled b names (compiled_of checked.0)
+    = ap (λ (r : Result Bay BayFault). load_of_bay r (program_of logic)) right.file
+    ∙ ap (load_of_program b) text ∙ ap (load_of_checked b names) checked.1 in
     compiled-if b names (nat_le (image_size checked.0) 65_535) (image_of checked.0) e
     (sym (ap device_from whole) ∙ is)
 
@@ -85,14 +85,14 @@ accepted-ok bay logic (Ok device) runs = accepted bay logic runs.0 runs.1
 accepted-ok bay logic (Err e) runs = tt
 
 refused-by : (bay logic : List ℕ) (e : LoadFault)
-    → (e ≡ OutOfMemory) ⊎ (device_from (of_bay (bay_of bay) (program_of logic)) ≡ Err e)
+    → (e ≡ OutOfMemory) ⊎ (device_from (load_of_bay (bay_of bay) (program_of logic)) ≡ Err e)
     → e ≢ OutOfMemory
     → IsRight bay logic → e ≡ Refused 85 0
 refused-by bay logic e (inl memory) other right = absurd (other memory)
 refused-by bay logic e (inr is) other right = refused bay logic e is right
 
 pub refused-err : (bay logic : List ℕ) (r : Result State LoadFault)
-    → ExactOr OutOfMemory (λ device. device) r (device_from (of_bay (bay_of bay) (program_of logic)))
+    → ExactOr OutOfMemory (λ device. device) r (device_from (load_of_bay (bay_of bay) (program_of logic)))
     → IfErr r (λ e. e ≢ OutOfMemory → IsRight bay logic → e ≡ Refused 85 0)
 refused-err bay logic (Ok device) gives = tt
 refused-err bay logic (Err e) gives = λ other right. refused-by bay logic e gives other right

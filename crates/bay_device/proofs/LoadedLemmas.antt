@@ -22,7 +22,7 @@ use Rattle.il_image.specs.Decoding.{decoded_image}
 use Rattle.il_image.specs.Images.{Image as Code}
 use Rattle.il_verify.specs.Verdicts.{IsVerified}
 use Rattle.bay_load.specs.Errors.{check_error}
-use Rattle.bay_load.specs.Loads.{IsCompiled, IsImageOf, LoadData, Loads, MayLoadTo, checked_in, file_of, of_bay, text_of}
+use Rattle.bay_load.specs.Loads.{IsCompiled, IsImageOf, LoadData, LoadsImageFiles, MayLoadTo, checked_in, parsed_bay, load_of_bay, parsed_program}
 use Rattle.bay_load.specs.declared.error.LoadError.{LoadError}
 use Rattle.bay_load.specs.declared.error.LoadError.TheVariants as error
 use Rattle.bay_load.specs.declared.load.Form.{Form}
@@ -52,13 +52,13 @@ utf8-sound : (u : Bool) (bay : List ℕ) (b : Bay)
 utf8-sound true bay b e = bay-sound bay b e
 utf8-sound false bay b e = absurd cc
 
-pub file-sound : (bay : List ℕ) (b : Bay) → file_of bay ≡ Ok b → IsBay b
+pub file-sound : (bay : List ℕ) (b : Bay) → parsed_bay bay ≡ Ok b → IsBay b
 file-sound bay b e = utf8-sound (is_utf8 bay) bay b e
 
 -- ---- which device it is
 
 pub device-loaded : (bay : List ℕ) (form : Form) (program : List ℕ) (s : State)
-    → LoadsDevice bay form program s → IsLoaded (file_of bay) (IsImageOf form program) s
+    → LoadsDevice bay form program s → IsLoaded (parsed_bay bay) (IsImageOf form program) s
 device-loaded bay form program s is =
     let made = load-made bay form program is.0 is.1 in
     record {
@@ -97,10 +97,10 @@ text-runs file text s loaded sound =
     (subst (λ (i : Code). ImplementsText c i.code) is does))
 
 pub loaded-runs : (bay logic : List ℕ) (s : State)
-    (loaded : IsLoaded (file_of bay) (IsCompiled (text_of logic)) s)
+    (loaded : IsLoaded (parsed_bay bay) (IsCompiled (parsed_program logic)) s)
     → Runs loaded.made.checked s
 loaded-runs bay logic s loaded =
-    text-runs (file_of bay) (text_of logic) s loaded (file-sound bay loaded.bay loaded.read)
+    text-runs (parsed_bay bay) (parsed_program logic) s loaded (file-sound bay loaded.bay loaded.read)
 
 -- ---- from texts
 
@@ -119,37 +119,37 @@ text-checked file text s loaded =
     loaded.made.passes)
 
 module _ (bay logic : List ℕ) (one : is_utf8 bay ≡ true) (two : is_utf8 logic ≡ true) where
-  pub text-loaded : (s : State) → IsLoaded (file_of bay) (IsCompiled (text_of logic)) s
+  pub text-loaded : (s : State) → IsLoaded (parsed_bay bay) (IsCompiled (parsed_program logic)) s
       → IsLoaded (bay_of bay) (IsCompiled (program_of logic)) s
   text-loaded s loaded = rw (one, two) at loaded
 
   pub text-device : (s : State) → LoadsDevice bay Logic logic s
-      → device_from (of_bay (bay_of bay) (program_of logic)) ≡ Ok s
+      → device_from (load_of_bay (bay_of bay) (program_of logic)) ≡ Ok s
   text-device s is =
-      let e : of_bay (bay_of bay) (program_of logic) ≡ Ok is.0 = rw (one, two) at is.1 in
+      let e : load_of_bay (bay_of bay) (program_of logic) ≡ Ok is.0 = rw (one, two) at is.1 in
       ap device_from e ∙ ap (λ (d : State). let r : Result State LoadFault = Ok d in r) (sym is.2)
 
   pub text-refused : (e : LoadError) → MayLoadTo bay Logic logic (Err e)
       → (load_fault_of e ≡ OutOfMemory)
-      ⊎ (device_from (of_bay (bay_of bay) (program_of logic)) ≡ Err (load_fault_of e))
+      ⊎ (device_from (load_of_bay (bay_of bay) (program_of logic)) ≡ Err (load_fault_of e))
   text-refused e (inl held) =
-      let is : of_bay (bay_of bay) (program_of logic) ≡ Err e = rw (one, two) at held in
+      let is : load_of_bay (bay_of bay) (program_of logic) ≡ Err e = rw (one, two) at held in
       inr (ap device_from is)
   text-refused e (inr memory) =
       let is : e ≡ error.OutOfMemory = cc in inl (ap load_fault_of is)
 
 module _ (bay image : List ℕ) (one : is_utf8 bay ≡ true) where
-  pub image-loaded : (s : State) → IsLoaded (file_of bay) (IsImageOf Image image) s
+  pub image-loaded : (s : State) → IsLoaded (parsed_bay bay) (IsImageOf Image image) s
       → IsLoaded (bay_of bay) (λ _ code. decoded_image image ≡ Ok code) s
   image-loaded s loaded = rw one at loaded
 
   pub image-device : (s : State) → LoadsDevice bay Image image s
-      → LoadsAs (Loads (bay_of bay) (decoded_image image)) (Ok s)
+      → LoadsAs (LoadsImageFiles (bay_of bay) (decoded_image image)) (Ok s)
   image-device s is = (is.0, rw one at is.1, is.2)
 
   pub image-refused : (e : LoadError) → MayLoadTo bay Image image (Err e)
       → load_fault_of e ≢ OutOfMemory
-      → LoadsAs (Loads (bay_of bay) (decoded_image image)) (Err (load_fault_of e))
+      → LoadsAs (LoadsImageFiles (bay_of bay) (decoded_image image)) (Err (load_fault_of e))
   image-refused e (inl loads) other = (e, rw one at loads, refl)
   image-refused e (inr memory) other =
       let is : e ≡ error.OutOfMemory = cc in absurd (other (ap load_fault_of is))

@@ -5,7 +5,7 @@ ghost use Rattle.bay_config.specs.Bay.{bay_of};
 ghost use Rattle.il_text.specs.Reading.{program_of};
 ghost use Rattle.il_check.specs.Program.{Checked};
 ghost use Rattle.il_image.specs.Decoding.{decoded_image};
-ghost use Rattle.bay_load.specs.Loads.{IsCompiled, IsImageOf, Loads, MayLoadTo, checked_in, file_of, of_bay};
+ghost use Rattle.bay_load.specs.Loads.{IsCompiled, IsImageOf, LoadsImageFiles, MayLoadTo, checked_in, parsed_bay, load_of_bay};
 ghost use Rattle.bay_device.specs.Accepts.{IsRight};
 ghost use Rattle.bay_device.specs.Entries.{IsIdle};
 ghost use Rattle.bay_device.specs.Load.{IsLoaded, LoadsAs, LoadsDevice, device_from};
@@ -30,7 +30,7 @@ pub fn load_device(
     ensures refused { IfErr result (λ e. MayLoadTo bay.now form program.now (Err e)) }
     // The device is that of the bay that the file spells, and of the program's image, before its
     // first event: there is no selection, and no association is open.
-    ensures loaded { IfOk result (IsLoaded (file_of bay.now) (IsImageOf form program.now)) }
+    ensures loaded { IfOk result (IsLoaded (parsed_bay bay.now) (IsImageOf form program.now)) }
     ensures idle { IfOk result IsIdle }
 {
     let loaded = load_files(alloc, bay, form, program)?;
@@ -43,7 +43,7 @@ pub fn load_device(
 /// 79), then 85 if the image would be too long; or `OutOfMemory` if an allocation fails.
 pub fn load(alloc: Global, bay: &str, logic: &str) -> Result<Device, LoadFault>
     ensures device { ExactOr OutOfMemory (λ device. device) result
-        (device_from (of_bay (bay_of bay.now) (program_of logic.now))) }
+        (device_from (load_of_bay (bay_of bay.now) (program_of logic.now))) }
     // A device results only if the first text is a bay file, and the second one spells a program
     // that is right with the points of the bay; such texts are refused only if an allocation fails,
     // or if the image would be too long.
@@ -69,10 +69,10 @@ pub fn load(alloc: Global, bay: &str, logic: &str) -> Result<Device, LoadFault>
 /// 100); or `OutOfMemory` if an allocation fails.
 pub fn load_image(alloc: Global, bay: &str, image: &[u8]) -> Result<Device, LoadFault>
     ensures ok { IfOk result
-        (λ device. LoadsAs (Loads (bay_of bay.now) (decoded_image image.now)) (Ok device)) }
+        (λ device. LoadsAs (LoadsImageFiles (bay_of bay.now) (decoded_image image.now)) (Ok device)) }
     ensures refused { IfErr result
         (λ e. e ≢ OutOfMemory
-        → LoadsAs (Loads (bay_of bay.now) (decoded_image image.now)) (Err e)) }
+        → LoadsAs (LoadsImageFiles (bay_of bay.now) (decoded_image image.now)) (Err e)) }
     // It is the device of the bay file and of the image that the octets encode, before its first
     // event: there is no selection, and no association is open.
     ensures loaded { IfOk result

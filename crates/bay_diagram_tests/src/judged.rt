@@ -33,7 +33,7 @@ fn text_of(alloc: Global, texts: Texts, fault: Option<Fault>) -> Result<String, 
 }
 
 // Returns the verified image of a program.
-fn verified_of(alloc: Global, bay: &Bay, text: &str) -> Result<Verified, Fail> {
+fn verify_program(alloc: Global, bay: &Bay, text: &str) -> Result<Verified, Fail> {
     let points = bay.points.as_slice();
     let program = read_program(alloc, text)?;
     let typed = check(alloc, &program, points)?;
@@ -96,11 +96,11 @@ fn network_of(alloc: Global, bay: &Bay, texts: Texts) -> Result<Network, Fail> {
 }
 
 // Returns the operations of which the release is a hazard.
-fn broken_of(alloc: Global, texts: Texts, fault: Option<Fault>) -> Result<String, Fail> {
+fn broken_releases(alloc: Global, texts: Texts, fault: Option<Fault>) -> Result<String, Fail> {
     let bay = read_bay(alloc, texts.bay)?;
     let network = network_of(alloc, &bay, texts)?;
     let text = text_of(alloc, texts, fault)?;
-    let verified = verified_of(alloc, &bay, text.as_str())?;
+    let verified = verify_program(alloc, &bay, text.as_str())?;
     let program = AuditedProgram::new(alloc, &bay, &verified)?;
     let switches = bay.switches.as_slice();
     let answers = switches.len().saturating_mul(4);
@@ -127,7 +127,7 @@ fn check_releases(
     fault: Option<Fault>,
     wanted: &'static str,
 ) -> Result<(), Fail> {
-    let found = broken_of(alloc, texts, fault)?;
+    let found = broken_releases(alloc, texts, fault)?;
     assert_eq!(rt; found.as_str(), wanted);
     Ok(())
 }

@@ -29,7 +29,7 @@ use Rattle.il_verify.specs.Refusals.{IsRefusal}
 use Rattle.il_verify.specs.Verdicts.{IsVerified}
 use Rattle.il_verify.specs.declared.fault.VerifyFault.{VerifyFault}
 use Rattle.bay_load.specs.Errors.{bay_error, verify_error}
-use Rattle.bay_load.specs.Loads.{IsCompiled, IsLoad, IsRead, LoadData, Loads, LoadsRead, LoadsTo, MayLoadTo, declarations_of, file_of, of_bay, of_checked, of_compiled, of_program, text_of}
+use Rattle.bay_load.specs.Loads.{IsCompiled, IsLoad, IsDescribed, LoadData, LoadsImageFiles, LoadsDecoded, LoadsTo, MayLoadTo, declarations_of, parsed_bay, load_of_bay, load_of_checked, load_of_compiled, load_of_program, parsed_program}
 use Rattle.bay_load.specs.Names.{NamesData, names_of, no_names}
 use Rattle.bay_load.specs.declared.error.LoadError.{LoadError}
 use Rattle.bay_load.specs.declared.error.LoadError.TheVariants.{Bay as BayError, Text, Check, Compile, Image as ImageError, Verify, OutOfMemory}
@@ -54,13 +54,13 @@ only-memory e h = elim (memory-or e h) [ inl never ↦ absurd never | inr memory
 -- ---- the parts of a load
 
 pub is-read : (text : List ℕ) (r : Result Bay BayFault)
-    → ExactOr bay_fault.OutOfMemory (λ b. b) r (bay_of text) → IfOk r IsBay → IfOk r IsRead
+    → ExactOr bay_fault.OutOfMemory (λ b. b) r (bay_of text) → IfOk r IsBay → IfOk r IsDescribed
 is-read text (Ok b) read sound = record { text = text; file = read; sound = sound }
 is-read text (Err e) read sound = tt
 
 pub text-ok : (logic text : List ℕ) (r : Result Program TextFault) → is_utf8 logic ≡ true
     → text ≡ logic → IfOk r (λ p. ReadsAs text (Ok (plain_program p)))
-    → IfOk r (λ p. text_of logic ≡ Ok (plain_program p))
+    → IfOk r (λ p. parsed_program logic ≡ Ok (plain_program p))
 text-ok logic text (Ok p) utf8 is reads =
     rw utf8 (subst (λ (t : List ℕ). program_of t ≡ Ok (plain_program p)) is
     ((program_is_read text (Ok (plain_program p))).0 reads))
@@ -68,7 +68,7 @@ text-ok logic text (Err e) utf8 is reads = tt
 
 pub text-refused : (logic text : List ℕ) (r : Result Program TextFault) → is_utf8 logic ≡ true
     → text ≡ logic → IfErr r (λ e. e ≢ text_fault.OutOfMemory → ReadsAs text (Err e))
-    → IfErr r (λ e. e ≢ text_fault.OutOfMemory → text_of logic ≡ Err e)
+    → IfErr r (λ e. e ≢ text_fault.OutOfMemory → parsed_program logic ≡ Err e)
 text-refused logic text (Ok p) utf8 is reads = tt
 text-refused logic text (Err e) utf8 is reads = λ other.
     rw utf8 (subst (λ (t : List ℕ). program_of t ≡ Err e) is
@@ -80,7 +80,7 @@ pub compiled-gives : (bay : Bay) (names : NamesData) (held : Result Code Compile
     → IsVerified bay.points image
     → IfOk r (λ l. l ≡ record { bay = bay; names = names; image = image })
     → IfErr r (λ e. e ≢ OutOfMemory → IsVerified bay.points image → ⊥)
-    → ExactOr OutOfMemory (λ (l : LoadData). l) r (of_compiled bay names held)
+    → ExactOr OutOfMemory (λ (l : LoadData). l) r (load_of_compiled bay names held)
 compiled-gives bay names held image (Ok l) is fits same exact =
     rw is (ap (λ (x : LoadData). let r : Result LoadData LoadError = Ok x in r) (sym same))
 compiled-gives bay names held image (Err e) is fits same exact =
@@ -89,7 +89,7 @@ compiled-gives bay names held image (Err e) is fits same exact =
 pub image-ok : (bay : Bay) (spelled : Result Code ImageFault) (image : Code)
     (r : Result LoadData LoadError) → spelled ≡ Ok image
     → IfOk r (λ l. l ≡ record { bay = bay; names = no_names; image = image })
-    → IfOk r (λ l. IsVerified bay.points image) → IfOk r (λ l. LoadsRead bay spelled (Ok l))
+    → IfOk r (λ l. IsVerified bay.points image) → IfOk r (λ l. LoadsDecoded bay spelled (Ok l))
 image-ok bay spelled image (Ok l) is same fits = rw is (fits, same)
 image-ok bay spelled image (Err e) is same fits = tt
 
@@ -97,29 +97,29 @@ pub image-refused : (bay : Bay) (spelled : Result Code ImageFault) (image : Code
     (r : Result LoadData LoadError) → spelled ≡ Ok image
     → IfErr r (λ e. e ≢ OutOfMemory → (fault : VerifyFault) × (place : ℕ)
     × IsRefusal bay.points image fault place × (e ≡ verify_error fault))
-    → IfErr r (λ e. e ≢ OutOfMemory → LoadsRead bay spelled (Err e))
+    → IfErr r (λ e. e ≢ OutOfMemory → LoadsDecoded bay spelled (Err e))
 image-refused bay spelled image (Ok l) is refused = tt
 image-refused bay spelled image (Err e) is refused = λ other. rw is (refused other)
 
 -- ---- by the form of the program
 
 pub bay-refused : (bay : List ℕ) (form : Form) (program : List ℕ) (fault : BayFault)
-    → (fault ≡ bay_fault.OutOfMemory) ⊎ (file_of bay ≡ Err fault)
+    → (fault ≡ bay_fault.OutOfMemory) ⊎ (parsed_bay bay ≡ Err fault)
     → MayLoadTo bay form program (Err (bay_error fault))
 bay-refused bay form program fault (inl memory) =
     inr (ap (λ f. let r : Result LoadData LoadError = Err (bay_error f) in r) memory)
 bay-refused bay Logic program fault (inr is) = inl (rw is refl)
 bay-refused bay Image program fault (inr is) = inl (rw is refl)
 
-module _ (bay program : List ℕ) (b : Bay) (is : file_of bay ≡ Ok b) where
+module _ (bay program : List ℕ) (b : Bay) (is : parsed_bay bay ≡ Ok b) where
   pub logic-ok : (r : Result LoadData LoadError)
-      → ExactOr OutOfMemory (λ (l : LoadData). l) r (of_program b (text_of program))
+      → ExactOr OutOfMemory (λ (l : LoadData). l) r (load_of_program b (parsed_program program))
       → IfOk r (λ l. LoadsTo bay Logic program (Ok l))
   logic-ok (Ok l) gives = rw is gives
   logic-ok (Err e) gives = tt
 
   pub logic-refused : (r : Result LoadData LoadError)
-      → ExactOr OutOfMemory (λ (l : LoadData). l) r (of_program b (text_of program))
+      → ExactOr OutOfMemory (λ (l : LoadData). l) r (load_of_program b (parsed_program program))
       → IfErr r (λ e. MayLoadTo bay Logic program (Err e))
   logic-refused (Ok l) gives = tt
   logic-refused (Err e) (inl memory) =
@@ -127,13 +127,13 @@ module _ (bay program : List ℕ) (b : Bay) (is : file_of bay ≡ Ok b) where
   logic-refused (Err e) (inr held) = inl (rw is held)
 
   pub decoded-ok : (r : Result LoadData LoadError)
-      → IfOk r (λ l. LoadsRead b (decoded_image program) (Ok l))
+      → IfOk r (λ l. LoadsDecoded b (decoded_image program) (Ok l))
       → IfOk r (λ l. LoadsTo bay Image program (Ok l))
   decoded-ok (Ok l) loads = rw is loads
   decoded-ok (Err e) loads = tt
 
   pub decoded-refused : (r : Result LoadData LoadError)
-      → IfErr r (λ e. e ≢ OutOfMemory → LoadsRead b (decoded_image program) (Err e))
+      → IfErr r (λ e. e ≢ OutOfMemory → LoadsDecoded b (decoded_image program) (Err e))
       → IfErr r (λ e. MayLoadTo bay Image program (Err e))
   decoded-refused (Ok l) refused = tt
   decoded-refused (Err e) refused =
@@ -155,7 +155,7 @@ record IsMade (file : Result Bay BayFault) (text : Result PlainProgram TextFault
 
 by-image : (b : Bay) (p : PlainProgram) (c : Checked) (image : Result Code CompileFault)
     (l : LoadData) → checked_of b.points p ≡ Ok c → compiled_of c ≡ image
-    → of_compiled b (names_of p.declarations) image ≡ Ok l → IsMade (Ok b) (Ok p) l
+    → load_of_compiled b (names_of p.declarations) image ≡ Ok l → IsMade (Ok b) (Ok p) l
 by-image b p c (Ok image) l passes compiles e =
     let is : record { bay = b; names = names_of p.declarations; image = image } ≡ l = cc in
     subst (IsMade (Ok b) (Ok p)) is (record {
@@ -174,12 +174,12 @@ by-image b p c (Err fault) l passes compiles e = absurd cc
 
 by-checked : (b : Bay) (p : PlainProgram) (checked : Result Checked CheckFault) (l : LoadData)
     → checked_of b.points p ≡ checked
-    → of_checked b (names_of p.declarations) checked ≡ Ok l → IsMade (Ok b) (Ok p) l
+    → load_of_checked b (names_of p.declarations) checked ≡ Ok l → IsMade (Ok b) (Ok p) l
 by-checked b p (Ok c) l passes e = by-image b p c (compiled_of c) l passes refl e
 by-checked b p (Err fault) l passes e = absurd cc
 
 text-made : (file : Result Bay BayFault) (text : Result PlainProgram TextFault) (l : LoadData)
-    → of_bay file text ≡ Ok l → IsMade file text l
+    → load_of_bay file text ≡ Ok l → IsMade file text l
 text-made (Ok b) (Ok p) l e = by-checked b p (checked_of b.points p) l refl e
 text-made (Ok b) (Err fault) l e = absurd cc
 text-made (Err fault) text l e = absurd cc
@@ -195,7 +195,7 @@ record IsDecoded (file : Result Bay BayFault) (image : Result Code ImageFault) (
   pub verified : IsVerified l.bay.points l.image
 
 image-made : (file : Result Bay BayFault) (image : Result Code ImageFault) (l : LoadData)
-    → Loads file image (Ok l) → IsDecoded file image l
+    → LoadsImageFiles file image (Ok l) → IsDecoded file image l
 image-made (Ok b) (Ok image) l e =
     let is : record { bay = b; names = no_names; image = image } ≡ l = cc in
     subst (IsDecoded (Ok b) (Ok image)) is
@@ -206,8 +206,8 @@ image-made (Err fault) image l e = absurd cc
 pub load-made : (bay : List ℕ) (form : Form) (program : List ℕ) (l : LoadData)
     → LoadsTo bay form program (Ok l) → IsLoad bay form program l
 load-made bay Logic program l e =
-    let m = text-made (file_of bay) (text_of program) l e in
+    let m = text-made (parsed_bay bay) (parsed_program program) l e in
     record { read = m.read; named = m.named; made = m.made; verified = m.verified }
 load-made bay Image program l e =
-    let m = image-made (file_of bay) (decoded_image program) l e in
+    let m = image-made (parsed_bay bay) (decoded_image program) l e in
     record { read = m.read; named = m.named; made = m.made; verified = m.verified }

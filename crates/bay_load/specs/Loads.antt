@@ -37,40 +37,40 @@ pub record LoadData : Type 0 where
   pub image : Code
 
 -- A file describes the bay.
-pub record IsRead (bay : Bay) : Type 0 where
+pub record IsDescribed (bay : Bay) : Type 0 where
   pub text : List ℕ
   pub file : bay_of text ≡ Ok bay
   pub sound : IsBay bay
 
 -- A file describes the bay, and the image is verified for its points.
 pub record IsSoundLoad (bay : Bay) (image : Code) : Type 0 where
-  pub read : IsRead bay
+  pub read : IsDescribed bay
   pub verified : IsVerified bay.points image
 
 -- ---- texts
 
 -- what is loaded of a bay and the compiler's result for its program
-abbrev pub of_compiled : Bay → NamesData → Result Code CompileFault → Result LoadData LoadError
-of_compiled bay names (Ok image) = Ok (record { bay = bay; names = names; image = image })
-of_compiled bay names (Err fault) = Err (compile_error fault)
+abbrev pub load_of_compiled : Bay → NamesData → Result Code CompileFault → Result LoadData LoadError
+load_of_compiled bay names (Ok image) = Ok (record { bay = bay; names = names; image = image })
+load_of_compiled bay names (Err fault) = Err (compile_error fault)
 
 -- what is loaded of a bay and the result of the checks of its program
-abbrev pub of_checked : Bay → NamesData → Result Checked CheckFault → Result LoadData LoadError
-of_checked bay names (Ok checked) = of_compiled bay names (compiled_of checked)
-of_checked bay names (Err fault) = Err (check_error fault)
+abbrev pub load_of_checked : Bay → NamesData → Result Checked CheckFault → Result LoadData LoadError
+load_of_checked bay names (Ok checked) = load_of_compiled bay names (compiled_of checked)
+load_of_checked bay names (Err fault) = Err (check_error fault)
 
 -- what is loaded of a bay and the parsed text of its program
-abbrev pub of_program : Bay → Result PlainProgram TextFault → Result LoadData LoadError
-of_program bay (Ok program) =
-    of_checked bay (names_of program.declarations) (checked_of bay.points program)
-of_program bay (Err fault) = Err (text_error fault)
+abbrev pub load_of_program : Bay → Result PlainProgram TextFault → Result LoadData LoadError
+load_of_program bay (Ok program) =
+    load_of_checked bay (names_of program.declarations) (checked_of bay.points program)
+load_of_program bay (Err fault) = Err (text_error fault)
 
 -- what is loaded of a bay file and a program: a fault of the bay file comes before one of the
 -- program's text, that before one of its checks, and that before the refusal of an image that would
 -- be too long
-abbrev pub of_bay : Result Bay BayFault → Result PlainProgram TextFault → Result LoadData LoadError
-of_bay (Ok bay) program = of_program bay program
-of_bay (Err fault) program = Err (bay_error fault)
+abbrev pub load_of_bay : Result Bay BayFault → Result PlainProgram TextFault → Result LoadData LoadError
+load_of_bay (Ok bay) program = load_of_program bay program
+load_of_bay (Err fault) program = Err (bay_error fault)
 
 -- the checked program of a bay file and a text, if neither is refused before the program is
 -- compiled
@@ -105,36 +105,36 @@ LoadsImage bay image (Err error) =
 
 -- The result of loading the octets of an image for a bay: the first fault of the octets, or the
 -- result of loading the image that they spell.
-abbrev pub LoadsRead : Bay → Result Code ImageFault → Result LoadData LoadError → Type 0
-LoadsRead bay (Ok image) result = LoadsImage bay image result
-LoadsRead bay (Err fault) result = result ≡ Err (image_error fault)
+abbrev pub LoadsDecoded : Bay → Result Code ImageFault → Result LoadData LoadError → Type 0
+LoadsDecoded bay (Ok image) result = LoadsImage bay image result
+LoadsDecoded bay (Err fault) result = result ≡ Err (image_error fault)
 
 -- A bay file and the octets of an image are loaded, or refused: a fault of the bay file comes
 -- before one of the octets, and that before one of the image.
-abbrev pub Loads : Result Bay BayFault → Result Code ImageFault → Result LoadData LoadError
+abbrev pub LoadsImageFiles : Result Bay BayFault → Result Code ImageFault → Result LoadData LoadError
     → Type 0
-Loads (Ok bay) image result = LoadsRead bay image result
-Loads (Err fault) image result = result ≡ Err (bay_error fault)
+LoadsImageFiles (Ok bay) image result = LoadsDecoded bay image result
+LoadsImageFiles (Err fault) image result = result ≡ Err (bay_error fault)
 
 -- ---- octets
 
 -- a program that is not UTF-8 has a bad token in its first line
-abbrev pub text_of : List ℕ → Result PlainProgram TextFault
-text_of logic = if is_utf8 logic then program_of logic else Err (BadToken 1)
+abbrev pub parsed_program : List ℕ → Result PlainProgram TextFault
+parsed_program logic = if is_utf8 logic then program_of logic else Err (BadToken 1)
 
 -- a bay file that is not UTF-8 is no TOML
-abbrev pub file_of : List ℕ → Result Bay BayFault
-file_of bay = if is_utf8 bay then bay_of bay else Err BadToml
+abbrev pub parsed_bay : List ℕ → Result Bay BayFault
+parsed_bay bay = if is_utf8 bay then bay_of bay else Err BadToml
 
 -- what is loaded of the octets of a bay file and of a program, or the first error
 abbrev pub load_of : List ℕ → List ℕ → Result LoadData LoadError
-load_of bay logic = of_bay (file_of bay) (text_of logic)
+load_of bay logic = load_of_bay (parsed_bay bay) (parsed_program logic)
 
 -- this is loaded of the octets of a bay file and of a program or an image, or they are refused with
 -- this error
 abbrev pub LoadsTo : List ℕ → Form → List ℕ → Result LoadData LoadError → Type 0
 LoadsTo bay Logic program loaded = load_of bay program ≡ loaded
-LoadsTo bay Image program loaded = Loads (file_of bay) (decoded_image program) loaded
+LoadsTo bay Image program loaded = LoadsImageFiles (parsed_bay bay) (decoded_image program) loaded
 
 -- This is loaded or refused as `LoadsTo` says, or memory ran out.
 abbrev pub MayLoadTo : List ℕ → Form → List ℕ → Result LoadData LoadError → Type 0
@@ -142,7 +142,7 @@ MayLoadTo bay form program loaded = LoadsTo bay form program loaded ⊎ (loaded 
 
 -- the image of the octets of a program or an image, for a bay
 abbrev pub IsImageOf : Form → List ℕ → Bay → Code → Type 0
-IsImageOf Logic program bay image = IsCompiled (text_of program) bay image
+IsImageOf Logic program bay image = IsCompiled (parsed_program program) bay image
 IsImageOf Image program bay image = decoded_image program ≡ Ok image
 
 -- the declarations of a program, if the text is one
@@ -152,14 +152,14 @@ declarations_of (Err fault) = []
 
 -- the declarations in the octets of a program; an image has none
 abbrev pub declared_in : Form → List ℕ → List DeclaredName
-declared_in Logic program = declarations_of (text_of program)
+declared_in Logic program = declarations_of (parsed_program program)
 declared_in Image program = []
 
 -- What is loaded of octets: the bay that the file describes, the names that the program declares,
 -- and the program's image, which is verified for the points of the bay.
 pub record IsLoad (bay : List ℕ) (form : Form) (program : List ℕ) (loaded : LoadData)
     : Type 0 where
-  pub read : file_of bay ≡ Ok loaded.bay
+  pub read : parsed_bay bay ≡ Ok loaded.bay
   pub named : loaded.names ≡ names_of (declared_in form program)
   pub made : IsImageOf form program loaded.bay loaded.image
   pub verified : IsVerified loaded.bay.points loaded.image

@@ -12,7 +12,7 @@ ghost use Rattle.il_verify.specs.Refusals.{IsRefusal};
 ghost use Rattle.il_verify.specs.Verdicts.{IsVerified};
 ghost use Rattle.il_verify.specs.declared.fault.VerifyFault.{VerifyFault};
 ghost use Rattle.bay_load.specs.Errors.{verify_error};
-ghost use Rattle.bay_load.specs.Loads.{IsRead, LoadsRead, LoadsTo, MayLoadTo, file_of, of_compiled, of_program, text_of};
+ghost use Rattle.bay_load.specs.Loads.{IsDescribed, LoadsDecoded, LoadsTo, MayLoadTo, parsed_bay, load_of_compiled, load_of_program, parsed_program};
 ghost use Rattle.bay_load.specs.declared.error.LoadError.TheVariants.{OutOfMemory};
 
 use crate::error::LoadError;
@@ -48,7 +48,7 @@ fn load_decoded(
     names: DeclaredNames,
     image: Image,
 ) -> Result<Loaded, LoadError>
-    requires { IsRead bay.value }
+    requires { IsDescribed bay.value }
     ensures ok { IfOk result
         (λ loaded. loaded ≡ record { bay = bay.value; names = names; image = image }) }
     ensures accepted { IfOk result (λ loaded. IsVerified bay.value.points image) }
@@ -74,11 +74,11 @@ fn load_checked(
     names: DeclaredNames,
     typed: Typed,
 ) -> Result<Loaded, LoadError>
-    requires read { IsRead bay.value }
+    requires read { IsDescribed bay.value }
     requires checked { (program : PlainProgram)
         × (checked_of bay.value.points program ≡ Ok (checked_view typed)) }
     ensures { ExactOr OutOfMemory (λ loaded. loaded) result
-        (of_compiled bay.value names (compiled_of (checked_view typed))) }
+        (load_of_compiled bay.value names (compiled_of (checked_view typed))) }
 {
     let image = compile(alloc, &typed)?;
     load_decoded(alloc, bay, names, image)
@@ -86,9 +86,9 @@ fn load_checked(
 
 // Checks and compiles a program for the points of a bay.
 fn load_program(alloc: Global, bay: Box<Bay>, program: &Program<'_>) -> Result<Loaded, LoadError>
-    requires { IsRead bay.value }
+    requires { IsDescribed bay.value }
     ensures { ExactOr OutOfMemory (λ loaded. loaded) result
-        (of_program bay.value (Ok (plain_program program.now))) }
+        (load_of_program bay.value (Ok (plain_program program.now))) }
 {
     let typed = check(alloc, program, bay.points.as_slice())?;
     let names = names_of(alloc, program.declarations.as_slice())?;
@@ -96,10 +96,10 @@ fn load_program(alloc: Global, bay: Box<Bay>, program: &Program<'_>) -> Result<L
 }
 
 // Parses the program in the octets of a text. Each text has exactly one program or one fault.
-fn program_in<'a>(alloc: Global, logic: &'a [u8]) -> Result<Program<'a>, TextFault>
-    ensures ok { IfOk result (λ program. text_of logic.now ≡ Ok (plain_program program)) }
+fn parse_program<'a>(alloc: Global, logic: &'a [u8]) -> Result<Program<'a>, TextFault>
+    ensures ok { IfOk result (λ program. parsed_program logic.now ≡ Ok (plain_program program)) }
     ensures refused { IfErr result
-        (λ fault. fault ≢ text_fault.OutOfMemory → text_of logic.now ≡ Err fault) }
+        (λ fault. fault ≢ text_fault.OutOfMemory → parsed_program logic.now ≡ Err fault) }
 {
     match std::str::from_utf8(logic) {
         Ok(text) => read_program(alloc, text),
@@ -109,30 +109,30 @@ fn program_in<'a>(alloc: Global, logic: &'a [u8]) -> Result<Program<'a>, TextFau
 
 // Loads the octets of a program's text for a bay.
 fn load_logic(alloc: Global, bay: Box<Bay>, logic: &[u8]) -> Result<Loaded, LoadError>
-    requires { IsRead bay.value }
+    requires { IsDescribed bay.value }
     ensures { ExactOr OutOfMemory (λ loaded. loaded) result
-        (of_program bay.value (text_of logic.now)) }
+        (load_of_program bay.value (parsed_program logic.now)) }
 {
-    let program = program_in(alloc, logic)?;
+    let program = parse_program(alloc, logic)?;
     load_program(alloc, bay, &program)
 }
 
 // Loads the octets of an image for a bay.
 fn load_image(alloc: Global, bay: Box<Bay>, image: &[u8]) -> Result<Loaded, LoadError>
-    requires { IsRead bay.value }
+    requires { IsDescribed bay.value }
     ensures ok { IfOk result
-        (λ loaded. LoadsRead bay.value (decoded_image image.now) (Ok loaded)) }
+        (λ loaded. LoadsDecoded bay.value (decoded_image image.now) (Ok loaded)) }
     ensures refused { IfErr result
-        (λ e. e ≢ OutOfMemory → LoadsRead bay.value (decoded_image image.now) (Err e)) }
+        (λ e. e ≢ OutOfMemory → LoadsDecoded bay.value (decoded_image image.now) (Err e)) }
 {
     let image = decode(alloc, image)?;
     load_decoded(alloc, bay, DeclaredNames::none(alloc), image)
 }
 
 // Reads the bay in the octets of a bay file.
-fn bay_in(alloc: Global, file: &[u8]) -> Result<Bay, BayFault>
-    ensures file { ExactOr BayFault.OutOfMemory (λ bay. bay) result (file_of file.now) }
-    ensures read { IfOk result IsRead }
+fn parse_bay(alloc: Global, file: &[u8]) -> Result<Bay, BayFault>
+    ensures file { ExactOr BayFault.OutOfMemory (λ bay. bay) result (parsed_bay file.now) }
+    ensures read { IfOk result IsDescribed }
 {
     match std::str::from_utf8(file) {
         Ok(text) => read_bay(alloc, text),
@@ -154,7 +154,7 @@ pub fn load_files(
     ensures ok { IfOk result (λ loaded. LoadsTo bay.now form program.now (Ok loaded)) }
     ensures refused { IfErr result (λ e. MayLoadTo bay.now form program.now (Err e)) }
 {
-    let bay = bay_in(alloc, bay)?;
+    let bay = parse_bay(alloc, bay)?;
     let boxed = Box::new(alloc, bay)?;
     match form {
         Form::Logic => load_logic(alloc, boxed, program),

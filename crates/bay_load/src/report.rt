@@ -18,16 +18,16 @@ pub struct Report {
 }
 
 // Counts the instructions in code.
-fn instruction_count(code: &[u8]) -> u32
+fn count_instructions(code: &[u8]) -> u32
     requires code { IsCode code.now }
     requires size { length code.now ≤ 65_535 }
     ensures { IsCount code.now result }
 {
     let mut count = 0;
-    let mut place = 0;
-    while let Some((_, next)) = instr_at(code, place) {
+    let mut offset = 0;
+    while let Some((_, next)) = instr_at(code, offset) {
         count += 1;
-        place = next;
+        offset = next;
     }
     count
 }
@@ -37,7 +37,7 @@ pub fn report_of(verified: &Verified) -> Report
     ensures { IsReport verified.now result }
 {
     Report {
-        instructions: instruction_count(verified.image().code()),
+        instructions: count_instructions(verified.image().code()),
         depth: verified.depth(),
         budget: verified.budget(),
     }

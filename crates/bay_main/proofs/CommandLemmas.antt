@@ -8,14 +8,14 @@ use Rattle.bay_files.specs.Files.{FileWrites}
 use Rattle.bay_io.specs.Watched.{WriterState}
 use Rattle.bay_io.specs.declared.outbox.WriteFault.{WriteFault}
 use Rattle.bay_main.specs.Commands.{CompilesImage}
-use Rattle.bay_report.specs.Report.{IsLast, Prints, report_text}
+use Rattle.bay_report.specs.Report.{IsOutput, Prints, report_text}
 
 -- the line could not be written
 pub line-fails : {F W : Type 0} (writes : FileWrites F) (contents : W → Option (List ℕ))
     (asks : W → WriteCall → W → Type 0)
     (out : List ℕ) (image : Image) (report : Report) → IsReport image report → (files : F)
     (old middle : WriterState W) (fault : WriteFault)
-    → Prints contents asks (IsLast (report_text report) 0) old middle (Err fault)
+    → Prints contents asks (IsOutput (report_text report) 0) old middle (Err fault)
     → (answer : Result ℕ WriteFault) → IsErr answer
     → CompilesImage writes contents asks out image files files old middle answer
 line-fails writes contents asks out image report is files old middle fault printed (Ok n) e =
@@ -25,9 +25,9 @@ line-fails writes contents asks out image report is files old middle fault print
       report = report;
       is = is;
       middle = middle;
-      told = Err f;
+      reported = Err f;
       printed = printed;
-      goes_on = (refl, refl, refl);
+      continuation = (refl, refl, refl);
     }
 
 -- there is a name if there is a reference to one

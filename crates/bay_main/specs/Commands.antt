@@ -19,16 +19,16 @@ use Rattle.std.specs.declared.io.ErrorKind.TheVariants as kind
 use Rattle.bay_cli.specs.Jobs.{task_in}
 use Rattle.bay_cli.specs.declared.task.ProgramFile.{ProgramFile}
 use Rattle.bay_cli.specs.declared.task.ProgramFile.TheVariants.{Logic, Image}
-use Rattle.bay_cli.specs.declared.task.Invoked.{Invoked}
+use Rattle.bay_cli.specs.declared.task.Invocation.{Invocation}
 use Rattle.bay_cli.specs.declared.task.Task.{Task}
 use Rattle.bay_cli.specs.declared.task.Task.TheVariants.{Check, Replay, Serve, Compile, Audit}
 use Rattle.bay_main.specs.declared.ending.CommandResult.{CommandResult}
 use Rattle.bay_main.specs.declared.ending.CommandResult.TheVariants.{Status, WriteFailed, Refused}
 use Rattle.bay_main.specs.Check.{ChecksOctets}
 use Rattle.bay_io.specs.Sent.{Logs}
-use Rattle.bay_report.specs.LogLines.{LogsSome, PrintsLogs, Refuses, UnreadReport, unwritten_line}
-use Rattle.bay_report.specs.Report.{IsLast, Prints, report_text}
-use Rattle.cmd_replay.specs.Replay.{IsReplay}
+use Rattle.bay_report.specs.LogLines.{LogsIfAny, PrintsLogs, RefusalReport, UnreadReport, unwritten_line}
+use Rattle.bay_report.specs.Report.{IsOutput, Prints, report_text}
+use Rattle.cmd_replay.specs.Replay.{ReplayReport}
 use Rattle.cmd_audit.specs.Auditing.{Audits}
 use Rattle.cmd_serve.specs.Serve.{ServesFiles}
 use Rattle.bay_server.specs.Host.{HostCall}
@@ -67,7 +67,7 @@ EndsWritten contents asks out None old new answer = (new ≡ old) × (answer ≡
 EndsWritten contents asks out (Some (unwritten.Failed kind)) old new answer =
     Unwritten contents asks out kind old new answer
 EndsWritten contents asks out (Some unwritten.OutOfMemory) old new answer =
-    Prints contents asks (IsLast (codes "fault memory\n") 3) old new answer
+    Prints contents asks (IsOutput (codes "fault memory\n") 3) old new answer
 
 -- after the line of the load, a command makes the image, and writes it to the file of this name; or
 -- memory runs out for it, which is printed, and no file is touched
@@ -79,15 +79,15 @@ WritesImage writes contents asks out image before after old new answer =
     ((fault : Option FileFault)
     × WritesAtomically writes 100 0 out (image_octets Two image) before after fault
     × EndsWritten contents asks out fault old new answer)
-    ⊎ (Prints contents asks (IsLast (codes "fault memory\n") 3) old new answer × (after ≡ before))
+    ⊎ (Prints contents asks (IsOutput (codes "fault memory\n") 3) old new answer × (after ≡ before))
 
 -- the continuation after a load's line, if this was printed: writing the image
-abbrev pub GoesOn : {F W : Type 0} → FileWrites F → (W → Option (List ℕ))
+abbrev pub WritesIfPrinted : {F W : Type 0} → FileWrites F → (W → Option (List ℕ))
     → (W → WriteCall → W → Type 0) → List ℕ → Code → F → F
     → WriterState W → WriterState W → Result ℕ WriteFault → Result ℕ WriteFault → Type 0
-GoesOn writes contents asks out image before after old new (Err fault) answer =
+WritesIfPrinted writes contents asks out image before after old new (Err fault) answer =
     (new ≡ old) × (after ≡ before) × (answer ≡ Err fault)
-GoesOn writes contents asks out image before after old new (Ok status) answer =
+WritesIfPrinted writes contents asks out image before after old new (Ok status) answer =
     WritesImage writes contents asks out image before after old new answer
 
 -- what was loaded is compiled: the line of the load is printed, and then the image is written
@@ -98,16 +98,16 @@ pub record CompilesImage {F W : Type 0} (writes : FileWrites F) (contents : W �
   pub report : Report
   pub is : IsReportOf image report
   pub middle : WriterState W
-  pub told : Result ℕ WriteFault
-  pub printed : Prints contents asks (IsLast (report_text report) 0) old middle told
-  pub goes_on : GoesOn writes contents asks out image before after middle new told answer
+  pub reported : Result ℕ WriteFault
+  pub printed : Prints contents asks (IsOutput (report_text report) 0) old middle reported
+  pub continuation : WritesIfPrinted writes contents asks out image before after middle new reported answer
 
 -- what was loaded is compiled; the refusal of a load is reported, and no file is touched
 abbrev pub CompilesLoaded : {F W : Type 0} → FileWrites F
     → (W → Option (List ℕ)) → (W → WriteCall → W → Type 0) → List ℕ → Result LoadData LoadError
     → F → F → WriterState W → WriterState W → Result ℕ WriteFault → Type 0
 CompilesLoaded writes contents asks out (Err error) before after old new answer =
-    PrintsLogs contents asks (Refuses error) old new answer × (after ≡ before)
+    PrintsLogs contents asks (RefusalReport error) old new answer × (after ≡ before)
 CompilesLoaded writes contents asks out (Ok loaded) before after old new answer =
     CompilesImage writes contents asks out loaded.image before after old new answer
 
@@ -148,9 +148,9 @@ Compiles reads writes same contents asks bay logic out before after old new answ
     × CompilesRead writes contents asks out read before after old new answer))
 
 -- the result of a command, from that of its function
-abbrev pub Ends : Result ℕ WriteFault → CommandResult → Type 0
-Ends (Ok status) ended = ended ≡ Status status
-Ends (Err fault) ended = ended ≡ WriteFailed
+abbrev pub IsCommandResult : Result ℕ WriteFault → CommandResult → Type 0
+IsCommandResult (Ok status) ended = ended ≡ Status status
+IsCommandResult (Err fault) ended = ended ≡ WriteFailed
 
 -- the arguments were refused
 abbrev pub IsRefused : CommandResult → Type 0
@@ -217,10 +217,10 @@ module _ {F L H R W : Type 0} (reads : FileReads F) (guards : ProtectedReads F) 
       }) old.files old.writer new.writer answer × (new.files ≡ old.files) × (new.host ≡ old.host)
       × (new.reader ≡ old.reader)
   DoesTask Replay old new answer =
-      PrintsLogs contents asks (IsReplay (remaining old.reader.inner) new.reader.has_failed)
+      PrintsLogs contents asks (ReplayReport (remaining old.reader.inner) new.reader.has_failed)
       old.writer new.writer answer × (new.files ≡ old.files) × (new.host ≡ old.host)
   DoesTask
-      (Serve bay program port turns trace process tells limit key file most idle rules diagram) old
+      (Serve bay program port turns trace process sends limit key file most idle rules diagram) old
       new answer =
       ServesFiles step acts contents asks reads guards old.files
       (record {
@@ -236,7 +236,7 @@ module _ {F L H R W : Type 0} (reads : FileReads F) (guards : ProtectedReads F) 
         port = port;
         turns = turns;
         process = process;
-        tells_releases = tells;
+        sends_releases = sends;
         limit_ms = limit;
         idle_s = idle;
         record_most = record_room file most;
@@ -244,21 +244,21 @@ module _ {F L H R W : Type 0} (reads : FileReads F) (guards : ProtectedReads F) 
       × (is_some file ≡ false → new.files ≡ old.files) × (new.reader ≡ old.reader)
 
   -- The arguments spell a task, and it is executed, with the log if they have this option.
-  pub record Obeyed (words : List (List ℕ)) (old new : CommandEnvironment F H R W)
+  pub record ExecutesTask (words : List (List ℕ)) (old new : CommandEnvironment F H R W)
       (ended : CommandResult)
       : Type 0 where
-    pub asked : Invoked (List ℕ)
-    pub is : task_in words ≡ Some asked
+    pub invocation : Invocation (List ℕ)
+    pub is : task_in words ≡ Some invocation
     pub answer : Result ℕ WriteFault
     pub done : CommandEnvironment F H R W
-    pub does : DoesTask asked.task
-        (record old { writer = logging asked.log old.writer }) done answer
-    pub logged : LogsSome contents asks done.writer (unprinted_line done.writer) new.writer
+    pub does : DoesTask invocation.task
+        (record old { writer = logging invocation.log old.writer }) done answer
+    pub logged : LogsIfAny contents asks done.writer (unprinted_line done.writer) new.writer
     pub rest : new ≡ record done { writer = new.writer }
-    pub ends : Ends answer ended
+    pub ends : IsCommandResult answer ended
 
   -- The arguments spell no task, and are refused: nothing is read, printed or touched.
-  pub record Declined (words : List (List ℕ)) (old new : CommandEnvironment F H R W)
+  pub record RefusesArguments (words : List (List ℕ)) (old new : CommandEnvironment F H R W)
       (ended : CommandResult)
       : Type 0 where
     pub none : task_in words ≡ None
@@ -266,10 +266,10 @@ module _ {F L H R W : Type 0} (reads : FileReads F) (guards : ProtectedReads F) 
     pub untouched : new ≡ old
 
   -- Memory runs out while the arguments are read, which is printed.
-  pub record Unread (old new : CommandEnvironment F H R W) (ended : CommandResult) : Type 0 where
+  pub record LacksMemory (old new : CommandEnvironment F H R W) (ended : CommandResult) : Type 0 where
     pub answer : Result ℕ WriteFault
-    pub told : Prints contents asks (IsLast (codes "fault memory\n") 3) old.writer new.writer answer
-    pub ends : Ends answer ended
+    pub reported : Prints contents asks (IsOutput (codes "fault memory\n") 3) old.writer new.writer answer
+    pub ends : IsCommandResult answer ended
     pub untouched : (new.files ≡ old.files) × (new.host ≡ old.host) × (new.reader ≡ old.reader)
 
   -- Arguments are obeyed: the task that they spell is executed; or they spell none, and are
@@ -277,4 +277,4 @@ module _ {F L H R W : Type 0} (reads : FileReads F) (guards : ProtectedReads F) 
   abbrev pub Obeys : List (List ℕ) → CommandEnvironment F H R W → CommandEnvironment F H R W
       → CommandResult → Type 0
   Obeys words old new ended =
-      Obeyed words old new ended ⊎ (Declined words old new ended ⊎ Unread old new ended)
+      ExecutesTask words old new ended ⊎ (RefusesArguments words old new ended ⊎ LacksMemory old new ended)

@@ -10,7 +10,7 @@ status_of WriteFailed = 3
 status_of (Refused text) = 2
 
 -- the text for a failed write, and for refused arguments
-abbrev pub complaint_of : CommandResult → List ℕ
-complaint_of (Status status) = []
-complaint_of WriteFailed = codes "fault 122\n"
-complaint_of (Refused text) = string_bytes text
+abbrev pub error_message_of : CommandResult → List ℕ
+error_message_of (Status status) = []
+error_message_of WriteFailed = codes "fault 122\n"
+error_message_of (Refused text) = string_bytes text

@@ -9,7 +9,7 @@ use Rattle.bay_stdio.specs.Output.{CallEffect, Drains, OutputData, written_octet
 use Rattle.bay_server_turn.specs.Calls.{Call}
 use Rattle.bay_server.specs.Host.{HostCall}
 use Rattle.bay_main.specs.Commands.{CommandEnvironment, Obeys}
-use Rattle.bay_main.specs.Ending.{complaint_of, status_of}
+use Rattle.bay_main.specs.Ending.{error_message_of, status_of}
 use Rattle.bay_main.specs.declared.ending.CommandResult.{CommandResult}
 use Rattle.bay_main.specs.declared.ending.CommandResult.TheVariants.{Status, WriteFailed, Refused}
 
@@ -18,9 +18,9 @@ abbrev pub SystemOutput : Type 0 → Type 0 → Type 0
 SystemOutput O E = OutputData (DescriptorData O) (DescriptorData E)
 
 -- the first argument is `serve`
-abbrev pub serves : List (List ℕ) → Bool
-serves [] = false
-serves (word ∷ words) = bytes_eq word (codes "serve")
+abbrev pub names_serve : List (List ℕ) → Bool
+names_serve [] = false
+names_serve (word ∷ words) = bytes_eq word (codes "serve")
 
 -- An output before anything was written. That of a server has a queue, and does not wait for its
 -- reader; that of another command waits. The log never waits.
@@ -33,8 +33,8 @@ fresh_output serving out err = record {
 }
 
 -- a sink that was not used before
-abbrev pub unused : {W : Type 0} → W → WriterState W
-unused sink = record {
+abbrev pub unused_writer : {W : Type 0} → W → WriterState W
+unused_writer sink = record {
   inner = sink;
   has_failed = false;
   is_flushed = false;
@@ -71,7 +71,7 @@ SystemDoes contents log_contents =
 
 -- The program obeys its arguments; then it writes what is queued of its output, logs a failed
 -- write, and exits with the status of the result.
-pub record Runs {F L H R O E : Type 0} (reads : FileReads F) (guards : ProtectedReads F)
+pub record RunsProgram {F L H R O E : Type 0} (reads : FileReads F) (guards : ProtectedReads F)
     (writes : FileWrites F) (same : F → List ℕ → List ℕ → Bool → Type 0)
     (step : L → Call → L → Type 0) (acts : H → HostCall L → H → Type 0)
     (remaining : R → Option (List ℕ)) (contents : O → Option (List ℕ))
@@ -88,18 +88,18 @@ pub record Runs {F L H R O E : Type 0} (reads : FileReads F) (guards : Protected
       new.writer.inner ended
       output
       last
-  pub complains : last ≡ WriteFailed → (told : SystemOutput O E)
-      × SystemDoes contents log_contents output (Log (complaint_of last)) told
-  pub tells : status ≡ status_of last
+  pub logs_failure : last ≡ WriteFailed → (reported : SystemOutput O E)
+      × SystemDoes contents log_contents output (Log (error_message_of last)) reported
+  pub status_is : status ≡ status_of last
 
 -- The program runs with an output over these writers, which were not used before.
-pub record Concludes {F L H R O E : Type 0} (reads : FileReads F) (guards : ProtectedReads F)
+pub record RunsFresh {F L H R O E : Type 0} (reads : FileReads F) (guards : ProtectedReads F)
     (writes : FileWrites F) (same : F → List ℕ → List ℕ → Bool → Type 0)
     (step : L → Call → L → Type 0) (acts : H → HostCall L → H → Type 0)
     (remaining : R → Option (List ℕ)) (contents : O → Option (List ℕ))
     (log_contents : E → Option (List ℕ)) (words : List (List ℕ)) (out : O) (err : E) (status : ℕ)
     : Type 0 where
   pub old : CommandEnvironment F H R (SystemOutput O E)
-  pub fresh : old.writer ≡ unused (fresh_output (serves words) out err)
-  pub runs : Runs reads guards writes same step acts remaining contents log_contents words old
+  pub fresh : old.writer ≡ unused_writer (fresh_output (names_serve words) out err)
+  pub runs : RunsProgram reads guards writes same step acts remaining contents log_contents words old
       status

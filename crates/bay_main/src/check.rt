@@ -12,7 +12,7 @@ use std::alloc::Global;
 /// Loads the octets of a bay file and of a program or an image, and writes the line of the load.
 /// Logs why it is refused. Returns the exit status: 0, or 1 if the load is refused. Fails if a
 /// write or a flush fails.
-pub fn check_run<W: Sink>(
+pub fn check_octets<W: Sink>(
     alloc: Global,
     bay: &[u8],
     form: Form,

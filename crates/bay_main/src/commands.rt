@@ -1,15 +1,15 @@
 // Executes a command, over files by their names, a reader and a writer.
 ghost use Rattle.std.specs.Prelude.{◌≡◌, map, is_some, None, Result, Ok, option_map};
-ghost use Rattle.bay_server_turn.specs.Calls.{Called};
+ghost use Rattle.bay_server_turn.specs.Calls.{CountedCall};
 ghost use Rattle.bay_main.specs.Commands.{Checks, Compiles, CompilesImage, CompilesOctets, DoesTask, Obeys, Unwritten, WritesImage, logging, name_of, unprinted_line};
 ghost use Rattle.bay_main.specs.Commands as spec;
-ghost use Rattle.bay_report.specs.LogLines.{LogsSome};
+ghost use Rattle.bay_report.specs.LogLines.{LogsIfAny};
 ghost use Rattle.bay_cli.specs.JobView.{program_view, task_view};
 
-use crate::check::check_run;
+use crate::check::check_octets;
 use crate::ending::CommandResult;
 use bay_cli::parse::{WordsFault, task_of};
-use bay_cli::task::{Invoked, ProgramFile, Task};
+use bay_cli::task::{Invocation, ProgramFile, Task};
 use bay_files::files::{BothFiles, FileFault, FileSystem, read_files, write_atomically};
 use bay_io::calls::{OctetSource, Sink};
 use bay_io::outbox::WriteFault;
@@ -22,8 +22,8 @@ use bay_report::output::{NO_MEMORY, Status, write_report, write_text};
 use bay_server::host::Host;
 use bay_server_turn::link::Link;
 use cmd_audit::audit_files::{AuditedFiles, audit_files};
-use cmd_replay::replay::run_replay;
-use cmd_serve::serve::{NamedFiles, Numbers, serve};
+use cmd_replay::replay::replay_reader;
+use cmd_serve::serve::{NamedFiles, ServeOptions, serve};
 use il_image::encode::encode;
 use il_image::image::Image;
 use std::alloc::{AllocError, Global};
@@ -47,7 +47,7 @@ fn check<F: FileSystem, W: Sink>(
         result }
 {
     match read_files(alloc, files, bay, program) {
-        Ok(both) => check_run(
+        Ok(both) => check_octets(
             alloc,
             both.bay.as_slice(),
             form,
@@ -185,7 +185,7 @@ fn do_task<F: FileSystem, L: Link + Drop, H: Host<L>, R: OctetSource, W: Sink>(
     reader: &mut WatchedReader<R>,
     writer: &mut WatchedWriter<W>,
 ) -> Result<u8, WriteFault>
-    ensures { DoesTask F.reads F.guards F.writes F.same (Called L.does L.failures) H.does
+    ensures { DoesTask F.reads F.guards F.writes F.same (CountedCall L.does L.failures) H.does
         R.remaining W.contents W.does (task_view task.entry)
         (record { files = files.old; host = host.old; reader = reader.old; writer = writer.old })
         (record { files = files.new; host = host.new; reader = reader.new; writer = writer.new })
@@ -196,7 +196,7 @@ fn do_task<F: FileSystem, L: Link + Drop, H: Host<L>, R: OctetSource, W: Sink>(
             let (form, program) = form_of(program);
             check(alloc, form, bay, program, files, writer)
         }
-        Task::Replay => run_replay(alloc, reader, writer),
+        Task::Replay => replay_reader(alloc, reader, writer),
         Task::Serve {
             bay,
             program,
@@ -204,7 +204,7 @@ fn do_task<F: FileSystem, L: Link + Drop, H: Host<L>, R: OctetSource, W: Sink>(
             turns,
             trace,
             process,
-            tells_releases,
+            sends_releases,
             limit_ms,
             key,
             record_file,
@@ -223,16 +223,16 @@ fn do_task<F: FileSystem, L: Link + Drop, H: Host<L>, R: OctetSource, W: Sink>(
                 rules,
                 diagram,
             };
-            let numbers = Numbers {
+            let options = ServeOptions {
                 port,
                 turns,
                 process,
-                tells_releases,
+                sends_releases,
                 limit_ms,
                 idle_s,
                 record_most: record_room(record_file, record_most),
             };
-            serve(alloc, named, record_file, files, host, numbers, writer)
+            serve(alloc, named, record_file, files, host, options, writer)
         }
         Task::Compile { bay, logic, out } => compile(alloc, bay, logic, out, files, writer),
         Task::Audit {
@@ -266,7 +266,7 @@ fn start_log_if<W>(writer: &mut WatchedWriter<W>, log: bool)
 
 // Logs that standard output can't be written, if a write of it has failed.
 fn log_unprinted<W: Sink>(writer: &mut WatchedWriter<W>)
-    ensures { LogsSome W.contents W.does writer.old (unprinted_line writer.old) writer.new }
+    ensures { LogsIfAny W.contents W.does writer.old (unprinted_line writer.old) writer.new }
 {
     if writer.has_failed() {
         log_unwritten(writer, "standard output", ErrorKind::Other);
@@ -286,7 +286,7 @@ pub fn obey<F: FileSystem, L: Link + Drop, H: Host<L>, R: OctetSource, W: Sink>(
     reader: &mut WatchedReader<R>,
     writer: &mut WatchedWriter<W>,
 ) -> CommandResult
-    ensures { Obeys F.reads F.guards F.writes F.same (Called L.does L.failures) H.does R.remaining
+    ensures { Obeys F.reads F.guards F.writes F.same (CountedCall L.does L.failures) H.does R.remaining
         W.contents W.does
         (map (λ w. w.now) words.now)
         (record { files = files.old; host = host.old; reader = reader.old; writer = writer.old })
@@ -294,7 +294,7 @@ pub fn obey<F: FileSystem, L: Link + Drop, H: Host<L>, R: OctetSource, W: Sink>(
         result }
 {
     match task_of(alloc, words) {
-        Ok(Invoked { task, log }) => {
+        Ok(Invocation { task, log }) => {
             start_log_if(writer, log);
             let answer = do_task(alloc, task, files, host, reader, writer);
             log_unprinted(writer);

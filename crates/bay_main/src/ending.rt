@@ -1,7 +1,7 @@
 // The result of a command.
 ghost use Rattle.std.specs.Prelude.{◌≡◌};
-ghost use Rattle.bay_main.specs.Commands.{Ends};
-ghost use Rattle.bay_main.specs.Ending.{complaint_of, status_of};
+ghost use Rattle.bay_main.specs.Commands.{IsCommandResult};
+ghost use Rattle.bay_main.specs.Ending.{error_message_of, status_of};
 
 use bay_io::outbox::WriteFault;
 use bay_report::output::Status;
@@ -21,7 +21,7 @@ pub enum CommandResult {
 impl CommandResult {
     /// Returns the result of a command, from that of its function.
     pub fn of(answer: Result<u8, WriteFault>) -> CommandResult
-        ensures { Ends answer result }
+        ensures { IsCommandResult answer result }
     {
         match answer {
             Ok(status) => CommandResult::Status(status),
@@ -43,7 +43,7 @@ impl CommandResult {
     /// Returns the text for standard error: `fault 122` for a failed write, the text of refused
     /// arguments, and otherwise nothing.
     pub fn error_message(&self) -> &str
-        ensures { result.now ≡ complaint_of self.now }
+        ensures { result.now ≡ error_message_of self.now }
     {
         match self {
             CommandResult::Status(_) => "",

@@ -3,9 +3,9 @@
 ghost use Rattle.std.specs.Prelude.{◌≡◌, map, IfOk};
 ghost use Rattle.std.specs.Process.{exit_status};
 ghost use Rattle.bay_stdio.specs.Descriptor.{accepted_octets};
-ghost use Rattle.bay_server_turn.specs.Calls.{Called};
+ghost use Rattle.bay_server_turn.specs.Calls.{CountedCall};
 ghost use Rattle.bay_main.specs.Ending.{status_of};
-ghost use Rattle.bay_main.specs.Program.{Concludes, OutputDrained, Runs, fresh_output, serves};
+ghost use Rattle.bay_main.specs.Program.{RunsFresh, OutputDrained, RunsProgram, fresh_output, names_serve};
 
 use crate::commands::obey;
 use crate::ending::CommandResult;
@@ -57,21 +57,21 @@ impl From<io::Error> for ArgumentFault {
 }
 
 // Returns the arguments after the program's name.
-fn words_of<R: Runtime<A = Global>>(rt: &R) -> Result<Vec<String>, ArgumentFault> {
+fn read_arguments<R: Runtime<A = Global>>(rt: &R) -> Result<Vec<String>, ArgumentFault> {
     let words = env::args(rt)?.skip(1).collect(rt.alloc())?;
     Ok(words)
 }
 
 // Returns whether the first argument is `serve`.
 fn is_serving(words: &[&str]) -> bool
-    ensures { result ≡ serves (map (λ w. w.now) words.now) }
+    ensures { result ≡ names_serve (map (λ w. w.now) words.now) }
 {
     matches!(words.first(), Some(word) if *word == "serve")
 }
 
 // Creates the output of a command. A slow reader of standard output does not block a server, and
 // one of standard error blocks no command.
-fn output_of<'a, R: AllocGlobal, O: Drop, E: Drop>(
+fn make_output<'a, R: AllocGlobal, O: Drop, E: Drop>(
     rt: &'a R,
     out: O,
     err: E,
@@ -107,7 +107,7 @@ fn obey_with<
     reader: &mut WatchedReader<S>,
     mut writer: WatchedWriter<SystemOutput<'_, R, O, E>>,
 ) -> ExitCode
-    ensures { Runs F.reads F.guards F.writes F.same (Called L.does L.failures) H.does S.remaining
+    ensures { RunsProgram F.reads F.guards F.writes F.same (CountedCall L.does L.failures) H.does S.remaining
         O.contents E.contents (map (λ w. w.now) words.now)
         (record { files = files.old; host = host.old; reader = reader.old; writer = writer.entry })
         (exit_status result) }
@@ -129,17 +129,17 @@ fn obey_words<
     O: Write + AsRawFd + Drop,
     E: Write + AsRawFd + Drop,
 >(rt: &'a R, out: O, err: E, words: &[&str]) -> Result<ExitCode, AllocError>
-    ensures { IfOk result (λ code. Concludes
+    ensures { IfOk result (λ code. RunsFresh
         ⟦<SystemFiles<'a, R> as FileSystem>⟧.reads
         ⟦<SystemFiles<'a, R> as FileSystem>⟧.guards
         ⟦<SystemFiles<'a, R> as FileSystem>⟧.writes
         ⟦<SystemFiles<'a, R> as FileSystem>⟧.same
-        (Called ⟦<TcpLink<'a, R> as Link>⟧.does ⟦<TcpLink<'a, R> as Link>⟧.failures)
+        (CountedCall ⟦<TcpLink<'a, R> as Link>⟧.does ⟦<TcpLink<'a, R> as Link>⟧.failures)
         ⟦<SystemHost<'a, R> as Host<TcpLink<'a, R>>>⟧.does
         ⟦<R::Reader as OctetSource>⟧.remaining
         O.contents E.contents (map (λ w. w.now) words.now) out err (exit_status code)) }
 {
-    let output = output_of(rt, out, err, is_serving(words))?;
+    let output = make_output(rt, out, err, is_serving(words))?;
     let mut files = SystemFiles::new(rt);
     let mut host = SystemHost::new(rt);
     let mut reader = WatchedReader::new(rt.reader());
@@ -153,7 +153,7 @@ fn obey_program<
     O: Write + AsRawFd + Drop,
     E: Write + AsRawFd + Drop,
 >(rt: &R, out: O, err: E) -> Result<ExitCode, ArgumentFault> {
-    let words = words_of(rt)?;
+    let words = read_arguments(rt)?;
     let texts: Vec<&str> = words.iter().map(|word| word.as_str()).collect(rt.alloc())?;
     Ok(obey_words(rt, out, err, texts.as_slice())?)
 }

@@ -25,19 +25,19 @@ pub struct Readiness {
     alloc: Global,
     poll: Poll,
     events: Events<Global>,
-    bells: Vec<Rc<Bell, Global>>,
+    listeners: Vec<Rc<ListenerState, Global>>,
 }
 
 /// Whether connections wait at a listener, as far as this is known.
 #[derive(Drop)]
-pub(crate) struct Bell {
+pub(crate) struct ListenerState {
     /// The last accept would have blocked, and the listener has had no event since.
     is_empty: Cell<bool>,
     /// A wait has ended in this state, and no accept was tried since.
     is_quiet: Cell<bool>,
 }
 
-impl Bell {
+impl ListenerState {
     /// Returns whether a wait has just ended and no connection waits. Returns true once for each
     /// wait, so a listener is called as often as no wait comes between.
     pub(crate) fn was_quiet(&self) -> bool {
@@ -67,23 +67,23 @@ impl Readiness {
             alloc,
             poll,
             events,
-            bells: Vec::new(alloc),
+            listeners: Vec::new(alloc),
         })
     }
 
     /// Registers a listener, whose token is its index.
-    pub(crate) fn add_listener(&mut self, listener: &TcpListener) -> io::Result<Rc<Bell, Global>> {
+    pub(crate) fn add_listener(&mut self, listener: &TcpListener) -> io::Result<Rc<ListenerState, Global>> {
         let descriptor = listener.as_raw_fd();
-        let token = Token(self.bells.len());
+        let token = Token(self.listeners.len());
         let registry = self.poll.registry();
         registry.register(&mut SourceFd(&descriptor), token, Interest::READABLE)?;
-        let bell = Bell {
+        let listener_state = ListenerState {
             is_empty: Cell::new(false),
             is_quiet: Cell::new(false),
         };
-        let bell = Rc::new(self.alloc, bell)?;
-        self.bells.push(bell.clone()?)?;
-        Ok(bell)
+        let listener_state = Rc::new(self.alloc, listener_state)?;
+        self.listeners.push(listener_state.clone()?)?;
+        Ok(listener_state)
     }
 
     /// Returns a handle with which connections are registered.
@@ -95,12 +95,12 @@ impl Readiness {
     pub fn wait(&mut self, most: Duration) -> io::Result<()> {
         self.poll.poll(&mut self.events, Some(most))?;
         for event in self.events.iter() {
-            if let Some(bell) = self.bells.as_slice().get(event.token().0) {
-                bell.is_empty.set(false);
+            if let Some(listener_state) = self.listeners.as_slice().get(event.token().0) {
+                listener_state.is_empty.set(false);
             }
         }
-        for bell in self.bells.as_slice() {
-            bell.is_quiet.set(bell.is_empty.get());
+        for listener_state in self.listeners.as_slice() {
+            listener_state.is_quiet.set(listener_state.is_empty.get());
         }
         Ok(())
     }

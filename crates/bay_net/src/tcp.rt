@@ -2,7 +2,7 @@
 ghost use Rattle.std.specs.Prelude.{◌≡◌, ◌+◌, ◌-◌, ◌<◌, min};
 ghost use Rattle.std.specs.Io.{ReadsAtMost, WritesAtMost};
 
-use crate::readiness::{Bell, Readiness, add_stream};
+use crate::readiness::{ListenerState, Readiness, add_stream};
 use bay_device::event::ASSOCIATIONS;
 use bay_server_turn::link::{Link, LinkFault, ReadResult};
 use mio::Registry;
@@ -31,14 +31,14 @@ pub struct TcpLink<'a, C> {
     clock: &'a C,
     registry: Registry,
     listener: TcpListener,
-    bell: Rc<Bell, Global>,
+    listener_state: Rc<ListenerState, Global>,
     peers: [Option<Peer>; ASSOCIATIONS],
     idle_s: Option<u32>,
     failures: u64,
 }
 
 // Returns whether a call would have blocked.
-fn would_wait(error: &io::Error) -> bool {
+fn would_block(error: &io::Error) -> bool {
     error.kind() == ErrorKind::WouldBlock || error.kind() == ErrorKind::Interrupted
 }
 
@@ -105,12 +105,12 @@ impl<'a, C: Clock> TcpLink<'a, C> {
         let address = SocketAddr::from((Ipv4Addr::LOCALHOST, port));
         let listener = TcpListener::bind(rt, address)?;
         listener.set_nonblocking(true)?;
-        let bell = readiness.add_listener(&listener)?;
+        let listener_state = readiness.add_listener(&listener)?;
         Ok(TcpLink {
             clock,
             registry,
             listener,
-            bell,
+            listener_state,
             peers: [None, None, None, None, None, None, None, None],
             idle_s,
             failures: 0,
@@ -149,29 +149,29 @@ impl<'a, C: Clock> TcpLink<'a, C> {
     }
 
     // Whether a connection has sent nothing for too long.
-    fn is_idle(&self, place: usize) -> bool {
-        match self.peers.get(place) {
+    fn is_idle(&self, slot: usize) -> bool {
+        match self.peers.get(slot) {
             Some(Some(peer)) => peer.is_idle(self.clock),
             _ => false,
         }
     }
 
     // Records that a connection has sent octets.
-    fn note_octets(&mut self, place: usize)
+    fn note_octets(&mut self, slot: usize)
         ensures { self.new.failures ≡ self.old.failures }
     {
         let since = match self.idle_s {
             Some(_) => Instant::now(self.clock).ok(),
             None => None,
         };
-        if let Some(Some(peer)) = self.peers.get_mut(place) {
+        if let Some(Some(peer)) = self.peers.get_mut(slot) {
             peer.silent_since = since;
             peer.limit_s = u64::from(self.idle_s.unwrap_or(0));
         }
     }
 
     // Counts a failed call.
-    fn failed(&mut self) -> LinkFault
+    fn count_failure(&mut self) -> LinkFault
         ensures { self.new.failures ≡ min (self.old.failures + 1) 18446744073709551615 }
     {
         self.failures = self.failures.saturating_add(1);
@@ -185,39 +185,39 @@ impl<C: Clock> Link for TcpLink<'_, C> {
     // Does not call the system after a wait that found no connection. A connection that can't be
     // accepted, for example for lack of descriptors, is tried again.
     fn accept(&mut self, association: u16) -> Result<Option<SocketAddrV4>, LinkFault> {
-        if self.bell.was_quiet() {
+        if self.listener_state.was_quiet() {
             return Ok(None);
         }
         let accepted = self.accept_one();
-        self.bell.set_empty(is_blocked(&accepted));
+        self.listener_state.set_empty(is_blocked(&accepted));
         match accepted {
             Ok((peer, from)) => {
                 self.peers[association as usize - 1] = Some(peer);
                 Ok(Some(from))
             }
-            Err(error) if would_wait(&error) => Ok(None),
-            Err(_) => Err(self.failed()),
+            Err(error) if would_block(&error) => Ok(None),
+            Err(_) => Err(self.count_failure()),
         }
     }
 
     fn read(&mut self, association: u16, room: &mut [u8]) -> Result<ReadResult, LinkFault> {
-        let place = association as usize - 1;
-        match read_some(&self.peers[place], room) {
+        let slot = association as usize - 1;
+        match read_some(&self.peers[slot], room) {
             Ok(0) => Ok(ReadResult::End),
             Ok(n) => {
-                self.note_octets(place);
+                self.note_octets(slot);
                 Ok(ReadResult::Bytes(n))
             }
-            Err(error) if would_wait(&error) && !self.is_idle(place) => Ok(ReadResult::Nothing),
-            Err(_) => Err(self.failed()),
+            Err(error) if would_block(&error) && !self.is_idle(slot) => Ok(ReadResult::Nothing),
+            Err(_) => Err(self.count_failure()),
         }
     }
 
     fn write(&mut self, association: u16, octets: &[u8]) -> Result<usize, LinkFault> {
         match write_some(&self.peers[association as usize - 1], octets) {
             Ok(n) => Ok(n),
-            Err(error) if would_wait(&error) => Ok(0),
-            Err(_) => Err(self.failed()),
+            Err(error) if would_block(&error) => Ok(0),
+            Err(_) => Err(self.count_failure()),
         }
     }
 

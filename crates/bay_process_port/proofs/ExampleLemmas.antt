@@ -3,14 +3,14 @@ use Rattle.std.proofs.Common.{◌≡◌, ℕ, false, List, [], ◌∷◌, ◌++�
 use Rattle.std.specs.declared.net.socket_addr.SocketAddrV4.{SocketAddrV4}
 use Rattle.bay_device.specs.Device.{State}
 use Rattle.bay_lines.specs.LineRemovals.{AreLines}
-use Rattle.bay_server_turn.specs.Calls.{Over, Silence}
+use Rattle.bay_server_turn.specs.Calls.{StreamEnd, Silence}
 use Rattle.bay_process_port.specs.Examples.{sent_after_a}
 use Rattle.bay_process_port.specs.ProcessOutput.{ReportedTurn}
 use Rattle.bay_process_port.specs.Uses.{LosesNoLine}
 
 pub keeps-front : (t : ReportedTurn) (s : State) (from : SocketAddrV4)
     → LosesNoLine false None (sent_after_a Silence t s from)
-keeps-front t s from = record { lines = []; text = []; are = refl; given = refl; had = refl }
+keeps-front t s from = record { lines = []; text = []; are = refl; given = refl; lines_read = refl }
 
 nothing-ends : (content rest : List ℕ) → [] ≡ (content ++ 10 ∷ []) ++ rest → ⊥
 nothing-ends [] rest is = absurd cc
@@ -27,7 +27,7 @@ no-lines (line ∷ lines) text (piece, rest, whole, ended, are) is =
     no-end ended.content rest (is ∙ whole ∙ ap (λ p. p ++ rest) ended.ended)
 
 pub loses-front : (t : ReportedTurn) (s : State) (from : SocketAddrV4)
-    → LosesNoLine false None (sent_after_a Over t s from) → ⊥
+    → LosesNoLine false None (sent_after_a StreamEnd t s from) → ⊥
 loses-front t s from h =
     let given : 65 ∷ [] ≡ h.text ++ [] = h.given in
     no-lines h.lines h.text h.are (given ∙ append-nil h.text)

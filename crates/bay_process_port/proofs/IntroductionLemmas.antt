@@ -6,18 +6,18 @@ use Rattle.std.specs.Str.{all_ascii_digits}
 use Rattle.bay_base.specs.Decimals.{read_number}
 use Rattle.bay_base.specs.Options.{◌>>=◌}
 use Rattle.bay_device.specs.Device.{State}
-use Rattle.bay_trace.specs.Trace.{event_of, is_space, name_of, named_of}
+use Rattle.bay_trace.specs.Trace.{event_of, is_space, name_of, named_event_of}
 use Rattle.bay_server_turn.specs.Served.{event_in_line}
 use Rattle.bay_server_turn.specs.Supervised.{text_without_end}
 use Rattle.bay_server_turn.proofs.SupervisedLemmas.{number-digits, stripped-is, unread}
-use Rattle.bay_process_port.specs.Introduction.{introduced_at}
+use Rattle.bay_process_port.specs.Introduction.{introduction_moment}
 
 bay-event : (words : List (List ℕ)) → event_of (codes "bay" ∷ words) ≡ None
 bay-event [] = refl
-bay-event (word ∷ words) = by-name (name_of word)
+bay-event (message ∷ words) = by-name (name_of message)
   where
     by-name : (o : Option (List ℕ))
-        → option_and_then (λ name. named_of (codes "bay") name words) o ≡ None
+        → option_and_then (λ name. named_event_of (codes "bay") name words) o ≡ None
     by-name None = refl
     by-name (Some name) = refl
 
@@ -44,7 +44,7 @@ pub record Introduces (key domain revision line : List ℕ) (moment : ℕ) : Typ
       ≡ digits ++ codes " bay " ++ key ++ codes " " ++ domain ++ codes " " ++ revision
 
 pub introduced-is : (key domain revision line : List ℕ) (moment : ℕ)
-    → introduced_at key domain revision line ≡ Some moment
+    → introduction_moment key domain revision line ≡ Some moment
     → Introduces key domain revision line moment
 introduced-is key domain revision line moment e =
     by1 (text_without_end revision line) refl e
@@ -120,7 +120,7 @@ introduced-is key domain revision line moment e =
 
 -- it tells of no event
 pub introduced-untold : (s : State) (key domain revision line : List ℕ) (moment : ℕ)
-    → introduced_at key domain revision line ≡ Some moment → event_in_line s line ≡ None
+    → introduction_moment key domain revision line ≡ Some moment → event_in_line s line ≡ None
 introduced-untold s key domain revision line moment e =
     let i = introduced-is key domain revision line moment e in
     let tail = key ++ codes " " ++ domain ++ codes " " ++ revision in

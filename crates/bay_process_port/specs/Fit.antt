@@ -19,6 +19,6 @@ abbrev pub line_or_none : List ℕ → Option (List ℕ)
 line_or_none line = if has_process_event line then Some line else None
 
 -- this was found as the first line of octets
-pub record IsInFront (octets : List ℕ) (found : LineSearch) : Type 0 where
+pub record IsFirstLine (octets : List ℕ) (found : LineSearch) : Type 0 where
   pub value : first_line_view octets found ≡ first_line_of octets
   pub within : LiesIn (length octets) found

@@ -4,7 +4,7 @@ use Rattle.std.specs.Fmt.{decimal}
 use Rattle.bay_device.specs.Device.{State}
 use Rattle.bay_lines.specs.Puts as puts
 use Rattle.bay_nodes.specs.declared.switch.Switch.{Switch}
-use Rattle.bay_process_port.specs.Supervised.{Watched}
+use Rattle.bay_process_port.specs.Supervised.{WatchData}
 use Rattle.bay_report.specs.Lines.{commands_text, refusal_line}
 use Rattle.bay_server_turn.specs.declared.turn_report.Turn.{Turn}
 
@@ -45,12 +45,12 @@ expiry_text now s None = []
 expiry_text now s (Some k) = expiry_part now (slice_get s.switches k)
 
 -- only a supervised process receives the line of an operate that has expired
-abbrev pub expiry_for : Option Watched → Option ℕ → Option ℕ
+abbrev pub expiry_for : Option WatchData → Option ℕ → Option ℕ
 expiry_for None over = None
 expiry_for (Some w) over = over
 
 -- the server is alive, if the turn took a line by which the process is
-abbrev pub lives_in : Option Watched → Bool
+abbrev pub lives_in : Option WatchData → Bool
 lives_in None = false
 lives_in (Some w) = w.lives
 
@@ -59,10 +59,10 @@ abbrev pub alive_text : ℕ → Bool → List ℕ
 alive_text now lives = if lives then decimal now ++ codes " alive\n" else []
 
 -- the greeting: the longest silence, and the bay of the server
-abbrev pub greeting_text : ℕ → State → Option Watched → List ℕ
+abbrev pub greeting_text : ℕ → State → Option WatchData → List ℕ
 greeting_text now s None = []
 greeting_text now s (Some w) =
-    decimal now ++ codes " process " ++ decimal w.duties.limit ++ codes " " ++ s.domain ++ codes " "
+    decimal now ++ codes " process " ++ decimal w.settings.limit ++ codes " " ++ s.domain ++ codes " "
     ++ s.revision ++ codes "\n"
 
 -- ---- the queue

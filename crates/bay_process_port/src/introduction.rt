@@ -20,7 +20,7 @@ fn is_same_key(given: &[u8], key: &[u8]) -> bool
 }
 
 // Returns the text before a key at its end; `None` if it does not end with the key.
-fn before_key<'a>(text: &'a [u8], key: &[u8]) -> Option<&'a [u8]>
+fn strip_key<'a>(text: &'a [u8], key: &[u8]) -> Option<&'a [u8]>
     ensures { option_map (λ rest. rest.now) result ≡ text_without_end key.now text.entry.now }
 {
     if text.len() < key.len() {
@@ -36,13 +36,13 @@ fn before_key<'a>(text: &'a [u8], key: &[u8]) -> Option<&'a [u8]>
 
 /// Reads the first line of a supervised process, `T bay KEY DOMAIN REVISION`. Returns its moment T,
 /// in milliseconds since 1970; `None` if the line has another form, key, domain or revision.
-pub fn introduced_at(key: &[u8], domain: &str, revision: &str, line: &[u8]) -> Option<u64>
-    ensures { result ≡ spec.introduced_at key.now domain.now revision.now line.now }
+pub fn read_introduction(key: &[u8], domain: &str, revision: &str, line: &[u8]) -> Option<u64>
+    ensures { result ≡ spec.introduction_moment key.now domain.now revision.now line.now }
 {
     let rest = line.strip_suffix(revision.as_bytes())?;
     let rest = rest.strip_suffix(b" ")?;
     let rest = rest.strip_suffix(domain.as_bytes())?;
     let rest = rest.strip_suffix(b" ")?;
-    let rest = before_key(rest, key)?;
+    let rest = strip_key(rest, key)?;
     read_decimal(rest.strip_suffix(b" bay ")?)
 }

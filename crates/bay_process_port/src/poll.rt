@@ -1,7 +1,7 @@
 // Serves the connection of the process after a turn.
 ghost use Rattle.std.specs.Prelude.{◌≡◌};
-ghost use Rattle.bay_server_turn.specs.Calls.{Called};
-ghost use Rattle.bay_process_port.specs.Polling.{Attends, ClosesDismissed, Does, accepted_in, attendance, first_part, exchange_part, after_greeting};
+ghost use Rattle.bay_server_turn.specs.Calls.{CountedCall};
+ghost use Rattle.bay_process_port.specs.Polling.{Polls, ClosesDismissed, PerformsPart, accept_outcome, poll_outcome, first_part, exchange_part, after_greeting};
 ghost use Rattle.bay_process_port.specs.Ports.{StaysBound, with_no_data};
 ghost use Rattle.bay_process_port.specs.ProcessOutput.{reported_turn};
 
@@ -20,7 +20,7 @@ fn exchange<L: Link>(
     moment: u64,
     turn: &Turn,
 ) -> Result<(), DisconnectReason>
-    ensures does { Does (Called L.does L.failures)
+    ensures does { PerformsPart (CountedCall L.does L.failures)
         (exchange_part (reported_turn moment turn.now device.now) device.now)
         link.old link.new port.old port.new result }
     ensures bound { StaysBound port.old port.new }
@@ -37,17 +37,17 @@ fn start_connection<L: Link>(
     device: &Device,
     moment: u64,
 ) -> Option<ConnectionEvent>
-    ensures { Attends (Called L.does L.failures)
+    ensures { Polls (CountedCall L.does L.failures)
         (λ script. after_greeting port.old (first_part moment device.now
-        (script.heard, script.again) (with_no_data Presence.Here port.old)))
+        (script.heard, script.again) (with_no_data Presence.Present port.old)))
         link.old link.new port.new result }
 {
-    port.set_presence(Presence::Here);
+    port.set_presence(Presence::Present);
     match port.begin(link, device, moment) {
         Ok(()) => Some(ConnectionEvent::Opened),
         Err(_) => {
             link.close(PROCESS);
-            port.set_presence(Presence::Away);
+            port.set_presence(Presence::Absent);
             None
         }
     }
@@ -60,8 +60,8 @@ fn accept<L: Link>(
     device: &Device,
     moment: u64,
 ) -> Option<ConnectionEvent>
-    ensures { Attends (Called L.does L.failures)
-        (λ script. accepted_in moment device.now script.accepted (script.heard, script.again)
+    ensures { Polls (CountedCall L.does L.failures)
+        (λ script. accept_outcome moment device.now script.accepted (script.heard, script.again)
         port.old)
         link.old link.new port.new result }
 {
@@ -74,7 +74,7 @@ fn accept<L: Link>(
 
 // Closes the connection of a process that a turn has dismissed, and returns why.
 fn close_dismissed<L: Link>(port: &mut Port, link: &mut L) -> Option<ConnectionEvent>
-    ensures { ClosesDismissed (Called L.does L.failures) port.old.presence link.old link.new
+    ensures { ClosesDismissed (CountedCall L.does L.failures) port.old.presence link.old link.new
         port.old
         port.new result }
 {
@@ -107,19 +107,19 @@ pub fn poll<L: Link>(
     moment: u64,
     turn: &Turn,
 ) -> Option<ConnectionEvent>
-    ensures { Attends (Called L.does L.failures)
-        (λ script. attendance (reported_turn moment turn.now device.now) device.now script port.old)
+    ensures { Polls (CountedCall L.does L.failures)
+        (λ script. poll_outcome (reported_turn moment turn.now device.now) device.now script port.old)
         link.old link.new port.new result }
 {
     match port.presence() {
-        Presence::Away => accept(port, link, device, moment),
-        Presence::Leaving => None,
+        Presence::Absent => accept(port, link, device, moment),
+        Presence::LossPending => None,
         Presence::Dismissed(_) => close_dismissed(port, link),
-        Presence::Here => match exchange(port, link, device, moment, turn) {
+        Presence::Present => match exchange(port, link, device, moment, turn) {
             Ok(()) => None,
             Err(why) => {
                 link.close(PROCESS);
-                port.set_presence(Presence::Leaving);
+                port.set_presence(Presence::LossPending);
                 Some(ConnectionEvent::Closed(why))
             }
         },

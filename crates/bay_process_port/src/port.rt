@@ -1,12 +1,12 @@
 // The state of the port of a process.
 ghost use Rattle.std.specs.Prelude.{◌≡◌, false, None, IfOk, option_map};
-ghost use Rattle.bay_server_turn.specs.Calls.{Called};
-ghost use Rattle.bay_process_port.specs.Polling.{Does, Leads, first_part, greet_part, offer_part, read_by, with_report_queued};
-ghost use Rattle.bay_process_port.specs.Ports.{StaysBound, initial_port, with_no_data, judged_at, line_reading, reason_in, after_dismissal, shown_line, reading_here, reading_at, loss_reading};
+ghost use Rattle.bay_server_turn.specs.Calls.{CountedCall};
+ghost use Rattle.bay_process_port.specs.Polling.{PerformsPart, IsPartResult, first_part, greet_part, offer_part, read_part, with_report_queued};
+ghost use Rattle.bay_process_port.specs.Ports.{StaysBound, initial_port, with_no_data, judge_port, line_reading, reason_in, after_dismissal, shown_line, connected_reading, port_reading, loss_reading};
 ghost use Rattle.bay_process_port.specs.Ports as spec;
 ghost use Rattle.bay_lines.specs.FirstLines.{first_line_of};
 ghost use Rattle.bay_process_port.specs.ProcessOutput.{lives_in, reported_turn};
-ghost use Rattle.bay_process_port.specs.Supervised.{after_alive_answer, event_in, heard_at, line_in, initial_watch};
+ghost use Rattle.bay_process_port.specs.Supervised.{after_alive_answer, event_in, active_at, line_in, initial_watch};
 
 use crate::connection_event::DisconnectReason;
 use crate::process_output::{ProcessQueue, put_alive, put_expiry, put_greeting, put_turn_report};
@@ -39,15 +39,15 @@ pub const PROCESS: u16 = 1;
 #[derive(Drop)]
 pub enum Presence {
     /// It is not connected, and may connect.
-    Away,
+    Absent,
     /// It has disconnected, or is supervised and has not connected yet, and no turn has handled its
     /// loss.
-    Leaving,
+    LossPending,
     /// A turn has handled its loss, since it is no longer believed for this reason. Its connection
     /// must still be closed.
     Dismissed(DisconnectReason),
     /// It is connected.
-    Here,
+    Present,
 }
 
 /// The input of a turn from the port: whether the process is lost, an event, if there is one, and
@@ -74,12 +74,12 @@ impl PortInput {
     }
 
     // Creates an input with the event of a line, if it has one.
-    fn of(word: ProcessMessage, line: &[u8]) -> PortInput
+    fn of(message: ProcessMessage, line: &[u8]) -> PortInput
         ensures lost { result.is_lost ≡ false }
-        ensures event { result.event ≡ event_in word }
-        ensures shown { result.shown ≡ shown_line (line_in word line.now) }
+        ensures event { result.event ≡ event_in message }
+        ensures shown { result.shown ≡ shown_line (line_in message line.now) }
     {
-        let event = word.event();
+        let event = message.event();
         let shown = if event.is_some() {
             EscapedText::new(line)
         } else {
@@ -99,10 +99,10 @@ impl PortInput {
 #[derive(Drop)]
 pub struct Port {
     presence: Presence,
-    kept: BoundedBuffer<ROOM>,
+    buffer: BoundedBuffer<ROOM>,
     found: LineSearch,
     queue: ProcessQueue,
-    told: Option<ReportedReleases>,
+    sent: Option<ReportedReleases>,
     watch: Option<SupervisedProcess>,
 }
 
@@ -112,54 +112,54 @@ impl Model for Port {
     ghost Value = { PortData };
 
     ghost view = { λ p. record
-        { presence = p.presence; kept = p.kept; queue = p.queue; told = p.told; watch = p.watch } };
+        { presence = p.presence; buffer = p.buffer; queue = p.queue; sent = p.sent; watch = p.watch } };
 
-    ghost use Rattle.bay_process_port.specs.Fit.{IsInFront};
+    ghost use Rattle.bay_process_port.specs.Fit.{IsFirstLine};
 
-    ghost invariant = { λ p. IsInFront p.kept p.found };
+    ghost invariant = { λ p. IsFirstLine p.buffer p.found };
 }
 
 // Returns the initial state of a process: a supervised one counts as lost.
-fn initial_presence(duties: &Option<SupervisionSettings>) -> Presence
-    ensures { result ≡ spec.initial_presence duties.now }
+fn initial_presence(settings: &Option<SupervisionSettings>) -> Presence
+    ensures { result ≡ spec.initial_presence settings.now }
 {
-    match duties {
-        Some(_) => Presence::Leaving,
-        None => Presence::Away,
+    match settings {
+        Some(_) => Presence::LossPending,
+        None => Presence::Absent,
     }
 }
 
 // Returns the supervision of a process that has not connected yet, if it is supervised.
-fn supervision_for(duties: Option<SupervisionSettings>) -> Option<SupervisedProcess>
-    ensures { result ≡ option_map initial_watch duties }
+fn supervision_for(settings: Option<SupervisionSettings>) -> Option<SupervisedProcess>
+    ensures { result ≡ option_map initial_watch settings }
 {
-    match duties {
-        Some(duties) => Some(SupervisedProcess::new(duties)),
+    match settings {
+        Some(settings) => Some(SupervisedProcess::new(settings)),
         None => None,
     }
 }
 
 impl Port {
-    /// Creates a port to which a process may connect, which receives releases if `tells_releases`
+    /// Creates a port to which a process may connect, which receives releases if `sends_releases`
     /// is true, and is supervised if there are settings for it. Allocates its buffer and its queue;
     /// fails only if that fails.
     pub fn new(
         alloc: Global,
-        tells_releases: bool,
-        duties: Option<SupervisionSettings>,
+        sends_releases: bool,
+        settings: Option<SupervisionSettings>,
     ) -> Result<Self, AllocError>
-        ensures { IfOk result (λ port. port ≡ initial_port tells_releases duties) }
+        ensures { IfOk result (λ port. port ≡ initial_port sends_releases settings) }
     {
-        let kept = BoundedBuffer::new(alloc)?;
+        let buffer = BoundedBuffer::new(alloc)?;
         let queue = BoundedBuffer::new(alloc)?;
-        let presence = initial_presence(&duties);
+        let presence = initial_presence(&settings);
         Ok(Port {
             presence,
-            kept,
+            buffer,
             found: LineSearch::Waiting,
             queue,
-            told: nothing_reported(tells_releases),
-            watch: supervision_for(duties),
+            sent: nothing_reported(sends_releases),
+            watch: supervision_for(settings),
         })
     }
 
@@ -172,7 +172,7 @@ impl Port {
 
     /// Returns how many octets are buffered, and how many are queued.
     pub fn sizes(&self) -> (usize, usize) {
-        (self.kept.as_slice().len(), self.queue.as_slice().len())
+        (self.buffer.as_slice().len(), self.queue.as_slice().len())
     }
 
     /// Sets the state of the process. Drops all octets that are buffered or queued, and forgets
@@ -181,10 +181,10 @@ impl Port {
         ensures { self.new ≡ with_no_data presence self.old }
     {
         self.presence = presence;
-        self.kept.clear();
+        self.buffer.clear();
         self.found = LineSearch::Waiting;
         self.queue.clear();
-        self.told = nothing_reported(self.told.is_some());
+        self.sent = nothing_reported(self.sent.is_some());
         if let Some(watch) = &mut self.watch {
             watch.forget();
         }
@@ -197,17 +197,17 @@ impl Port {
         now: u64,
         jump: u64,
     ) -> Result<Option<TimedMessage>, DisconnectReason>
-        ensures { result ≡ judged_at device.now now jump self.now }
+        ensures { result ≡ judge_port device.now now jump self.now }
     {
         if has_jumped(&self.watch, jump) {
             return Err(DisconnectReason::Jumped);
         }
         match self.found {
             LineSearch::Waiting => check_silence(&self.watch, now),
-            LineSearch::Overlong => Err(overlong_reason(&self.watch, self.kept.as_slice())),
+            LineSearch::Overlong => Err(overlong_reason(&self.watch, self.buffer.as_slice())),
             LineSearch::Whole { line, .. } => {
-                match check_line(&self.watch, device, now, &self.kept.as_slice()[..line]) {
-                    Ok(said) => Ok(Some(said)),
+                match check_line(&self.watch, device, now, &self.buffer.as_slice()[..line]) {
+                    Ok(received) => Ok(Some(received)),
                     Err(why) => Err(why),
                 }
             }
@@ -215,25 +215,25 @@ impl Port {
     }
 
     // Takes the first line, which was judged to be this message, if there is a whole one.
-    fn accept_line(&mut self, now: u64, said: TimedMessage) -> PortInput
+    fn accept_line(&mut self, now: u64, received: TimedMessage) -> PortInput
         ensures lost { result.is_lost
-            ≡ (line_reading now said (first_line_of self.old.kept) self.old).is_lost }
+            ≡ (line_reading now received (first_line_of self.old.buffer) self.old).is_lost }
         ensures event { result.event
-            ≡ (line_reading now said (first_line_of self.old.kept) self.old).event }
+            ≡ (line_reading now received (first_line_of self.old.buffer) self.old).event }
         ensures shown { result.shown
-            ≡ shown_line (line_reading now said (first_line_of self.old.kept) self.old).line }
+            ≡ shown_line (line_reading now received (first_line_of self.old.buffer) self.old).line }
         ensures port { self.new
-            ≡ (line_reading now said (first_line_of self.old.kept) self.old).port }
+            ≡ (line_reading now received (first_line_of self.old.buffer) self.old).port }
     {
         match self.found {
             LineSearch::Waiting => PortInput::none(false),
             LineSearch::Overlong => PortInput::none(false),
             LineSearch::Whole { line, end } => {
-                let given = PortInput::of(said.word, &self.kept.as_slice()[..line]);
-                self.kept.remove_first(end);
-                self.found = first_line(self.kept.as_slice());
+                let given = PortInput::of(received.message, &self.buffer.as_slice()[..line]);
+                self.buffer.remove_first(end);
+                self.found = first_line(self.buffer.as_slice());
                 if let Some(watch) = &mut self.watch {
-                    watch.accept_message(now, said);
+                    watch.accept_message(now, received);
                 }
                 given
             }
@@ -241,15 +241,15 @@ impl Port {
     }
 
     // Takes the next line of a connected process, or that it is believed no more.
-    fn take_here(&mut self, device: &Device, now: u64, jump: u64) -> PortInput
-        ensures lost { result.is_lost ≡ (reading_here device.now now jump self.old).is_lost }
-        ensures event { result.event ≡ (reading_here device.now now jump self.old).event }
-        ensures shown { result.shown ≡ shown_line (reading_here device.now now jump self.old).line }
-        ensures port { self.new ≡ (reading_here device.now now jump self.old).port }
+    fn take_connected_line(&mut self, device: &Device, now: u64, jump: u64) -> PortInput
+        ensures lost { result.is_lost ≡ (connected_reading device.now now jump self.old).is_lost }
+        ensures event { result.event ≡ (connected_reading device.now now jump self.old).event }
+        ensures shown { result.shown ≡ shown_line (connected_reading device.now now jump self.old).line }
+        ensures port { self.new ≡ (connected_reading device.now now jump self.old).port }
     {
         match self.check(device, now, jump) {
             Ok(None) => PortInput::none(false),
-            Ok(Some(said)) => self.accept_line(now, said),
+            Ok(Some(received)) => self.accept_line(now, received),
             Err(why) => {
                 self.set_presence(Presence::Dismissed(why));
                 PortInput::none(true)
@@ -263,19 +263,19 @@ impl Port {
     /// it has gone, or if it is believed no more: its line ends the connection, or it is supervised
     /// and silent for longer than it may be, or the system's clock has jumped by more than that.
     pub fn take_line(&mut self, device: &Device, now: u64, jump: u64) -> PortInput
-        ensures lost { result.is_lost ≡ (reading_at device.now now jump self.old).is_lost }
-        ensures event { result.event ≡ (reading_at device.now now jump self.old).event }
-        ensures shown { result.shown ≡ shown_line (reading_at device.now now jump self.old).line }
-        ensures port { self.new ≡ (reading_at device.now now jump self.old).port }
+        ensures lost { result.is_lost ≡ (port_reading device.now now jump self.old).is_lost }
+        ensures event { result.event ≡ (port_reading device.now now jump self.old).event }
+        ensures shown { result.shown ≡ shown_line (port_reading device.now now jump self.old).line }
+        ensures port { self.new ≡ (port_reading device.now now jump self.old).port }
     {
         match self.presence {
-            Presence::Away => PortInput::none(false),
-            Presence::Leaving => {
-                self.set_presence(Presence::Away);
+            Presence::Absent => PortInput::none(false),
+            Presence::LossPending => {
+                self.set_presence(Presence::Absent);
                 PortInput::none(true)
             }
             Presence::Dismissed(_) => PortInput::none(false),
-            Presence::Here => self.take_here(device, now, jump),
+            Presence::Present => self.take_connected_line(device, now, jump),
         }
     }
 
@@ -286,13 +286,13 @@ impl Port {
         ensures port { self.new ≡ (loss_reading device.now now jump self.old).port }
     {
         match self.presence {
-            Presence::Away => false,
-            Presence::Leaving => {
-                self.set_presence(Presence::Away);
+            Presence::Absent => false,
+            Presence::LossPending => {
+                self.set_presence(Presence::Absent);
                 true
             }
             Presence::Dismissed(_) => false,
-            Presence::Here => match self.check(device, now, jump) {
+            Presence::Present => match self.check(device, now, jump) {
                 Ok(_) => false,
                 Err(why) => {
                     self.set_presence(Presence::Dismissed(why));
@@ -303,7 +303,7 @@ impl Port {
     }
 
     /// If a turn has dismissed the process and its connection is still to be closed, returns why,
-    /// and sets the presence to `Away`.
+    /// and sets the presence to `Absent`.
     pub(crate) fn take_dismissal(&mut self) -> Option<DisconnectReason>
         ensures reason { result ≡ reason_in self.old.presence }
         ensures port { self.new ≡ after_dismissal self.old.presence self.old }
@@ -311,8 +311,8 @@ impl Port {
         if !matches!(self.presence, Presence::Dismissed(_)) {
             return None;
         }
-        let before = mem::replace(&mut self.presence, Presence::Away);
-        self.set_presence(Presence::Away);
+        let before = mem::replace(&mut self.presence, Presence::Absent);
+        self.set_presence(Presence::Absent);
         match before {
             Presence::Dismissed(why) => Some(why),
             _ => None,
@@ -339,7 +339,7 @@ impl Port {
         moment: u64,
         turn: &Turn,
     ) -> Result<(), DisconnectReason>
-        ensures leads { Leads (with_report_queued (reported_turn moment turn.now device.now) device.now
+        ensures leads { IsPartResult (with_report_queued (reported_turn moment turn.now device.now) device.now
             self.old).after
             self.new result }
         ensures bound { StaysBound self.old self.new }
@@ -352,7 +352,7 @@ impl Port {
         let lives = self.answer();
         if put_expiry(&mut self.queue, device, moment, over)
             && put_turn_report(&mut self.queue, device, moment, turn)
-            && put_releases(&mut self.queue, device, &mut self.told)
+            && put_releases(&mut self.queue, device, &mut self.sent)
             && put_alive(&mut self.queue, moment, lives)
         {
             Ok(())
@@ -364,7 +364,7 @@ impl Port {
     /// Queues the greeting of a process that was accepted, if it is supervised; fails with
     /// `QueueFull` if there is not room for it.
     pub(crate) fn greet(&mut self, device: &Device, moment: u64) -> Result<(), DisconnectReason>
-        ensures leads { Leads (greet_part moment device.now self.old).after self.new result }
+        ensures leads { IsPartResult (greet_part moment device.now self.old).after self.new result }
         ensures bound { StaysBound self.old self.new }
     {
         if put_greeting(&mut self.queue, device, moment, &self.watch) {
@@ -377,7 +377,7 @@ impl Port {
 
     // Records that the process was active at a moment, if it was not active later.
     fn mark_active(&mut self, moment: u64)
-        ensures after { self.new ≡ record self.old { watch = heard_at moment self.old.watch } }
+        ensures after { self.new ≡ record self.old { watch = active_at moment self.old.watch } }
         ensures bound { StaysBound self.old self.new }
     {
         if let Some(watch) = &mut self.watch {
@@ -388,7 +388,7 @@ impl Port {
     /// Writes the queue once, as much as the link takes, if there is anything in it. Fails with
     /// `LinkFailed`.
     pub(crate) fn offer<L: Link>(&mut self, link: &mut L) -> Result<(), DisconnectReason>
-        ensures does { Does (Called L.does L.failures) offer_part link.old link.new self.old
+        ensures does { PerformsPart (CountedCall L.does L.failures) offer_part link.old link.new self.old
             self.new result }
         ensures bound { StaysBound self.old self.new }
     {
@@ -407,7 +407,7 @@ impl Port {
     /// Reads once, if no whole line is buffered. Fails with `Ended` if the process sends no more,
     /// and with `LinkFailed`.
     pub(crate) fn read<L: Link>(&mut self, link: &mut L) -> Result<(), DisconnectReason>
-        ensures does { Does (Called L.does L.failures) read_by link.old link.new self.old self.new
+        ensures does { PerformsPart (CountedCall L.does L.failures) read_part link.old link.new self.old self.new
             result }
         ensures bound { StaysBound self.old self.new }
     {
@@ -417,8 +417,8 @@ impl Port {
         let mut room = [0; PIECE];
         match link.read(PROCESS, &mut room) {
             Ok(ReadResult::Bytes(count)) => {
-                self.kept.put(&room[..count]);
-                self.found = first_line(self.kept.as_slice());
+                self.buffer.put(&room[..count]);
+                self.found = first_line(self.buffer.as_slice());
                 Ok(())
             }
             Ok(ReadResult::Nothing) => Ok(()),
@@ -435,7 +435,7 @@ impl Port {
         device: &Device,
         moment: u64,
     ) -> Result<(), DisconnectReason>
-        ensures does { Does (Called L.does L.failures) (first_part moment device.now) link.old
+        ensures does { PerformsPart (CountedCall L.does L.failures) (first_part moment device.now) link.old
             link.new self.old self.new result }
         ensures bound { StaysBound self.old self.new }
     {

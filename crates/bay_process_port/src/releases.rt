@@ -24,9 +24,9 @@ pub struct ReportedReleases {
 
 impl Model for ReportedReleases {
     ghost use Rattle.std.specs.Prelude.{◌≡◌, List, Option, length};
-    ghost use Rattle.bay_process_port.specs.Releases.{Release};
+    ghost use Rattle.bay_process_port.specs.Releases.{ReleaseData};
 
-    ghost Value = { List (Option Release) };
+    ghost Value = { List (Option ReleaseData) };
 
     ghost view = { λ t. t.releases };
 
@@ -45,20 +45,20 @@ impl ReportedReleases {
     }
 
     // Records the releases of a device as those that were sent last.
-    fn learn(&mut self, device: &Device)
+    fn mark_sent(&mut self, device: &Device)
         ensures { self.new ≡ map (enabled_of device.now) (range_with_len 0 (length self.old)) }
     {
-        for place in 0..SWITCHES {
-            self.releases[place] = device.ena(place);
+        for index in 0..SWITCHES {
+            self.releases[index] = device.ena(index);
         }
     }
 }
 
 /// Returns the state before anything was sent, if a process receives releases.
-pub fn nothing_reported(tells_releases: bool) -> Option<ReportedReleases>
-    ensures { result ≡ (if tells_releases then Some no_releases_sent else None) }
+pub fn nothing_reported(sends_releases: bool) -> Option<ReportedReleases>
+    ensures { result ≡ (if sends_releases then Some no_releases_sent else None) }
 {
-    if tells_releases {
+    if sends_releases {
         Some(ReportedReleases::new())
     } else {
         None
@@ -88,13 +88,13 @@ fn put_release_line(queue: &mut ProcessQueue, id: &str, release: SwitchRelease) 
 fn put_release(
     queue: &mut ProcessQueue,
     device: &Device,
-    place: usize,
+    index: usize,
     release: SwitchRelease,
 ) -> bool
-    ensures { PutsWhole queue.old (release_part release (slice_get device.now.switches place))
+    ensures { PutsWhole queue.old (release_part release (slice_get device.now.switches index))
         queue.new result }
 {
-    match device.id(place) {
+    match device.id(index) {
         Some(id) => put_release_line(queue, id, release),
         None => queue.put_parts(&[]),
     }
@@ -104,19 +104,19 @@ fn put_release(
 fn put_change(
     queue: &mut ProcessQueue,
     device: &Device,
-    place: usize,
+    index: usize,
     last: Option<SwitchRelease>,
 ) -> bool
     ensures { PutsWhole queue.old
-        (releases_text device.now (release_at place last (enabled_of device.now place))) queue.new
+        (releases_text device.now (release_at index last (enabled_of device.now index))) queue.new
         result }
 {
-    match device.ena(place) {
+    match device.ena(index) {
         Some(release) => {
             if is_same(last, release) {
                 queue.put_parts(&[])
             } else {
-                put_release(queue, device, place, release)
+                put_release(queue, device, index, release)
             }
         }
         None => queue.put_parts(&[]),
@@ -124,13 +124,13 @@ fn put_change(
 }
 
 // Appends the line of each switch whose release is not the one that was sent last.
-fn put_changes(queue: &mut ProcessQueue, device: &Device, told: &[Option<SwitchRelease>]) -> bool
-    ensures { PutsWhole queue.old (releases_text device.now (releases_from device.now 0 told.now))
+fn put_changes(queue: &mut ProcessQueue, device: &Device, sent: &[Option<SwitchRelease>]) -> bool
+    ensures { PutsWhole queue.old (releases_text device.now (releases_from device.now 0 sent.now))
         queue.new result }
 {
     prove!(queue.as_slice().len() <= QUEUE);
-    for place in 0..told.len() {
-        if !put_change(queue, device, place, told[place]) {
+    for index in 0..sent.len() {
+        if !put_change(queue, device, index, sent[index]) {
             return false;
         }
     }
@@ -143,16 +143,16 @@ fn put_changes(queue: &mut ProcessQueue, device: &Device, told: &[Option<SwitchR
 pub fn put_releases(
     queue: &mut ProcessQueue,
     device: &Device,
-    told: &mut Option<ReportedReleases>,
+    sent: &mut Option<ReportedReleases>,
 ) -> bool
     ensures queue { PutsWhole queue.old
-        (releases_text device.now (new_releases device.now told.old)) queue.new result }
-    ensures told { told.new ≡ sent_releases_after device.now told.old }
+        (releases_text device.now (new_releases device.now sent.old)) queue.new result }
+    ensures sent { sent.new ≡ sent_releases_after device.now sent.old }
 {
-    match told {
-        Some(told) => {
-            let is_put = put_changes(queue, device, told.releases.as_slice());
-            told.learn(device);
+    match sent {
+        Some(sent) => {
+            let is_put = put_changes(queue, device, sent.releases.as_slice());
+            sent.mark_sent(device);
             is_put
         }
         None => queue.put_parts(&[]),

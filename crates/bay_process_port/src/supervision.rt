@@ -1,15 +1,15 @@
 // Supervision of a process: its settings, its state, and how its lines are classified.
 ghost use Rattle.std.specs.Prelude.{◌≡◌, ◌≤◌, ◌-◌, false, Some, length, max, nat_le, option_map};
-ghost use Rattle.bay_process_port.specs.Supervised.{after_alive_answer, settings_in, heard_at, judge_introduction, is_timely, judge_line, judge_plain_line, judge_later_line, judge_moment, initial_watch, word_of};
+ghost use Rattle.bay_process_port.specs.Supervised.{after_alive_answer, settings_in, active_at, judge_introduction, is_timely, judge_line, judge_plain_line, judge_later_line, judge_moment, initial_watch, event_message};
 ghost use Rattle.bay_process_port.specs.Ports as spec_ports;
-ghost use Rattle.bay_process_port.specs.Ports.{silence};
+ghost use Rattle.bay_process_port.specs.Ports.{judge_silence};
 ghost use Rattle.bay_process_port.specs.Supervised as spec;
 ghost use Rattle.bay_server_turn.specs.Served.{event_in_line};
-ghost use Rattle.bay_process_port.specs.Introduction.{introduced_at};
+ghost use Rattle.bay_process_port.specs.Introduction.{introduction_moment};
 ghost use Rattle.bay_server_turn.specs.Supervised.{timed_line_of};
 
 use crate::connection_event::DisconnectReason;
-use crate::introduction::introduced_at;
+use crate::introduction::read_introduction;
 use arrayvec::ArrayVec;
 use bay_device::device::Device;
 use bay_lines::escaped::EscapedText;
@@ -59,16 +59,16 @@ impl SupervisionSettings {
     }
 
     // Returns the message with a moment, or `Untimely` if the moment is too far from the server's.
-    fn timely(
+    fn check_moment(
         &self,
         now: u64,
         moment: u64,
-        word: ProcessMessage,
+        message: ProcessMessage,
     ) -> Result<TimedMessage, DisconnectReason>
-        ensures { result ≡ judge_moment self.now.limit now moment word }
+        ensures { result ≡ judge_moment self.now.limit now moment message }
     {
         if self.is_timely(now, moment) {
-            Ok(TimedMessage { moment, word })
+            Ok(TimedMessage { moment, message })
         } else {
             Err(DisconnectReason::Untimely)
         }
@@ -82,15 +82,15 @@ impl SupervisionSettings {
         line: &[u8],
     ) -> Result<TimedMessage, DisconnectReason>
         ensures { result ≡ judge_introduction self.now now
-            (introduced_at self.now.key device.now.domain device.now.revision line.now) }
+            (introduction_moment self.now.key device.now.domain device.now.revision line.now) }
     {
-        match introduced_at(
+        match read_introduction(
             self.key.as_slice(),
             device.domain(),
             device.revision(),
             line,
         ) {
-            Some(moment) => self.timely(now, moment, ProcessMessage::Introduces),
+            Some(moment) => self.check_moment(now, moment, ProcessMessage::Introduces),
             None => Err(DisconnectReason::Foreign),
         }
     }
@@ -112,7 +112,7 @@ pub enum ProcessMessage {
 impl ProcessMessage {
     // Returns the message of a line of a supervised process with this event, or with none.
     fn of(event: Option<ProcessEvent>) -> Self
-        ensures { result ≡ word_of event }
+        ensures { result ≡ event_message event }
     {
         match event {
             Some(event) => ProcessMessage::Reports(event),
@@ -136,13 +136,13 @@ impl ProcessMessage {
 #[derive(Clone, Copy)]
 pub struct TimedMessage {
     pub moment: u64,
-    pub word: ProcessMessage,
+    pub message: ProcessMessage,
 }
 
 /// A supervised process.
 #[derive(Drop)]
 pub struct SupervisedProcess {
-    duties: SupervisionSettings,
+    settings: SupervisionSettings,
     introduced: bool,
     heard: u64,
     last: u64,
@@ -152,10 +152,10 @@ pub struct SupervisedProcess {
 impl Model for SupervisedProcess {
     ghost use Rattle.bay_process_port.specs.Supervised as spec;
 
-    ghost Value = { spec.Watched };
+    ghost Value = { spec.WatchData };
 
     ghost view = { λ w. record {
-      duties = w.duties;
+      settings = w.settings;
       introduced = w.introduced;
       heard = w.heard;
       last = w.last;
@@ -165,11 +165,11 @@ impl Model for SupervisedProcess {
 
 impl SupervisedProcess {
     /// Creates the state of a supervised process that has not sent anything.
-    pub(crate) fn new(duties: SupervisionSettings) -> Self
-        ensures { result ≡ initial_watch duties }
+    pub(crate) fn new(settings: SupervisionSettings) -> Self
+        ensures { result ≡ initial_watch settings }
     {
         SupervisedProcess {
-            duties,
+            settings,
             introduced: false,
             heard: 0,
             last: 0,
@@ -179,7 +179,7 @@ impl SupervisedProcess {
 
     /// Forgets what is known of the process.
     pub(crate) fn forget(&mut self)
-        ensures { self.new ≡ initial_watch self.old.duties }
+        ensures { self.new ≡ initial_watch self.old.settings }
     {
         self.introduced = false;
         self.heard = 0;
@@ -196,12 +196,12 @@ impl SupervisedProcess {
 
     /// Records that a turn at a moment took a line. The line counts from the moment that it names,
     /// but from no later one than that of the turn.
-    pub(crate) fn accept_message(&mut self, now: u64, said: TimedMessage)
-        ensures { self.new ≡ spec.known_by now said self.old }
+    pub(crate) fn accept_message(&mut self, now: u64, received: TimedMessage)
+        ensures { self.new ≡ spec.after_timed_message now received self.old }
     {
-        self.heard = now.min(said.moment);
-        self.last = said.moment;
-        match said.word {
+        self.heard = now.min(received.moment);
+        self.last = received.moment;
+        match received.message {
             ProcessMessage::Introduces => self.introduced = true,
             ProcessMessage::Lives => self.lives = true,
             ProcessMessage::Blank | ProcessMessage::Reports(_) => {}
@@ -220,9 +220,9 @@ impl SupervisedProcess {
 
     /// Returns for how many milliseconds it may be silent.
     pub(crate) fn limit_ms(&self) -> u32
-        ensures { result ≡ self.now.duties.limit }
+        ensures { result ≡ self.now.settings.limit }
     {
-        self.duties.limit_ms
+        self.settings.limit_ms
     }
 
     // Returns how a later line is read.
@@ -238,8 +238,8 @@ impl SupervisedProcess {
         match read_timed_line(device, line) {
             Some(timed) if timed.moment < self.last => Err(DisconnectReason::OutOfOrder),
             Some(timed) => {
-                let word = ProcessMessage::of(timed.event);
-                self.duties.timely(now, timed.moment, word)
+                let message = ProcessMessage::of(timed.event);
+                self.settings.check_moment(now, timed.moment, message)
             }
             None => Err(DisconnectReason::BadLine(EscapedText::new(line))),
         }
@@ -257,21 +257,21 @@ impl SupervisedProcess {
         if self.introduced {
             self.report(device, now, line)
         } else {
-            self.duties.introduction(device, now, line)
+            self.settings.introduction(device, now, line)
         }
     }
 }
 
 // Returns the message of a line of a process that is not supervised, or `BadLine`.
-fn judge_plain(device: &Device, now: u64, line: &[u8]) -> Result<TimedMessage, DisconnectReason>
+fn check_plain_line(device: &Device, now: u64, line: &[u8]) -> Result<TimedMessage, DisconnectReason>
     ensures { result ≡ judge_plain_line now line.now (event_in_line device.now line.now) }
 {
-    let word = match read_process_event(device, line) {
+    let message = match read_process_event(device, line) {
         _ if line.is_empty() => ProcessMessage::Blank,
         Some(event) => ProcessMessage::Reports(event),
         None => return Err(DisconnectReason::BadLine(EscapedText::new(line))),
     };
-    Ok(TimedMessage { moment: now, word })
+    Ok(TimedMessage { moment: now, message })
 }
 
 /// Returns the message of a line at a moment, with the moment from which it counts, or why the
@@ -286,17 +286,17 @@ pub(crate) fn check_line(
 {
     match watch {
         Some(watch) => watch.check_line(device, now, line),
-        None => judge_plain(device, now, line),
+        None => check_plain_line(device, now, line),
     }
 }
 
 /// Returns why the connection must be closed if there are too many octets without an end of line.
-pub(crate) fn overlong_reason(watch: &Option<SupervisedProcess>, kept: &[u8]) -> DisconnectReason
-    ensures { result ≡ spec.overlong_reason watch.now kept.now }
+pub(crate) fn overlong_reason(watch: &Option<SupervisedProcess>, buffer: &[u8]) -> DisconnectReason
+    ensures { result ≡ spec.overlong_reason watch.now buffer.now }
 {
     match watch {
         Some(watch) if !watch.introduced => DisconnectReason::Foreign,
-        _ => DisconnectReason::BadLine(EscapedText::new(kept)),
+        _ => DisconnectReason::BadLine(EscapedText::new(buffer)),
     }
 }
 
@@ -306,7 +306,7 @@ pub(crate) fn has_jumped(watch: &Option<SupervisedProcess>, jump: u64) -> bool
     ensures { result ≡ spec_ports.has_jumped jump watch.now }
 {
     match watch {
-        Some(watch) => u64::from(watch.duties.limit_ms) < jump,
+        Some(watch) => u64::from(watch.settings.limit_ms) < jump,
         None => false,
     }
 }
@@ -317,11 +317,11 @@ pub(crate) fn check_silence(
     watch: &Option<SupervisedProcess>,
     now: u64,
 ) -> Result<Option<TimedMessage>, DisconnectReason>
-    ensures { result ≡ silence now watch.now }
+    ensures { result ≡ judge_silence now watch.now }
 {
     match watch {
-        Some(watch) if now.saturating_sub(watch.heard) > u64::from(watch.duties.limit_ms) => {
-            Err(DisconnectReason::Silent(watch.duties.limit_ms))
+        Some(watch) if now.saturating_sub(watch.heard) > u64::from(watch.settings.limit_ms) => {
+            Err(DisconnectReason::Silent(watch.settings.limit_ms))
         }
         _ => Ok(None),
     }

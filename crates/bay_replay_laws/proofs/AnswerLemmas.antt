@@ -33,7 +33,7 @@ use Rattle.bay_report.specs.Report.{report_text}
 use Rattle.cmd_replay.specs.Scenario.{ScenarioParts}
 use Rattle.bay_replay_laws.specs.Answered.{AreAnswered, CommandsAreAnswered, IsAnswered}
 use Rattle.cmd_replay.specs.History.{AllRemote, EachPast, device_after}
-use Rattle.bay_replay_laws.specs.Printed.{PrintedCommand, PrintedSend, ended, lines_in, printed_command}
+use Rattle.bay_replay_laws.specs.Printed.{PrintedCommand, PrintedSend, with_ends, lines_in, printed_command}
 use Rattle.bay_replay_laws.specs.ReadBack.{HaveIds}
 use Rattle.bay_replay_laws.specs.Released.{IsCommandLineFor}
 use Rattle.cmd_replay.specs.Runs.{IsRun}
@@ -65,13 +65,13 @@ operates-so : (names : Bay) (now : ℕ) (event : Event) (old : State)
     (answer : Result Step StepFault) (new : State) → Heard names old
     → Steps now event old answer new → OperatesAt names now event old answer new × Heard names new
 operates-so names now event old answer new h steps =
-    let told =
+    let reported =
     telling names now event old answer new h.alike h.sized
     (leading now event old answer new h.eight steps) in (
       step-operates names now event old answer new h.alike h.sized steps,
       record {
-        alike = told.alike;
-        sized = told.sized;
+        alike = reported.alike;
+        sized = reported.sized;
         eight = eight-places now event old answer new h.eight steps;
       },
     )
@@ -212,7 +212,7 @@ in-middle text a b line first last plain whole =
     let p = map-lines (λ l is. tt) first in
     let q = map-lines (λ l is. tt) last in
     let lines : List (List ℕ) = p.lines ++ line ∷ q.lines in
-    let text_is : text ≡ ended lines =
+    let text_is : text ≡ with_ends lines =
     whole
     ∙ ap₂ (λ x y. x ++ y) p.whole (append_assoc line (10 ∷ []) b
     ∙ ap (λ t. line ++ 10 ∷ t) q.whole)
@@ -337,7 +337,7 @@ module _ (first : State) (past : List PastEvent) (steps : EachPast Steps first p
         terms = from.replied.terms;
         pdu = from.replied.pdu;
         asked = from.replied.asked;
-        told = send_line order.now x.association (encode_lower x.octets);
+        reported = send_line order.now x.association (encode_lower x.octets);
         stands = sent-stands order.now order.answer order.after
             (subst HaveIds (sym switches) ids) l.step l.done sent.0 x sent.1.1.0 sent.1.1.1;
         sent = x.octets;

@@ -7,7 +7,7 @@ use Rattle.std.proofs.lemmas.List.Splits.{slice_split-cons_no, slice_split-cons_
 use Rattle.std.specs.Fmt.{decimal, digit_glyph, digits, digits_onto}
 use Rattle.std.specs.List.{Contains, list_all, onto_first, slice_split}
 use Rattle.hex.specs.Hex.{encode_lower, encode_with, lower_digits}
-use Rattle.bay_replay_laws.specs.Printed.{ended}
+use Rattle.bay_replay_laws.specs.Printed.{with_ends}
 
 -- ---- lists without an octet
 
@@ -103,19 +103,19 @@ Each Is (line ∷ lines) = ((free 10 line ≡ true) × Is line) × Each Is lines
 -- A text consists of lines of which something is so.
 pub record AreLines (Is : List ℕ → Type 0) (text : List ℕ) : Type 0 where
   pub lines : List (List ℕ)
-  pub whole : text ≡ ended lines
+  pub whole : text ≡ with_ends lines
   pub each : Each Is lines
 
 pub lines-are : (Is : List ℕ → Type 0) (lines : List (List ℕ)) → Each Is lines
-    → slice_split (λ b. b == 10) (ended lines) ≡ lines ++ [] ∷ []
+    → slice_split (λ b. b == 10) (with_ends lines) ≡ lines ++ [] ∷ []
 lines-are Is [] each = refl
 lines-are Is (line ∷ lines) each =
-    split-at 10 line (ended lines) each.0.0 ∙ ap (λ ls. line ∷ ls) (lines-are Is lines each.1)
+    split-at 10 line (with_ends lines) each.0.0 ∙ ap (λ ls. line ∷ ls) (lines-are Is lines each.1)
 
-pub ended-append : (xs ys : List (List ℕ)) → ended (xs ++ ys) ≡ ended xs ++ ended ys
-ended-append [] ys = refl
-ended-append (x ∷ xs) ys =
-    ap (λ t. x ++ 10 ∷ t) (ended-append xs ys) ∙ sym (append_assoc x (10 ∷ ended xs) (ended ys))
+pub ended-append : (xs ys : List (List ℕ)) → with_ends (xs ++ ys) ≡ with_ends xs ++ with_ends ys
+with_ends-append [] ys = refl
+with_ends-append (x ∷ xs) ys =
+    ap (λ t. x ++ 10 ∷ t) (ended-append xs ys) ∙ sym (append_assoc x (10 ∷ with_ends xs) (with_ends ys))
 
 pub each-append : (Is : List ℕ → Type 0) (xs ys : List (List ℕ)) → Each Is xs → Each Is ys
     → Each Is (xs ++ ys)

@@ -43,7 +43,7 @@ use Rattle.bay_replay_laws.proofs.ScanLemmas.{past-in, some-same}
 use Rattle.bay_replay_laws.proofs.WithinLemmas.{AreFew, known-run, load-none, past-few}
 use Rattle.std.specs.List.{Contains}
 use Rattle.il_verify.specs.Verdicts.{IsBudget}
-use Rattle.bay_replay_laws.specs.Texts.{AreWithinBudget, ScansAreWithinBudget, first_of}
+use Rattle.bay_replay_laws.specs.Texts.{AreWithinBudget, ScansAreWithinBudget, first_line}
 use Rattle.cmd_replay.proofs.BudgetLemmas.{IsWithin}
 
 -- ---- the rows of the interlocking values stand
@@ -101,9 +101,9 @@ are-values : (s : State) (writes : List Source) (outputs : List Value) (k : ℕ)
     (switches : List Switch)
     → ((j : ℕ) → j < k + length switches → HoldsRelease s.rows j (told_by writes outputs j))
     → AreValues writes outputs k switches (switches_digits s k switches)
-are-values s writes outputs k [] told = refl
-are-values s writes outputs k (switch ∷ switches) told =
-    let here = told k (omega arith) in (
+are-values s writes outputs k [] reported = refl
+are-values s writes outputs k (switch ∷ switches) reported =
+    let here = reported k (omega arith) in (
       switches_digits s (k + 1) switches,
       ap₂ (λ (opens closes : Bool). let p : PrintedSwitch =
           record { id = switch.id; opens = opens; closes = closes } in
@@ -112,15 +112,15 @@ are-values s writes outputs k (switch ∷ switches) told =
           ∙ own-truth (output_of k EnableOpen writes outputs))
           (ap (is_truth true) here.closing.value_is
           ∙ own-truth (output_of k EnableClose writes outputs)),
-      are-values s writes outputs (k + 1) switches (λ j less. told j (omega (arith, less))),
+      are-values s writes outputs (k + 1) switches (λ j less. reported j (omega (arith, less))),
     )
 
 scan-of : (now : ℕ) (steps : ℕ) (p : PastEvent) (old : State)
     → Steps p.now p.event old p.answer p.after → scan_told p.answer ≡ Some steps
     → Scanned p.now p.event old p.answer p.after
-scan-of now steps p old did told = elim (turned p.now p.event old p.answer p.after did) [
+scan-of now steps p old did reported = elim (turned p.now p.event old p.answer p.after did) [
   | inl quiet ↦
-      absurd (let no : ◌≡◌ {A = Option ℕ} None (Some steps) = sym quiet.0 ∙ told in cc)
+      absurd (let no : ◌≡◌ {A = Option ℕ} None (Some steps) = sym quiet.0 ∙ reported in cc)
   | inr scan ↦ scan
 ]
 
@@ -142,9 +142,9 @@ module _ (first : State) (past : List PastEvent) (steps : EachPast Steps first p
       let here : EachPast Steps first (p ∷ at.earlier) =
       past-in Steps first at.later p at.earlier past at.split steps in
       let scan =
-      scan-of p.now l.steps p (device_after first at.earlier) here.0 l.told in
+      scan-of p.now l.steps p (device_after first at.earlier) here.0 l.reported in
       let small : l.steps < 2 ^ 64 =
-      (past-in AreFew first at.later p at.earlier past at.split few).0 l.steps l.told in
+      (past-in AreFew first at.later p at.earlier past at.split few).0 l.steps l.reported in
       let late : p.now ≤ last_moment =
       step-on-time p.now p.event (device_after first at.earlier) p.answer p.after _ here.0
       scan.answered in
@@ -169,7 +169,7 @@ module _ (c : Checked) (first : State) (past : List PastEvent) (steps : EachPast
       let here : EachPast Steps first (p ∷ at.earlier) =
       past-in Steps first at.later p at.earlier past at.split steps in
       let scan : Scanned p.now p.event old p.answer p.after =
-      scan-of p.now l.steps p old here.0 l.told in
+      scan-of p.now l.steps p old here.0 l.reported in
       let meant_at : MeansAt c p.now p.event old p.answer p.after =
       (past-in (MeansAt c) first at.later p at.earlier past at.split means).0 in
       let meant : Means c p.now old p.after =
@@ -285,11 +285,11 @@ run-within parts first text status run line scan at is =
     past-in Steps first o.at.later order o.at.earlier run.past o.at.split run.steps in
     let within : l.steps ≤ report.budget =
     (past-in IsWithin first o.at.later order o.at.earlier run.past o.at.split known.within).0
-    l.steps l.told report.budget
+    l.steps l.reported report.budget
     (subst (λ image. IsBudget image.code report.budget)
     (sym (past-fixed first o.at.earlier steps.1).image) run.printed.reported.budget) in (
       report.budget,
-      ap (λ ls. printed_budget (first_of ls))
+      ap (λ ls. printed_budget (first_line ls))
           (cut.1.1 ∙ ap (λ ls. ls ++ line ∷ cut.1.0) o.begins)
           ∙ budget-read report.instructions report.depth report.budget known.small,
       subst (λ n. n ≤ report.budget)
@@ -298,9 +298,9 @@ run-within parts first text status run line scan at is =
     )
 
 pub scans-are-within : ScansAreWithinBudget
-scans-are-within scenario log text status told line scan at is =
+scans-are-within scenario log text status reported line scan at is =
     elim (of-each printed_scan other-no-scan load-none
-    (λ parts first text status run. AreWithinBudget text) run-within scenario log text status told) [
+    (λ parts first text status run. AreWithinBudget text) run-within scenario log text status reported) [
       | inl none ↦
           absurd (let no : ◌≡◌ {A = Option PrintedScan} None (Some scan) =
           sym (none line at) ∙ is in cc)

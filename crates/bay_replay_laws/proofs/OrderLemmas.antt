@@ -14,14 +14,14 @@ use Rattle.bay_load.specs.declared.error.LoadError.TheVariants.{OutOfMemory}
 use Rattle.bay_load.specs.declared.report.Report.{Report}
 use Rattle.bay_report.specs.Lines.{step_text}
 use Rattle.bay_load.specs.Loads.{LoadData, load_of}
-use Rattle.cmd_replay.specs.Replay.{LoadReport, PartsReport}
+use Rattle.cmd_replay.specs.Replay.{LoadedTraceReport, PartsReport}
 use Rattle.cmd_replay.specs.Scenario.{ScenarioParts, scenario_of}
 use Rattle.cmd_replay.specs.History.{EachPast, device_after}
-use Rattle.bay_replay_laws.specs.Printed.{PrintedCommand, ended, lines_in, printed_command}
+use Rattle.bay_replay_laws.specs.Printed.{PrintedCommand, with_ends, lines_in, printed_command}
 use Rattle.bay_replay_laws.specs.ReadBack.{HaveIds, switches_digits}
 use Rattle.bay_replay_laws.specs.Released.{IsCommandLineFor}
-use Rattle.bay_replay_laws.specs.Reports.{HasNone, IsOf, OfEach}
-use Rattle.cmd_replay.specs.Runs.{IsRun, printed_of}
+use Rattle.bay_replay_laws.specs.Reports.{HasNoLine, HoldsOfRun, OfEachReport}
+use Rattle.cmd_replay.specs.Runs.{IsRun, past_text}
 use Rattle.cmd_replay.proofs.HistoryLemmas.{past-fixed}
 use Rattle.cmd_replay.proofs.KeptLemmas.{step-on-time}
 use Rattle.cmd_replay.proofs.RunLemmas.{run-loaded, run-of}
@@ -48,20 +48,20 @@ past-groups first (p ∷ past) steps ids =
 
 module _ (begin load : List ℕ) (load_is : begin ≡ load ++ 10 ∷ []) where
   behind-is : (past : List PastEvent) (gs : Groups) (part : List (List ℕ)) → AreGroups past gs
-      → ended (load ∷ (flat gs ++ part)) ≡ begin ++ (printed_of past ++ ended part)
+      → with_ends (load ∷ (flat gs ++ part)) ≡ begin ++ (past_text past ++ with_ends part)
   behind-is past gs part are =
       ap (λ t. load ++ 10 ∷ t) (ended-append (flat gs) part
-      ∙ ap (λ t. t ++ ended part) (sym (groups-whole past gs are)))
-      ∙ sym (append_assoc load (10 ∷ []) (printed_of past ++ ended part))
-      ∙ ap (λ t. t ++ (printed_of past ++ ended part)) (sym load_is)
+      ∙ ap (λ t. t ++ with_ends part) (sym (groups-whole past gs are)))
+      ∙ sym (append_assoc load (10 ∷ []) (past_text past ++ with_ends part))
+      ∙ ap (λ t. t ++ (past_text past ++ with_ends part)) (sym load_is)
 
   pub printed-for : (p : PastEvent) (earlier : List PastEvent) (gs : Groups) (part rest : List (List ℕ))
       (line : List ℕ) → AreGroups earlier gs
-      → step_text p.now p.answer p.after ≡ ended (part ++ line ∷ rest)
+      → step_text p.now p.answer p.after ≡ with_ends (part ++ line ∷ rest)
       → IsCommandLineFor begin p earlier (load ∷ (flat gs ++ part)) line
   printed-for p earlier gs part rest line are own = record {
-    part = ended part;
-    rest = ended rest;
+    part = with_ends part;
+    rest = with_ends rest;
     own = own ∙ ended-append part (line ∷ rest);
     behind = behind-is earlier gs part are;
   }
@@ -137,15 +137,15 @@ module _ (parts : ScenarioParts) (first : State) (text : List ℕ) (status : ℕ
   load = load_line report.instructions report.depth report.budget
 
   text-lines : (gs : Groups) → AreGroups run.past gs → (others : List (List ℕ))
-      → Each IsOther others → run.printed.ending ≡ ended others
+      → Each IsOther others → run.printed.ending ≡ with_ends others
       → lines_in text ≡ load ∷ (flat gs ++ (others ++ [] ∷ []))
   text-lines gs are others each is =
       let rest : List (List ℕ) = flat gs ++ others in
-      let whole : text ≡ ended (load ∷ rest) =
+      let whole : text ≡ with_ends (load ∷ rest) =
       run.printed.whole
       ∙ ap₂ (λ x y. x ++ y) (load-is report)
       (ap₂ (λ x y. x ++ y) (groups-whole run.past gs are) is ∙ sym (ended-append (flat gs) others))
-      ∙ append_assoc load (10 ∷ []) (ended rest) in
+      ∙ append_assoc load (10 ∷ []) (with_ends rest) in
       ap lines_in whole
       ∙ lines-are (λ l. Unit {0}) (load ∷ rest) (
         (load-free report.instructions report.depth report.budget, tt),
@@ -218,18 +218,18 @@ module _ {A : Type 0} (read : List ℕ → Option A)
       (run-are : (parts : ScenarioParts) (first : State) (text : List ℕ) (status : ℕ)
       (run : IsRun parts first text status) → Are parts first text status run) where
     abbrev OfReport : List ℕ → List ℕ → ℕ → Type 0
-    OfReport scenario text status = HasNone read text ⊎ IsOf Are scenario text status
+    OfReport scenario text status = HasNoLine read text ⊎ HoldsOfRun Are scenario text status
 
     by-load : (scenario : List ℕ) (parts : ScenarioParts) (log : Option (List ℕ))
         (text : List ℕ) (status : ℕ) (loaded : Result LoadData LoadError)
         → scenario_of scenario ≡ Some parts
-        → load_of parts.bay parts.logic ≡ loaded → LoadReport loaded parts.trace log text status
+        → load_of parts.bay parts.logic ≡ loaded → LoadedTraceReport loaded parts.trace log text status
         → OfReport scenario text status
-    by-load scenario parts log text status (Ok l) cut is told =
+    by-load scenario parts log text status (Ok l) cut is reported =
         let first : State = device_of l in
         let run : IsRun parts first text status =
         run-of parts.bay parts.logic first (run-loaded parts.bay parts.logic l is) parts.trace log
-        text status told in
+        text status reported in
         inr (record {
           parts = parts;
           cut = cut;
@@ -237,23 +237,23 @@ module _ {A : Type 0} (read : List ℕ → Option A)
           run = run;
           are = run-are parts first text status run;
         })
-    by-load scenario parts log text status (Err fault) cut is told =
-        inl (none-read text (subst (AreLines IsOther) (sym told.1.0) (refused-lines fault)))
+    by-load scenario parts log text status (Err fault) cut is reported =
+        inl (none-read text (subst (AreLines IsOther) (sym reported.1.0) (refused-lines fault)))
 
     by-parts : (scenario : List ℕ) (o : Option ScenarioParts) (log : Option (List ℕ))
         (text : List ℕ) (status : ℕ)
         → scenario_of scenario ≡ o → PartsReport o log text status → OfReport scenario text status
-    by-parts scenario None log text status cut told =
-        inl (none-read text (subst (AreLines IsOther) (sym told.1.0) no-parts-lines))
-    by-parts scenario (Some parts) log text status cut (inl told, run) =
-        by-load scenario parts log text status (load_of parts.bay parts.logic) cut refl told
+    by-parts scenario None log text status cut reported =
+        inl (none-read text (subst (AreLines IsOther) (sym reported.1.0) no-parts-lines))
+    by-parts scenario (Some parts) log text status cut (inl reported, run) =
+        by-load scenario parts log text status (load_of parts.bay parts.logic) cut refl reported
     by-parts scenario (Some parts) log text status cut (inr refused, run) =
         inl (none-read text
         (subst (AreLines IsOther) (sym refused.1.0) (refused-lines OutOfMemory)))
 
-    pub of-each : OfEach read Are
-    of-each scenario log text status told =
-        by-parts scenario (scenario_of scenario) log text status refl told
+    pub of-each : OfEachReport read Are
+    of-each scenario log text status reported =
+        by-parts scenario (scenario_of scenario) log text status refl reported
 
 -- ---- the line of a command
 

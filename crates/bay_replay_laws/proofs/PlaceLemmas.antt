@@ -4,8 +4,8 @@ use Rattle.std.proofs.lemmas.List.{append_cancel_right}
 use Rattle.std.specs.List.{slice_split}
 use Rattle.bay_device.specs.Fresh.{PastEvent}
 use Rattle.bay_report.specs.Lines.{step_text}
-use Rattle.bay_replay_laws.specs.Printed.{ended}
-use Rattle.cmd_replay.specs.Runs.{printed_of}
+use Rattle.bay_replay_laws.specs.Printed.{with_ends}
+use Rattle.cmd_replay.specs.Runs.{past_text}
 use Rattle.bay_replay_laws.proofs.LineLemmas.{Each, ended-append, lines-are}
 use Rattle.bay_replay_laws.proofs.PrintLemmas.{IsLineOf}
 
@@ -67,7 +67,7 @@ flat [] = []
 flat (g ∷ gs) = flat gs ++ g
 
 pub record IsGroup (p : PastEvent) (g : List (List ℕ)) : Type 0 where
-  pub whole : step_text p.now p.answer p.after ≡ ended g
+  pub whole : step_text p.now p.answer p.after ≡ with_ends g
   pub each : Each (λ line. IsLineOf p.now p.answer p.after line) g
 
 -- each group is what is printed for the event at its place
@@ -78,7 +78,7 @@ AreGroups (p ∷ past) [] = ⊥
 AreGroups (p ∷ past) (g ∷ gs) = IsGroup p g × AreGroups past gs
 
 pub groups-whole : (past : List PastEvent) (gs : Groups) → AreGroups past gs
-    → printed_of past ≡ ended (flat gs)
+    → past_text past ≡ with_ends (flat gs)
 groups-whole [] [] are = refl
 groups-whole [] (g ∷ gs) are = absurd are
 groups-whole (p ∷ past) [] are = absurd are
@@ -101,7 +101,7 @@ pub record Placed (past : List PastEvent) (before : List (List ℕ)) (line : Lis
   pub are : AreGroups earlier groups
   pub part : List (List ℕ)
   pub rest : List (List ℕ)
-  pub own : step_text order.now order.answer order.after ≡ ended (part ++ line ∷ rest)
+  pub own : step_text order.now order.answer order.after ≡ with_ends (part ++ line ∷ rest)
   pub fore : Each (λ l. IsLineOf order.now order.answer order.after l) part
   pub is : IsLineOf order.now order.answer order.after line
   pub behind : before ≡ flat groups ++ part
@@ -149,7 +149,7 @@ placed (p ∷ past) (g ∷ gs) before after line are e = elim (cut (flat gs) g b
         are = are.1;
         part = s.part;
         rest = after;
-        own = are.0.whole ∙ ap ended s.second;
+        own = are.0.whole ∙ ap with_ends s.second;
         fore = each.0;
         is = each.1;
         behind = s.before;
@@ -196,7 +196,7 @@ one-group (x ∷ since) q earlier (g ∷ gs) are =
 
 -- Two lists of lines that make one text are the same.
 pub same-lines : (Is Are : List ℕ → Type 0) (xs ys : List (List ℕ)) → Each Is xs → Each Are ys
-    → ended xs ≡ ended ys → xs ≡ ys
+    → with_ends xs ≡ with_ends ys → xs ≡ ys
 same-lines Is Are xs ys each all e =
     append_cancel_right xs ys ([] ∷ [])
     (sym (lines-are Is xs each) ∙ ap (slice_split (λ b. b == 10)) e ∙ lines-are Are ys all)

@@ -18,7 +18,7 @@ use Rattle.bay_device.specs.declared.event.Why.TheVariants.{Ended, Fault, Memory
 use Rattle.bay_device.specs.declared.fault.StepFault.{StepFault}
 use Rattle.bay_load.specs.declared.report.Report.{Report}
 use Rattle.bay_report.specs.Report.{report_text}
-use Rattle.bay_report.specs.Lines.{closed_text, closing_text, command_line, command_part, commands_text, done_text, ended_text, order_text, ran_text, refusal_line, scan_text, send_text, sends_text, step_text, why_text}
+use Rattle.bay_report.specs.Lines.{closed_text, closing_text, command_line, command_part, commands_text, accepted_text, ended_text, target_text, ran_text, refusal_line, scan_text, send_text, sends_text, step_text, why_text}
 use Rattle.bay_process.specs.Releases.{digit_text}
 use Rattle.bay_replay_laws.specs.Printed.{PrintedSwitch}
 use Rattle.bay_replay_laws.specs.ReadBack.{HaveIds, switches_digits}
@@ -34,7 +34,7 @@ use Rattle.bay_replay_laws.proofs.WholeLemmas.{closed-whole, command-whole, load
 pub record IsScanLine (now : ℕ) (answer : Result Step StepFault) (s : State) (line : List ℕ)
     : Type 0 where
   pub steps : ℕ
-  pub told : scan_told answer ≡ Some steps
+  pub reported : scan_told answer ≡ Some steps
   pub is : line ≡ scan_line now steps (switches_digits s 0 s.switches)
 
 -- A line is that of one of its commands.
@@ -65,7 +65,7 @@ load-is report =
 told-is : (s : State) (k : ℕ) (switches : List Switch)
     → switches_text s k switches ≡ told_text (switches_digits s k switches)
 told-is s k [] = refl
-told-is s k (switch ∷ switches) =
+reported-is s k (switch ∷ switches) =
     let p : PrintedSwitch =
     record { id = switch.id; opens = may_open s k; closes = may_close s k } in
     word-whole switch.id (digit_text (may_open s k) ++ digit_text (may_close s k))
@@ -82,12 +82,12 @@ scan-is now steps s =
 pub told-plain : (s : State) (k : ℕ) (switches : List Switch) → HaveIds switches
     → AllPlain (switches_digits s k switches)
 told-plain s k [] ids = tt
-told-plain s k (switch ∷ switches) ids =
+reported-plain s k (switch ∷ switches) ids =
     (name-plain 16 switch.id ids.0, told-plain s (k + 1) switches ids.1)
 
 told-free : (ps : List PrintedSwitch) → AllPlain ps → free 10 (told_text ps) ≡ true
-told-free [] all = refl
-told-free (p ∷ ps) all =
+reported-free [] all = refl
+reported-free (p ∷ ps) all =
     free-append 10 (word_of p) (told_text ps) (word-free 10 p all.0.no_end refl)
     (told-free ps all.1)
 
@@ -102,7 +102,7 @@ scan-free now steps ps all =
 
 -- ---- a command
 
-order-is : (o : Operation) → order_text o ≡ 32 ∷ (order_word o ++ 10 ∷ [])
+order-is : (o : Operation) → target_text o ≡ 32 ∷ (order_word o ++ 10 ∷ [])
 order-is operations.Open = refl
 order-is operations.Close = refl
 
@@ -196,12 +196,12 @@ module _ (now : ℕ) (answer : Result Step StepFault) (s : State) (ids : HaveIds
       refl refl)
 
   pub ran-lines : (scan : Option ℕ) → scan_told answer ≡ scan → AreLines Is (ran_text now scan s)
-  ran-lines None told = no-lines
-  ran-lines (Some steps) told =
+  ran-lines None reported = no-lines
+  ran-lines (Some steps) reported =
       let all = told-plain s 0 s.switches ids in
       whole-line (scan_text now steps s) (scan_line now steps (switches_digits s 0 s.switches))
       (scan-is now steps s) (scan-free now steps (switches_digits s 0 s.switches) all)
-      (inl (record { steps = steps; told = told; is = refl }))
+      (inl (record { steps = steps; reported = reported; is = refl }))
 
   module _ (step : Step) (done : answer ≡ Ok step) where
     command-lines : (command : Command) (o : Option Switch)
@@ -234,7 +234,7 @@ module _ (now : ℕ) (answer : Result Step StepFault) (s : State) (ids : HaveIds
         (has command (0, omega arith, refl)))
         (commands-lines more (λ x at. has x (suc at.0, omega (arith, at.1), at.2)))
 
-    done-lines : AreLines Is (done_text now step s)
+    done-lines : AreLines Is (accepted_text now step s)
     done-lines =
         more-lines (more-lines (more-lines (more-lines (ended-lines step.ended)
         (sends-lines step.sent)) (commands-lines step.commands (λ x at. at)))

@@ -10,7 +10,7 @@ use Rattle.std.specs.Str.Parse.{digits_value}
 use Rattle.bay_base.specs.declared.switch.Operation.{Operation}
 use Rattle.bay_base.specs.declared.switch.Operation.TheVariants as operations
 use Rattle.bay_process.specs.Releases.{digit_text}
-use Rattle.bay_replay_laws.specs.Printed.{PrintedSwitch, budget_in, command_in, command_of, number_named, number_of, order_of, parts_in, printed_budget, printed_command, printed_scan, printed_send, scan_in, scan_of, send_in, switch_in, switch_digits, switches_in, words_in}
+use Rattle.bay_replay_laws.specs.Printed.{PrintedSwitch, budget_in, command_in, command_from_parts, number_after, number_of, operation_of, parts_in, printed_budget, printed_command, printed_scan, printed_send, scan_in, scan_from_parts, send_in, switch_in, switch_digits, switches_in, words_in}
 use Rattle.bay_replay_laws.proofs.LineLemmas.{NoDigit, decimal-free, free, free-append, split-at, split-none}
 
 -- ---- numbers
@@ -45,9 +45,9 @@ if-so true o e = refl
 if-so false o e = absurd cc
 
 pub named-read : (name : List ℕ) (n : ℕ) → free 61 name ≡ true → bytes_eq name name ≡ true
-    → n < 2 ^ 64 → number_named name (parts_in (name ++ 61 ∷ decimal n)) ≡ Some n
+    → n < 2 ^ 64 → number_after name (parts_in (name ++ 61 ∷ decimal n)) ≡ Some n
 named-read name n plain same small =
-    ap (number_named name) (split-at 61 name (decimal n) plain
+    ap (number_after name) (split-at 61 name (decimal n) plain
     ∙ ap (λ ls. name ∷ ls) (split-none 61 (decimal n) (decimal-free 61 n no-equals)))
     ∙ if-so (bytes_eq name name) (number_of (decimal n)) same ∙ number-read n small
 
@@ -152,11 +152,11 @@ scan-read now steps ps first second all =
     (decimal-free 32 now no-space)
     ∙ ap (λ ls. decimal now ∷ ls) (split-at 32 (codes "scan") (word ++ told_text ps) refl
     ∙ ap (λ ls. codes "scan" ∷ ls) (words-told word ps (decimal-free 32 steps no-space) all)))
-    ∙ ap (λ o. scan_of o (number_named (codes "steps") (parts_in word))
+    ∙ ap (λ o. scan_from_parts o (number_after (codes "steps") (parts_in word))
     (switches_in (map word_of ps))) (number-read now first)
-    ∙ ap (λ o. scan_of (Some now) o (switches_in (map word_of ps)))
+    ∙ ap (λ o. scan_from_parts (Some now) o (switches_in (map word_of ps)))
     (named-read (codes "steps") steps refl refl second)
-    ∙ ap (λ o. scan_of (Some now) (Some steps) o) (switches-read ps all)
+    ∙ ap (λ o. scan_from_parts (Some now) (Some steps) o) (switches-read ps all)
 
 -- ---- the line of a command
 
@@ -172,7 +172,7 @@ order-free : (o : Operation) → free 32 (order_word o) ≡ true
 order-free operations.Open = refl
 order-free operations.Close = refl
 
-order-read : (o : Operation) → order_of (order_word o) ≡ Some o
+order-read : (o : Operation) → operation_of (order_word o) ≡ Some o
 order-read operations.Open = refl
 order-read operations.Close = refl
 
@@ -185,8 +185,8 @@ command-read now id o small plain =
     ∙ ap (λ ls. decimal now ∷ ls) (split-at 32 (codes "command") (id ++ 32 ∷ order_word o) refl
     ∙ ap (λ ls. codes "command" ∷ ls) (split-at 32 id (order_word o) plain.no_space
     ∙ ap (λ ls. id ∷ ls) (split-none 32 (order_word o) (order-free o)))))
-    ∙ ap (λ m. command_of m id (order_of (order_word o))) (number-read now small)
-    ∙ ap (λ m. command_of (Some now) id m) (order-read o)
+    ∙ ap (λ m. command_from_parts m id (operation_of (order_word o))) (number-read now small)
+    ∙ ap (λ m. command_from_parts (Some now) id m) (order-read o)
 
 -- ---- the line of sent octets
 

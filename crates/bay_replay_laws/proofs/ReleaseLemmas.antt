@@ -24,9 +24,9 @@ use Rattle.bay_report.specs.Lines.{ended_text, scan_text, step_text}
 use Rattle.bay_report.specs.Report.{report_text}
 use Rattle.cmd_replay.specs.Scenario.{ScenarioParts}
 use Rattle.cmd_replay.specs.History.{AllFresh, EachPast, device_after}
-use Rattle.bay_replay_laws.specs.Printed.{PrintedCommand, PrintedSwitch, ended, printed_command, printed_scan}
+use Rattle.bay_replay_laws.specs.Printed.{PrintedCommand, PrintedSwitch, with_ends, printed_command, printed_scan}
 use Rattle.bay_replay_laws.specs.ReadBack.{HaveIds, switches_digits}
-use Rattle.bay_replay_laws.specs.Released.{AreReleased, CommandsAreReleased, IsCommandLineFor, IsReleasedBy, lets}
+use Rattle.bay_replay_laws.specs.Released.{AreReleased, CommandsAreReleased, IsCommandLineFor, IsReleasedBy, releases_operation}
 use Rattle.cmd_replay.specs.Runs.{IsRun}
 use Rattle.cmd_replay.proofs.HistoryLemmas.{past-fixed}
 use Rattle.cmd_replay.proofs.KeptLemmas.{scan_told, step-on-time, turned}
@@ -56,7 +56,7 @@ told-at : (s : State) (j k : ℕ) (switches : List Switch) (switch : Switch)
     → Contains (switches_digits s j switches)
     (record { id = switch.id; opens = may_open s (j + k); closes = may_close s (j + k) })
 told-at s j k [] switch here = absurd cc
-told-at s j zero (x ∷ switches) switch here =
+reported-at s j zero (x ∷ switches) switch here =
     let same : x ≡ switch = cc in
     let there : j + 0 ≡ j = omega arith in (
       0,
@@ -85,7 +85,7 @@ told-first s k switches switch here =
 
 released-as : (s t : State) (id : List ℕ) (k : ℕ) (operation : Operation) → Keeps s.rows t.rows
     → is_truth true (leaf_named (enable_name k operation) t.rows) ≡ true
-    → lets operation (record { id = id; opens = may_open s k; closes = may_close s k }) ≡ true
+    → releases_operation operation (record { id = id; opens = may_open s k; closes = may_close s k }) ≡ true
 released-as s t id k operations.Open keeps enabled = ap (is_truth true) (sym (keeps k _)) ∙ enabled
 released-as s t id k operations.Close keeps enabled = ap (is_truth true) (sym (keeps k _)) ∙ enabled
 
@@ -96,8 +96,8 @@ scan-alone e t = simp append-nil
 
 -- the answer of a scan
 abbrev scan_answer : Option Sent → ℕ → Result Step StepFault
-scan_answer ended steps = Ok (record {
-  ended = ended;
+scan_answer with_ends steps = Ok (record {
+  with_ends = with_ends;
   sent = [];
   commands = [];
   decisions = [];
@@ -112,13 +112,13 @@ record ScanLines (q : PastEvent) (steps : ℕ) (own : List (List ℕ)) : Type 0 
 
 scan-lines : (q : PastEvent) (ended_by : Option Sent) (steps : ℕ) (own : List (List ℕ))
     → HaveIds q.after.switches → q.answer ≡ scan_answer ended_by steps
-    → step_text q.now q.answer q.after ≡ ended own
+    → step_text q.now q.answer q.after ≡ with_ends own
     → Each (λ line. IsLineOf q.now q.answer q.after line) own → ScanLines q steps own
 scan-lines q ended_by steps own ids answered whole each =
     let line : List ℕ = scan_line q.now steps (switches_digits q.after 0 q.after.switches) in
     let first = ended-lines q.now q.answer q.after ids ended_by in
     let all = told-plain q.after 0 q.after.switches ids in
-    let text : step_text q.now q.answer q.after ≡ ended (first.lines ++ line ∷ []) =
+    let text : step_text q.now q.answer q.after ≡ with_ends (first.lines ++ line ∷ []) =
     ap (λ r. step_text q.now r q.after) answered
     ∙ scan-alone (ended_text q.now ended_by) (scan_text q.now steps q.after)
     ∙ ap₂ (λ x y. x ++ y) first.whole (scan-is q.now steps q.after)
@@ -168,7 +168,7 @@ NoScan line = printed_scan line ≡ None
 no-scan-of : (p : PastEvent) (line : List ℕ) → scan_told p.answer ≡ None
     → IsLineOf p.now p.answer p.after line → NoScan line
 no-scan-of p line none (inl scan) =
-    absurd (let no : ◌≡◌ {A = Option ℕ} None (Some scan.steps) = sym none ∙ scan.told in cc)
+    absurd (let no : ◌≡◌ {A = Option ℕ} None (Some scan.steps) = sym none ∙ scan.reported in cc)
 no-scan-of p line none (inr (inl l)) =
     ap printed_scan l.is
     ∙ no-scan-line (decimal p.now) (codes "command")
@@ -246,10 +246,10 @@ module _ (age : ℕ) (first : State) (past : List PastEvent) (known : Known age 
       let scans : EachPast Steps first (q ∷ s.earlier) =
       past-in Steps first s.since q s.earlier earlier s.split here.1 in
       let steps : ℕ = (run_result_at q.now (device_at q.now old_q)).steps in
-      let told : scan_told q.answer ≡ Some steps = ap scan_told s.done.answered in
+      let reported : scan_told q.answer ≡ Some steps = ap scan_told s.done.answered in
       let few : steps < 2 ^ 64 =
       (past-in AreFew first s.since q s.earlier earlier s.split
-      (past-in AreFew first at.later order earlier past at.split known.few).1).0 steps told in
+      (past-in AreFew first at.later order earlier past at.split known.few).1).0 steps reported in
       let late : q.now ≤ last_moment =
       step-on-time q.now q.event old_q q.answer q.after _ scans.0 s.done.answered in
       let switches : q.after.switches ≡ first.switches =
@@ -288,12 +288,12 @@ module _ (age : ℕ) (first : State) (past : List PastEvent) (known : Known age 
             at.own));
         scanned = s.done.event_is;
         front = load ∷ (flat g.others ++ lines.before);
-        told = scan_line q.now steps (switches_digits q.after 0 q.after.switches);
+        reported = scan_line q.now steps (switches_digits q.after 0 q.after.switches);
         back = flat g.between ++ at.part;
         lines = ap (λ ls. load ∷ ls) place;
         printed = printed-for begin load load_is q s.earlier g.others lines.before []
             (scan_line q.now steps (switches_digits q.after 0 q.after.switches)) g.are
-            (g.is.whole ∙ ap ended lines.is);
+            (g.is.whole ∙ ap with_ends lines.is);
         read = record {
           moment = q.now;
           steps = steps;
@@ -308,7 +308,7 @@ module _ (age : ℕ) (first : State) (past : List PastEvent) (known : Known age 
                 opens = may_open q.after k;
                 closes = may_close q.after k;
               };
-              told = told-first q.after k q.after.switches l.switch switch_is;
+              reported = told-first q.after k q.after.switches l.switch switch_is;
               same = refl;
               released =
                   released-as q.after old l.switch.id k l.command.operation s.keeps rel.enabled;

@@ -16,7 +16,7 @@ use Rattle.bay_device.specs.declared.fault.StepFault.{StepFault}
 use Rattle.bay_load.specs.declared.report.Report.{Report}
 use Rattle.bay_device.proofs.LoadLemmas.{image-is}
 use Rattle.bay_report.specs.Lines.{unreadable_text}
-use Rattle.bay_report.specs.Report.{refusal_by, refusal_of}
+use Rattle.bay_report.specs.Report.{coded_refusal, load_refusal_text}
 use Rattle.cmd_replay.specs.Scenario.{ScenarioParts}
 use Rattle.cmd_replay.specs.History.{EachPast}
 use Rattle.bay_replay_laws.specs.Printed.{printed_scan}
@@ -41,9 +41,9 @@ module _ (first : State) (budget : ℕ) (small : budget < 2 ^ 64) (ids : HaveIds
       → EachPast AreFew first past
   past-few [] steps within = tt
   past-few (p ∷ past) steps within = (
-    λ count told.
+    λ count reported.
         let less : count ≤ budget =
-        within.0 count told budget
+        within.0 count reported budget
         (subst (λ image. IsBudget image.code budget) (sym (past-fixed first past steps.1).image)
         b) in
         omega (arith, less, small),
@@ -93,12 +93,12 @@ numbered-lines false code line =
     (decimal-free 10 code no-end) (decimal-free 10 line no-end))
     (other-line (codes "load") (codes "refused") rest refl refl refl refl))
 
-refused-by : (code : Option ℕ) (line : ℕ) → AreLines IsOther (refusal_by code line)
+refused-by : (code : Option ℕ) (line : ℕ) → AreLines IsOther (coded_refusal code line)
 refused-by None line =
     one-line (codes "load refused memory") refl (record { no_scan = refl; no_command = refl })
 refused-by (Some code) line = numbered-lines (line == 0) code line
 
-pub refused-lines : (error : LoadError) → AreLines IsOther (refusal_of error)
+pub refused-lines : (error : LoadError) → AreLines IsOther (load_refusal_text error)
 refused-lines error = refused-by (code_of error) (line_of error)
 
 -- ---- a report

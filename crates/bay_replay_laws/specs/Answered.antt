@@ -21,7 +21,7 @@ use Rattle.cmd_replay.specs.Scenario.{ScenarioParts}
 use Rattle.cmd_replay.specs.History.{device_after}
 use Rattle.bay_replay_laws.specs.Printed.{PrintedCommand, lines_in, printed_command, printed_send}
 use Rattle.bay_replay_laws.specs.Released.{IsCommandLineFor}
-use Rattle.bay_replay_laws.specs.Reports.{OfEach}
+use Rattle.bay_replay_laws.specs.Reports.{OfEachReport}
 use Rattle.cmd_replay.specs.Runs.{IsRun}
 
 -- A command's line is one of the lines for octets of a client. One of the PDUs in these octets
@@ -50,10 +50,10 @@ pub record IsAnswered (begin : List ℕ) (first : State) (past : List PastEvent)
   pub terms : Terms
   pub pdu : List ℕ
   pub asked : Contains (indications talk octets.now) (delivers terms pdu)
-  pub told : List ℕ
-  pub stands : Contains (lines_in (step_text order.now order.answer order.after)) told
+  pub reported : List ℕ
+  pub stands : Contains (lines_in (step_text order.now order.answer order.after)) reported
   pub sent : List ℕ
-  pub digits : printed_send told
+  pub digits : printed_send reported
       ≡ Some (record { association = decimal association; octets = encode_lower sent })
   pub accepts : Contains (operates_in (observed_in_pdu order.now association pdu (bay_of first)
       (pdu_in sent))) operate
@@ -69,4 +69,4 @@ AreAnswered parts first text status run =
 
 -- A report has no line of a command, or is the text of a run in which each is answered.
 abbrev pub CommandsAreAnswered : Type 0
-CommandsAreAnswered = OfEach printed_command AreAnswered
+CommandsAreAnswered = OfEachReport printed_command AreAnswered

@@ -19,15 +19,15 @@ use Rattle.cmd_replay.specs.Runs.{IsRun}
 use Rattle.cmd_replay.specs.Scenario.{ScenarioParts}
 use Rattle.bay_replay_laws.specs.Printed.{PrintedScan, PrintedSwitch, lines_in, printed_scan}
 use Rattle.bay_replay_laws.specs.Released.{IsCommandLineFor}
-use Rattle.bay_replay_laws.specs.Reports.{OfEach}
+use Rattle.bay_replay_laws.specs.Reports.{OfEachReport}
 
 -- The entries of a line are, switch by switch and in their order, its id and the values of its
 -- EnaOpn and its EnaCls in the outputs; a value that the program does not name is FALSE.
 abbrev pub AreValues : List Source → List Value → ℕ → List Switch → List PrintedSwitch → Type 0
-AreValues writes outputs k [] told = told ≡ []
-AreValues writes outputs k (switch ∷ switches) told =
+AreValues writes outputs k [] reported = reported ≡ []
+AreValues writes outputs k (switch ∷ switches) reported =
     (more : List PrintedSwitch)
-    × (told ≡ record {
+    × (reported ≡ record {
       id = switch.id;
       opens = output_of k EnableOpen writes outputs;
       closes = output_of k EnableClose writes outputs;
@@ -63,4 +63,4 @@ AreMeant parts first text status run =
 -- A report has no line of a scan, or is the text of a run in which each has what the text of the
 -- program means.
 abbrev pub ScansAreMeant : Type 0
-ScansAreMeant = OfEach printed_scan AreMeant
+ScansAreMeant = OfEachReport printed_scan AreMeant

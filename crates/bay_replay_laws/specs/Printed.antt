@@ -12,9 +12,9 @@ abbrev pub lines_in : List ℕ → List (List ℕ)
 lines_in text = slice_split (λ b. b == 10) text
 
 -- lines, each with its end
-abbrev pub ended : List (List ℕ) → List ℕ
-ended [] = []
-ended (line ∷ lines) = line ++ 10 ∷ ended lines
+abbrev pub with_ends : List (List ℕ) → List ℕ
+with_ends [] = []
+with_ends (line ∷ lines) = line ++ 10 ∷ with_ends lines
 
 -- the words of a line, and the parts of a word
 abbrev pub words_in : List ℕ → List (List ℕ)
@@ -32,11 +32,11 @@ number_of digits =
     else None
 
 -- the number after a name
-abbrev pub number_named : List ℕ → List (List ℕ) → Option ℕ
-number_named name [] = None
-number_named name (part ∷ []) = None
-number_named name (part ∷ digits ∷ []) = if bytes_eq part name then number_of digits else None
-number_named name (part ∷ digits ∷ next ∷ more) = None
+abbrev pub number_after : List ℕ → List (List ℕ) → Option ℕ
+number_after name [] = None
+number_after name (part ∷ []) = None
+number_after name (part ∷ digits ∷ []) = if bytes_eq part name then number_of digits else None
+number_after name (part ∷ digits ∷ next ∷ more) = None
 
 -- 1 is TRUE, and 0 FALSE
 abbrev pub truth_of : ℕ → Option Bool
@@ -46,7 +46,7 @@ truth_of b = if b == 49 then Some true else if b == 48 then Some false else None
 
 abbrev pub budget_in : List (List ℕ) → Option ℕ
 budget_in (instructions ∷ depth ∷ budget ∷ []) =
-    number_named (codes "budget") (parts_in budget)
+    number_after (codes "budget") (parts_in budget)
 budget_in _ = None
 
 -- the budget in the line of a load
@@ -61,14 +61,14 @@ pub record PrintedSwitch : Type 0 where
   pub opens : Bool
   pub closes : Bool
 
-abbrev pub switch_of : List ℕ → Option Bool → Option Bool → Option PrintedSwitch
-switch_of id (Some opens) (Some closes) =
+abbrev pub switch_from_parts : List ℕ → Option Bool → Option Bool → Option PrintedSwitch
+switch_from_parts id (Some opens) (Some closes) =
     Some (record { id = id; opens = opens; closes = closes })
-switch_of id _ _ = None
+switch_from_parts id _ _ = None
 
 -- two digits
 abbrev pub switch_digits : List ℕ → List ℕ → Option PrintedSwitch
-switch_digits id (x ∷ y ∷ []) = switch_of id (truth_of x) (truth_of y)
+switch_digits id (x ∷ y ∷ []) = switch_from_parts id (truth_of x) (truth_of y)
 switch_digits id _ = None
 
 abbrev pub switch_in : List (List ℕ) → Option PrintedSwitch
@@ -87,15 +87,15 @@ pub record PrintedScan : Type 0 where
   pub steps : ℕ
   pub switches : List PrintedSwitch
 
-abbrev pub scan_of : Option ℕ → Option ℕ → Option (List PrintedSwitch) → Option PrintedScan
-scan_of (Some moment) (Some steps) (Some switches) =
+abbrev pub scan_from_parts : Option ℕ → Option ℕ → Option (List PrintedSwitch) → Option PrintedScan
+scan_from_parts (Some moment) (Some steps) (Some switches) =
     Some (record { moment = moment; steps = steps; switches = switches })
-scan_of _ _ _ = None
+scan_from_parts _ _ _ = None
 
 abbrev pub scan_in : List (List ℕ) → Option PrintedScan
 scan_in (moment ∷ verb ∷ steps ∷ switches) =
     if bytes_eq verb (codes "scan")
-    then scan_of (number_of moment) (number_named (codes "steps") (parts_in steps))
+    then scan_from_parts (number_of moment) (number_after (codes "steps") (parts_in steps))
     (switches_in switches)
     else None
 scan_in _ = None
@@ -113,20 +113,20 @@ pub record PrintedCommand : Type 0 where
   pub operation : Operation
 
 -- `on` closes a switch, `off` opens it
-abbrev pub order_of : List ℕ → Option Operation
-order_of word =
+abbrev pub operation_of : List ℕ → Option Operation
+operation_of word =
     if bytes_eq word (codes "on") then Some operations.Close
     else if bytes_eq word (codes "off") then Some operations.Open
     else None
 
-abbrev pub command_of : Option ℕ → List ℕ → Option Operation → Option PrintedCommand
-command_of (Some moment) id (Some operation) =
+abbrev pub command_from_parts : Option ℕ → List ℕ → Option Operation → Option PrintedCommand
+command_from_parts (Some moment) id (Some operation) =
     Some (record { moment = moment; id = id; operation = operation })
-command_of _ id _ = None
+command_from_parts _ id _ = None
 
 abbrev pub command_in : List (List ℕ) → Option PrintedCommand
 command_in (moment ∷ verb ∷ id ∷ order ∷ []) =
-    if bytes_eq verb (codes "command") then command_of (number_of moment) id (order_of order)
+    if bytes_eq verb (codes "command") then command_from_parts (number_of moment) id (operation_of order)
     else None
 command_in _ = None
 

@@ -9,9 +9,9 @@ use Rattle.bay_device.specs.declared.event.Event.TheVariants.{Scan}
 use Rattle.bay_report.specs.Lines.{step_text}
 use Rattle.bay_report.specs.Report.{report_text}
 use Rattle.cmd_replay.specs.Scenario.{ScenarioParts}
-use Rattle.bay_replay_laws.specs.Printed.{PrintedCommand, PrintedScan, PrintedSwitch, ended, lines_in, printed_command, printed_scan}
-use Rattle.bay_replay_laws.specs.Reports.{OfEach}
-use Rattle.cmd_replay.specs.Runs.{IsRun, printed_of}
+use Rattle.bay_replay_laws.specs.Printed.{PrintedCommand, PrintedScan, PrintedSwitch, with_ends, lines_in, printed_command, printed_scan}
+use Rattle.bay_replay_laws.specs.Reports.{OfEachReport}
+use Rattle.cmd_replay.specs.Runs.{IsRun, past_text}
 
 -- A line that follows these lines of a text, which begins with `begin`, is one of the lines for an
 -- event, which follows these events.
@@ -20,19 +20,19 @@ pub record IsCommandLineFor (begin : List ℕ) (p : PastEvent) (earlier : List P
   pub part : List ℕ
   pub rest : List ℕ
   pub own : step_text p.now p.answer p.after ≡ part ++ (line ++ 10 ∷ rest)
-  pub behind : ended before ≡ begin ++ (printed_of earlier ++ part)
+  pub behind : with_ends before ≡ begin ++ (past_text earlier ++ part)
 
 -- a scan's line releases an operation of a switch
-abbrev pub lets : Operation → PrintedSwitch → Bool
-lets operations.Open switch = switch.opens
-lets operations.Close switch = switch.closes
+abbrev pub releases_operation : Operation → PrintedSwitch → Bool
+releases_operation operations.Open switch = switch.opens
+releases_operation operations.Close switch = switch.closes
 
 -- A scan's line releases a command: it has `id=x1` of the switch for on, `id=1y` for off.
 pub record Releases (scan : PrintedScan) (command : PrintedCommand) : Type 0 where
   pub switch : PrintedSwitch
-  pub told : Contains scan.switches switch
+  pub reported : Contains scan.switches switch
   pub same : switch.id ≡ command.id
-  pub released : lets command.operation switch ≡ true
+  pub released : releases_operation command.operation switch ≡ true
 
 -- Among the lines before a command's line is that of the last scan before it, which releases it, at
 -- most `age` milliseconds before; both are lines for events of this history. Of the events between
@@ -49,12 +49,12 @@ pub record IsReleasedBy (age : ℕ) (begin : List ℕ) (past : List PastEvent) (
   pub ordered : IsCommandLineFor begin order (since ++ scan ∷ earlier) before line
   pub scanned : scan.event ≡ Scan
   pub front : List (List ℕ)
-  pub told : List ℕ
+  pub reported : List ℕ
   pub back : List (List ℕ)
-  pub lines : before ≡ front ++ told ∷ back
-  pub printed : IsCommandLineFor begin scan earlier front told
+  pub lines : before ≡ front ++ reported ∷ back
+  pub printed : IsCommandLineFor begin scan earlier front reported
   pub read : PrintedScan
-  pub is : printed_scan told ≡ Some read
+  pub is : printed_scan reported ≡ Some read
   pub releases : Releases read command
   pub recent : command.moment ≤ read.moment + age
   pub last : All (λ (p : PastEvent). IfOk p.answer (λ step. step.scan ≡ None)) since
@@ -72,4 +72,4 @@ AreReleased parts first text status run =
 
 -- A report has no line of a command, or is the text of a run in which each is released.
 abbrev pub CommandsAreReleased : Type 0
-CommandsAreReleased = OfEach printed_command AreReleased
+CommandsAreReleased = OfEachReport printed_command AreReleased

@@ -5,16 +5,16 @@ use Rattle.cmd_replay.specs.Replay.{IsReport}
 use Rattle.bay_replay_laws.specs.Printed.{PrintedScan, lines_in, printed_budget, printed_scan}
 
 -- the first of some lines
-abbrev pub first_of : List (List ℕ) → List ℕ
-first_of [] = []
-first_of (line ∷ lines) = line
+abbrev pub first_line : List (List ℕ) → List ℕ
+first_line [] = []
+first_line (line ∷ lines) = line
 
 -- Each line of a scan has at most as many steps as the first line allows.
 abbrev pub AreWithinBudget : List ℕ → Type 0
 AreWithinBudget text =
     (line : List ℕ) (scan : PrintedScan) → Contains (lines_in text) line
     → printed_scan line ≡ Some scan
-    → (budget : ℕ) × (printed_budget (first_of (lines_in text)) ≡ Some budget)
+    → (budget : ℕ) × (printed_budget (first_line (lines_in text)) ≡ Some budget)
     × (scan.steps ≤ budget)
 
 -- In each report the lines of scans are within the budget.

@@ -11,8 +11,8 @@ use Rattle.bay_io.specs.Sent.{FlushOutcome, Finishes, Puts, Sends, SendsPart}
 use Rattle.bay_io.specs.Watched.{WriterState}
 use Rattle.bay_io.specs.declared.outbox.WriteFault.{WriteFault}
 use Rattle.bay_report.specs.Lines.{command_text, commands_text, send_text, sends_text}
-use Rattle.bay_report.specs.LogLines.{IsReported, LogsSome, PrintsLogs}
-use Rattle.bay_report.specs.Report.{IsLast, Printed, Prints}
+use Rattle.bay_report.specs.LogLines.{IsLoggedOutput, LogsIfAny, PrintsLogs}
+use Rattle.bay_report.specs.Report.{IsOutput, Printed, Prints}
 use Rattle.bay_mms_services.specs.declared.answer.Command.{Command}
 
 pub sends-turn : (now : ℕ) (sends : List Sent) (k : ℕ) (sent : Sent) → sent ≡ get_or sends k sent
@@ -43,7 +43,7 @@ module _ {W : Type 0} {contents : W → Option (List ℕ)} {asks : W → WriteCa
   last-printed : {old mid : WriterState W} {text : List ℕ} (new : WriterState W) (status : ℕ)
       (r : Result ℕ WriteFault) → May text status → Puts contents asks old text mid
       → FlushOutcome contents mid new r → IfOk r (λ s. s ≡ status) → Printed contents May old new r
-  last-printed {old} {mid} {text} new status (Ok s) told put ends is = by_failed mid.has_failed
+  last-printed {old} {mid} {text} new status (Ok s) reported put ends is = by_failed mid.has_failed
       refl put.sent
     where
       by_failed : (b : Bool) → mid.has_failed ≡ b
@@ -54,17 +54,17 @@ module _ {W : Type 0} {contents : W → Option (List ℕ)} {asks : W → WriteCa
       by_failed false failed sent = (
         record {
           text = text;
-          told = subst (May text) (sym is) told;
+          reported = subst (May text) (sym is) reported;
           appended = Sends-rest (contents old.inner) (contents mid.inner) (contents new.inner)
               (old.pending ++ text) mid.pending sent ends.1;
         },
         (ends.2, ends.3.0, ends.3.1),
       )
-  last-printed {old} {mid} {text} new status (Err fault) told put ends is = (
+  last-printed {old} {mid} {text} new status (Err fault) reported put ends is = (
     record {
       text = text;
       status = status;
-      told = told;
+      reported = reported;
       part = by_failed mid.has_failed refl put.sent;
     },
     ends.2,
@@ -86,8 +86,8 @@ module _ {W : Type 0} {contents : W → Option (List ℕ)} {asks : W → WriteCa
       (r : Result ℕ WriteFault) → May text status → Puts contents asks old text mid
       → Finishes contents asks mid new r → IfOk r (λ s. s ≡ status)
       → Prints contents asks May old new r
-  Prints-last {old} {mid} {text} new status r told put f is = record {
-    printed = last-printed new status r told put f.ends is;
+  Prints-last {old} {mid} {text} new status r reported put f is = record {
+    printed = last-printed new status r reported put f.ends is;
     calls_made = Asked-then old.inner mid.inner new.inner old.has_failed mid.has_failed new.has_failed
         put.calls_made f.calls_made;
     same_logs = f.same_logs ∙ put.same_logs;
@@ -97,12 +97,12 @@ module _ {W : Type 0} {contents : W → Option (List ℕ)} {asks : W → WriteCa
   pub Prints-cut : {old new : WriterState W} {front : List ℕ} (more : List ℕ) (status : ℕ)
       (fault : WriteFault) → May (front ++ more) status → Puts contents asks old front new
       → new.has_failed ≡ true → Prints contents asks May old new (Err fault)
-  Prints-cut {old} {new} {front} more status fault told put failed = record {
+  Prints-cut {old} {new} {front} more status fault reported put failed = record {
     printed = (
       record {
         text = front ++ more;
         status = status;
-        told = told;
+        reported = reported;
         part = SendsPart-more (contents old.inner) (contents new.inner) (old.pending ++ front) more
             (old.pending ++ (front ++ more)) (by_failed new.has_failed failed put.sent)
             (sym (append_assoc old.pending front more));
@@ -125,14 +125,14 @@ weaker : {W : Type 0} (contents : W → Option (List ℕ)) (May Might : List ℕ
     → ((text : List ℕ) (status : ℕ) → May text status → Might text status)
     → Printed contents May old new r → Printed contents Might old new r
 weaker contents May Might old new (Ok status) wider p = (
-  record { text = p.0.text; told = wider p.0.text status p.0.told; appended = p.0.appended },
+  record { text = p.0.text; reported = wider p.0.text status p.0.reported; appended = p.0.appended },
   p.1,
 )
 weaker contents May Might old new (Err fault) wider p = (
   record {
     text = p.0.text;
     status = p.0.status;
-    told = wider p.0.text p.0.status p.0.told;
+    reported = wider p.0.text p.0.status p.0.reported;
     part = p.0.part;
   },
   p.1,
@@ -176,23 +176,23 @@ module _ {W : Type 0} {contents : W → Option (List ℕ)} {asks : W → WriteCa
     {last : List ℕ} {status : ℕ} {old between : WriterState W} where
   -- a text goes with its line
   pub with-line : {r : Result ℕ WriteFault} (line : Option (List ℕ))
-      → Prints contents asks (IsLast last status) old between r
-      → Prints contents asks (IsReported line last status line) old between r
-  with-line {r} line p = Prints-weaker contents asks (IsLast last status)
-      (IsReported line last status line) old between r (λ text answered told. (refl, told)) p
+      → Prints contents asks (IsOutput last status) old between r
+      → Prints contents asks (IsLoggedOutput line last status line) old between r
+  with-line {r} line p = Prints-weaker contents asks (IsOutput last status)
+      (IsLoggedOutput line last status line) old between r (λ text answered reported. (refl, reported)) p
 
   -- a text was printed, and its line was logged
   pub PrintsLogs-told : {new : WriterState W} (line : Option (List ℕ)) (answered : ℕ)
-      → Prints contents asks (IsLast last status) old between (Ok answered)
-      → LogsSome contents asks between line new
-      → PrintsLogs contents asks (IsReported line last status) old new (Ok answered)
+      → Prints contents asks (IsOutput last status) old between (Ok answered)
+      → LogsIfAny contents asks between line new
+      → PrintsLogs contents asks (IsLoggedOutput line last status) old new (Ok answered)
   PrintsLogs-told line answered p logged =
       record { line = line; between = between; printed = with-line line p; logged = logged }
 
   -- it could not be printed
   pub PrintsLogs-cut : (line : Option (List ℕ)) (fault : WriteFault) (r : Result ℕ WriteFault)
-      → IsErr r → Prints contents asks (IsLast last status) old between (Err fault)
-      → PrintsLogs contents asks (IsReported line last status) old between r
+      → IsErr r → Prints contents asks (IsOutput last status) old between (Err fault)
+      → PrintsLogs contents asks (IsLoggedOutput line last status) old between r
   PrintsLogs-cut line fault (Ok answered) is p = absurd cc
   PrintsLogs-cut line fault (Err f) is p =
       record { line = line; between = between; printed = with-line line p; logged = refl }

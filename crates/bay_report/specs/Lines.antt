@@ -46,13 +46,13 @@ ended_text now None = []
 ended_text now (Some sent) = send_text now sent
 
 -- the position that an operation leads to
-abbrev pub order_text : Operation → List ℕ
-order_text operations.Open = codes " off\n"
-order_text operations.Close = codes " on\n"
+abbrev pub target_text : Operation → List ℕ
+target_text operations.Open = codes " off\n"
+target_text operations.Close = codes " on\n"
 
 -- the line of a command to the switch with this id
 abbrev pub command_line : ℕ → List ℕ → Operation → List ℕ
-command_line now id operation = decimal now ++ codes " command " ++ id ++ order_text operation
+command_line now id operation = decimal now ++ codes " command " ++ id ++ target_text operation
 
 -- the line of a command to this switch; nothing without a switch
 abbrev pub command_part : ℕ → Operation → Option Switch → List ℕ
@@ -93,15 +93,15 @@ refusal_line now code = decimal now ++ codes " refused " ++ decimal code ++ code
 
 -- the lines of an accepted event, by its answer and the device after it: the report that an
 -- operation ended, what is sent, the commands, the scan, and the association that was closed
-abbrev pub done_text : ℕ → Step → State → List ℕ
-done_text now step s =
+abbrev pub accepted_text : ℕ → Step → State → List ℕ
+accepted_text now step s =
     ended_text now step.ended ++ sends_text now step.sent ++ commands_text now s step.commands
     ++ ran_text now step.scan s ++ closed_text now step.closed
 
 -- the lines of an event
 abbrev pub step_text : ℕ → Result Step StepFault → State → List ℕ
 step_text now (Err fault) s = refusal_line now (step_code_of fault)
-step_text now (Ok step) s = done_text now step s
+step_text now (Ok step) s = accepted_text now step s
 
 -- the line for a line of the trace that is not valid, by its number
 abbrev pub unreadable_text : ℕ → List ℕ

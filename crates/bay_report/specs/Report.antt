@@ -20,13 +20,13 @@ numbered_refusal code line =
     else codes "load refused " ++ decimal code ++ codes " line " ++ (decimal line ++ codes "\n")
 
 -- the line of a refused load, by the number and the line of its error; out of memory has no number
-abbrev pub refusal_by : Option ℕ → ℕ → List ℕ
-refusal_by None line = codes "load refused memory\n"
-refusal_by (Some code) line = numbered_refusal code line
+abbrev pub coded_refusal : Option ℕ → ℕ → List ℕ
+coded_refusal None line = codes "load refused memory\n"
+coded_refusal (Some code) line = numbered_refusal code line
 
 -- the line of a refused load
-abbrev pub refusal_of : LoadError → List ℕ
-refusal_of fault = refusal_by (error.code_of fault) (error.line_of fault)
+abbrev pub load_refusal_text : LoadError → List ℕ
+load_refusal_text fault = coded_refusal (error.code_of fault) (error.line_of fault)
 
 -- the line of a load: the number of instructions of the program, the maximum number of values on
 -- its stack, and the maximum number of instructions that a scan executes
@@ -47,7 +47,7 @@ code_of Unproved = 4
 pub record Reports (May : List ℕ → ℕ → Type 0) (pending : List ℕ) (old new : Option (List ℕ))
     (status : ℕ) : Type 0 where
   pub text : List ℕ
-  pub told : May text status
+  pub reported : May text status
   pub appended : Appends old new (pending ++ text)
 
 -- the writer received a prefix of what was pending and of one text that may be printed
@@ -55,12 +55,12 @@ pub record ReportsPart (May : List ℕ → ℕ → Type 0) (pending : List ℕ) 
     : Type 0 where
   pub text : List ℕ
   pub status : ℕ
-  pub told : May text status
+  pub reported : May text status
   pub part : SendsPart old new (pending ++ text)
 
 -- this text and this status alone
-abbrev pub IsLast : List ℕ → ℕ → List ℕ → ℕ → Type 0
-IsLast last answered text status = (text ≡ last) × (status ≡ answered)
+abbrev pub IsOutput : List ℕ → ℕ → List ℕ → ℕ → Type 0
+IsOutput last answered text status = (text ≡ last) × (status ≡ answered)
 
 -- The result is the status of a text that may be printed, and all of the text reached the writer
 -- and was flushed; or a write or a flush failed, and the writer received a prefix of such a text.

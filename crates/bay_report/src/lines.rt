@@ -5,7 +5,7 @@ ghost use Rattle.hex.specs.Hex.{encode_lower};
 ghost use Rattle.bay_device.specs.Device.{State};
 ghost use Rattle.bay_device.specs.Steps.{quiet_answer, scan_answer};
 ghost use Rattle.bay_io.specs.Sent.{Puts};
-ghost use Rattle.bay_report.specs.Lines.{scan_text, ran_text, send_text, sends_text, ended_text, order_text, command_line, command_text, commands_text, why_text, closing_text, closed_text, refusal_line, done_text, step_text, unreadable_text};
+ghost use Rattle.bay_report.specs.Lines.{scan_text, ran_text, send_text, sends_text, ended_text, target_text, command_line, command_text, commands_text, why_text, closing_text, closed_text, refusal_line, accepted_text, step_text, unreadable_text};
 
 use bay_base::switch::Operation;
 use bay_device::device::Device;
@@ -126,7 +126,7 @@ fn put_ended<W: Sink>(writer: &mut WatchedWriter<W>, moment: u64, ended: &Option
 
 /// Returns the end of a command's line.
 pub fn command_end(operation: Operation) -> &'static [u8]
-    ensures { result.now ≡ order_text operation }
+    ensures { result.now ≡ target_text operation }
 {
     match operation {
         Operation::Open => b" off\n",
@@ -223,8 +223,8 @@ fn put_closed<W: Sink>(writer: &mut WatchedWriter<W>, moment: u64, closed: Optio
 }
 
 // Writes the lines of an accepted event.
-fn put_done<W: Sink>(writer: &mut WatchedWriter<W>, device: &Device, moment: u64, step: &Step)
-    ensures { Puts W.contents W.does writer.old (done_text moment step.now device.now) writer.new }
+fn put_accepted<W: Sink>(writer: &mut WatchedWriter<W>, device: &Device, moment: u64, step: &Step)
+    ensures { Puts W.contents W.does writer.old (accepted_text moment step.now device.now) writer.new }
 {
     put_ended(writer, moment, &step.ended);
     put_sends(writer, moment, step.sent.as_slice());
@@ -246,7 +246,7 @@ pub fn put_step<W: Sink>(
 {
     match answer {
         Err(fault) => put_refusal(writer, moment, fault.code()),
-        Ok(step) => put_done(writer, device, moment, step),
+        Ok(step) => put_accepted(writer, device, moment, step),
     }
 }
 

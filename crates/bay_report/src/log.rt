@@ -2,7 +2,7 @@
 ghost use Rattle.std.specs.Prelude.{◌≡◌, None, Some, codes};
 ghost use Rattle.bay_io.specs.Calls.{parts_text};
 ghost use Rattle.bay_io.specs.Sent.{Logs};
-ghost use Rattle.bay_report.specs.LogLines.{IsReported, LogsSome, PrintsLogs, Refuses, UnreadReport, refused_line, unreadable_line, unwritten_line};
+ghost use Rattle.bay_report.specs.LogLines.{IsLoggedOutput, LogsIfAny, PrintsLogs, RefusalReport, UnreadReport, load_refusal_log, unreadable_line, unwritten_line};
 ghost use Rattle.bay_report.specs.Report.{code_of};
 ghost use Rattle.bay_report.specs.LogLines as spec;
 
@@ -16,8 +16,8 @@ use bay_load::error::LoadError;
 use std::io::ErrorKind;
 
 // Returns why the system can't read a file, in words.
-fn kind_words(kind: ErrorKind) -> &'static [u8]
-    ensures { result.now ≡ spec.kind_words kind }
+fn read_error_words(kind: ErrorKind) -> &'static [u8]
+    ensures { result.now ≡ spec.read_error_words kind }
 {
     match kind {
         ErrorKind::NotFound => b"there is no such file",
@@ -32,7 +32,7 @@ fn kind_words(kind: ErrorKind) -> &'static [u8]
 
 // Logs why a load is refused; nothing if memory ran out.
 fn log_refusal<W: Sink>(writer: &mut WatchedWriter<W>, error: LoadError)
-    ensures { LogsSome W.contents W.does writer.old (refused_line error) writer.new }
+    ensures { LogsIfAny W.contents W.does writer.old (load_refusal_log error) writer.new }
 {
     let Some(code) = error.code() else {
         return;
@@ -63,8 +63,8 @@ fn log_refusal<W: Sink>(writer: &mut WatchedWriter<W>, error: LoadError)
 }
 
 // Returns why the system can't write a file, in words.
-fn write_words(kind: ErrorKind) -> &'static [u8]
-    ensures { result.now ≡ spec.write_words kind }
+fn write_error_words(kind: ErrorKind) -> &'static [u8]
+    ensures { result.now ≡ spec.write_error_words kind }
 {
     match kind {
         ErrorKind::AlreadyExists => b"it exists already, so name a new file",
@@ -73,7 +73,7 @@ fn write_words(kind: ErrorKind) -> &'static [u8]
         | ErrorKind::IsADirectory
         | ErrorKind::NotADirectory
         | ErrorKind::FilesystemLoop
-        | ErrorKind::InvalidFilename => kind_words(kind),
+        | ErrorKind::InvalidFilename => read_error_words(kind),
         ErrorKind::StorageFull => b"no space is left",
         ErrorKind::ReadOnlyFilesystem => b"its file system is read-only",
         _ => b"it can't be written",
@@ -88,7 +88,7 @@ pub fn log_unwritten<W: Sink>(writer: &mut WatchedWriter<W>, name: &str, kind: E
         LinePart::Text(b"bayctl: fault 122: "),
         LinePart::Text(name.as_bytes()),
         LinePart::Text(b": "),
-        LinePart::Text(write_words(kind)),
+        LinePart::Text(write_error_words(kind)),
         LinePart::Text(b"\n"),
     ]);
 }
@@ -115,7 +115,7 @@ pub fn write_and_log<W: Sink>(
     status: Status,
     parts: &[LinePart<'_>],
 ) -> Result<u8, WriteFault>
-    ensures { PrintsLogs W.contents W.does (IsReported (Some (parts_text parts.now)) text.now
+    ensures { PrintsLogs W.contents W.does (IsLoggedOutput (Some (parts_text parts.now)) text.now
         (code_of status))
         writer.old writer.new result }
 {
@@ -127,7 +127,7 @@ pub fn write_and_log<W: Sink>(
 /// Writes `fault memory` as the whole output, and returns the status 3. Fails if a write or a flush
 /// fails or failed before.
 pub fn write_out_of_memory<W: Sink>(writer: &mut WatchedWriter<W>) -> Result<u8, WriteFault>
-    ensures { PrintsLogs W.contents W.does (IsReported None (codes "fault memory\n") 3) writer.old
+    ensures { PrintsLogs W.contents W.does (IsLoggedOutput None (codes "fault memory\n") 3) writer.old
         writer.new result }
 {
     write_text(writer, NO_MEMORY, Status::Fault)
@@ -153,7 +153,7 @@ pub fn report_unread<W: Sink>(
             write_and_log(writer, b"fault 121\n", Status::Fault, &[start, what, why])
         }
         ReadFault::Failed(kind) => {
-            let why = LinePart::Text(kind_words(kind));
+            let why = LinePart::Text(read_error_words(kind));
             let parts = [
                 start,
                 what,
@@ -172,7 +172,7 @@ pub fn report_load_refusal<W: Sink>(
     writer: &mut WatchedWriter<W>,
     error: LoadError,
 ) -> Result<u8, WriteFault>
-    ensures { PrintsLogs W.contents W.does (Refuses error) writer.old writer.new result }
+    ensures { PrintsLogs W.contents W.does (RefusalReport error) writer.old writer.new result }
 {
     let status = write_refusal(writer, error)?;
     log_refusal(writer, error);

@@ -1,7 +1,7 @@
 // Output that is written and flushed as a whole, with the exit status it leads to.
 ghost use Rattle.std.specs.Prelude.{◌≡◌, IfOk};
 ghost use Rattle.bay_io.specs.Sent.{Finishes};
-ghost use Rattle.bay_report.specs.Report.{IsLast, Prints, code_of, refusal_of, report_text};
+ghost use Rattle.bay_report.specs.Report.{IsOutput, Prints, code_of, load_refusal_text, report_text};
 
 use crate::report::{put_load_refusal, put_report};
 use bay_io::calls::Sink;
@@ -60,7 +60,7 @@ pub fn write_text<W: Sink>(
     text: &[u8],
     status: Status,
 ) -> Result<u8, WriteFault>
-    ensures { Prints W.contents W.does (IsLast text.now (code_of status)) writer.old writer.new
+    ensures { Prints W.contents W.does (IsOutput text.now (code_of status)) writer.old writer.new
         result }
 {
     writer.put(text);
@@ -73,7 +73,7 @@ pub(crate) fn write_refusal<W: Sink>(
     writer: &mut WatchedWriter<W>,
     error: LoadError,
 ) -> Result<u8, WriteFault>
-    ensures { Prints W.contents W.does (IsLast (refusal_of error) 1) writer.old writer.new result }
+    ensures { Prints W.contents W.does (IsOutput (load_refusal_text error) 1) writer.old writer.new result }
 {
     put_load_refusal(writer, error);
     finish(writer, Status::Refused)
@@ -85,7 +85,7 @@ pub fn write_report<W: Sink>(
     writer: &mut WatchedWriter<W>,
     report: Report,
 ) -> Result<u8, WriteFault>
-    ensures { Prints W.contents W.does (IsLast (report_text report) 0) writer.old writer.new
+    ensures { Prints W.contents W.does (IsOutput (report_text report) 0) writer.old writer.new
         result }
 {
     put_report(writer, report);

@@ -2,7 +2,7 @@
 ghost use Rattle.std.specs.Prelude.{◌≡◌, ◌++◌, codes};
 ghost use Rattle.std.specs.Fmt.{decimal};
 ghost use Rattle.bay_io.specs.Sent.{Puts};
-ghost use Rattle.bay_report.specs.Report.{refusal_of};
+ghost use Rattle.bay_report.specs.Report.{load_refusal_text};
 ghost use Rattle.bay_report.specs.Report as spec;
 
 use bay_io::calls::Sink;
@@ -43,7 +43,7 @@ fn put_numbered_refusal<W: Sink>(writer: &mut WatchedWriter<W>, code: u8, line: 
 
 /// Writes the line of a refused load.
 pub fn put_load_refusal<W: Sink>(writer: &mut WatchedWriter<W>, error: LoadError)
-    ensures { Puts W.contents W.does writer.old (refusal_of error) writer.new }
+    ensures { Puts W.contents W.does writer.old (load_refusal_text error) writer.new }
 {
     match error.code() {
         None => writer.put(b"load refused memory\n"),

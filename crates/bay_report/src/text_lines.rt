@@ -5,7 +5,7 @@ ghost use Rattle.bay_report.specs.TextLines.{without_end, CutsLine};
 use memchr::memchr_iter;
 
 // Removes the CR that may precede the LF of a line.
-fn without_return(line: &[u8]) -> &[u8]
+fn strip_return(line: &[u8]) -> &[u8]
     ensures { result.now ≡ without_end (13 ∷ []) line.now }
 {
     match line.strip_suffix(b"\r") {
@@ -24,7 +24,7 @@ pub fn split_line(text: &[u8]) -> (&[u8], &[u8])
 {
     // The iterator searches the next 32 octets first, and lines are short.
     match memchr_iter(b'\n', text).next() {
-        Some(at) => (without_return(&text[..at]), &text[at + 1..]),
+        Some(at) => (strip_return(&text[..at]), &text[at + 1..]),
         None => (text, &text[text.len()..]),
     }
 }

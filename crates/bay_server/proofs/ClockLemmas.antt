@@ -1,7 +1,7 @@
 -- Lemmas on the clock of a server.
 use Rattle.std.proofs.Common.{◌≡◌, ◌+◌, ◌%◌, ◌^◌, ◌<◌, List, [], ◌∷◌, ap, arith}
 use Rattle.std.proofs.lemmas.Bool.Decides.{nat_tests}
-use Rattle.bay_server.specs.Clock.{ClockData, KeepsPace, after_reading, elapsed_time, read_all}
+use Rattle.bay_server.specs.Clock.{ClockData, KeepsPace, after_reading, elapsed_time, after_readings}
 use Rattle.bay_server.specs.declared.clock.Clocks.{Clocks}
 
 pace-none : (c : ClockData) → KeepsPace c c
@@ -35,11 +35,11 @@ pace-then first second third one carried two = record {
 }
 
 pub pace-all : (readings : List Clocks) (c : ClockData) → c.carry < 100 → c.moment < 2 ^ 64
-    → KeepsPace c (read_all readings c)
+    → KeepsPace c (after_readings readings c)
 pace-all [] c small fits = pace-none c
 pace-all (clocks ∷ readings) c small fits =
     let one = pace-one clocks c small fits in
     let passed : elapsed_time clocks c ≡ one.passed = omega (arith, one.steady) in
-    pace-then c (after_reading clocks c) (read_all readings (after_reading clocks c)) one
+    pace-then c (after_reading clocks c) (after_readings readings (after_reading clocks c)) one
     (ap (λ n. (c.carry + n) % 100) passed)
     (pace-all readings (after_reading clocks c) (omega arith) (omega arith))

@@ -8,23 +8,23 @@ use Rattle.bay_io.specs.Watched.{WriterState}
 use Rattle.bay_io.specs.declared.outbox.WriteFault.{WriteFault}
 use Rattle.bay_report.proofs.ReportLemmas.{nil-from-length}
 use Rattle.bay_server.specs.Clock.{ClockData, after_reading, jump_of, moment_read, shift_of}
-use Rattle.bay_server.specs.Host.{HostCall, Pauses, Tells}
-use Rattle.bay_report.specs.Report.{IsLast, Prints}
+use Rattle.bay_server.specs.Host.{HostCall, Pauses, ReadsTimes}
+use Rattle.bay_report.specs.Report.{IsOutput, Prints}
 use Rattle.bay_report.specs.TextLines.{CutsLine, lines_of}
-use Rattle.bay_server.specs.ServeReport.{AfterTurn, Chosen, ProcessData, PollsProcess, MayPause, Serving, ServesTurns, ReportsAndPolls, ReportsConnectionEvent, ReportsTurn, ReportsTurnRefusal, TurnFails, TurnGoes, choice_of, choose_input, moment_of, numbered_lines}
+use Rattle.bay_server.specs.ServeReport.{AfterTurn, ChosenInput, ProcessData, PollsProcess, MayPause, ServiceState, ServesTurns, ReportsAndPolls, ReportsConnectionEvent, ReportsTurn, ReportsTurnRefusal, TurnRefused, TurnServed, chosen_input, choose_input, moment_of, numbered_lines}
 use Rattle.bay_process_port.specs.declared.connection_event.ConnectionEvent.{ConnectionEvent}
 use Rattle.bay_server.specs.Serving.{TriesTurn}
-use Rattle.bay_server.specs.ChangeLines.{bay_seen}
+use Rattle.bay_server.specs.ChangeLines.{bay_view}
 use Rattle.bay_server.specs.ConnectionLines.{count_after}
-use Rattle.bay_server.specs.LogLines.{shift_log, used_up_log}
+use Rattle.bay_server.specs.LogLines.{shift_log, all_served_log}
 use Rattle.bay_server.specs.Logging.{LogsAll}
 use Rattle.bay_server.specs.RecordLine.{record_log}
 use Rattle.bay_server.specs.TurnLines.{is_quiet, turn_text}
 use Rattle.bay_server.specs.declared.serving.TurnAttempt.{TurnAttempt}
 use Rattle.bay_server.specs.declared.serving.TurnAttempt.TheVariants as tried
 use Rattle.bay_report.proofs.PieceLemmas.{lines-cut}
-use Rattle.bay_server_turn.specs.Calls.{Call, Called, MakesCalls}
-use Rattle.bay_server_turn.specs.Served.{Serves, reported_in, turn_refusal}
+use Rattle.bay_server_turn.specs.Calls.{Call, CountedCall, MakesCalls}
+use Rattle.bay_server_turn.specs.Served.{Serves, report_in, turn_refusal}
 use Rattle.bay_server_turn.specs.Turns.{ServerData, moment_at}
 use Rattle.bay_server_turn.specs.declared.turn_report.Turn.{Turn}
 use Rattle.bay_server_turn.specs.declared.process_input.ProcessReport.{ProcessReport}
@@ -41,12 +41,12 @@ use Rattle.bay_server.proofs.LogLemmas.{unlogged-as}
 
 told-some : (k : ℕ) (line : List ℕ) (lines : List (List ℕ)) → (length line == 0) ≡ false
     → numbered_lines k (line ∷ lines) ≡ (k, line) ∷ numbered_lines (k + 1) lines
-told-some k [] lines e = absurd cc
-told-some k (b ∷ bs) lines e = refl
+reported-some k [] lines e = absurd cc
+reported-some k (b ∷ bs) lines e = refl
 
 told-none : (k : ℕ) (line : List ℕ) (lines : List (List ℕ)) → (length line == 0) ≡ true
     → numbered_lines k (line ∷ lines) ≡ numbered_lines (k + 1) lines
-told-none k line lines e =
+reported-none k line lines e =
     ap (λ l. numbered_lines k (l ∷ lines)) (nil-from-length line (grind (arith, nat_tests)))
 
 module _ (k : ℕ) (text : List ℕ) (all : List (ℕ × List ℕ))
@@ -77,27 +77,27 @@ module _ (k : ℕ) (text : List ℕ) (all : List (ℕ × List ℕ))
 
 module _ {L B : Type 0} (below : B → L) (does : L → Call → L → Type 0) (failures : L → ℕ) where
   talks-below : (calls : List Call) (old new : B)
-      → MakesCalls (Called (λ o call n. does (below o) call (below n)) (λ b. failures (below b)))
+      → MakesCalls (CountedCall (λ o call n. does (below o) call (below n)) (λ b. failures (below b)))
       old
       calls new
-      → MakesCalls (Called does failures) (below old) calls (below new)
-  talks-below [] old new talks = ap below talks
-  talks-below (call ∷ calls) old new talks = (
-    below talks.0,
-    record { done = talks.1.done; counted = talks.1.counted },
-    talks-below calls talks.0 new talks.2,
+      → MakesCalls (CountedCall does failures) (below old) calls (below new)
+  talks-below [] old new makes = ap below makes
+  talks-below (call ∷ calls) old new makes = (
+    below makes.0,
+    record { done = makes.1.done; counted = makes.1.counted },
+    talks-below calls makes.0 new makes.2,
   )
 
   pub serves-below : (old new : B) (now : ℕ) (given : ProcessReport) (before after : ServerData)
       (turn : Turn)
-      → Serves (Called (λ o call n. does (below o) call (below n)) (λ b. failures (below b))) old
+      → Serves (CountedCall (λ o call n. does (below o) call (below n)) (λ b. failures (below b))) old
       new now given before after turn
-      → Serves (Called does failures) (below old) (below new) now given before after turn
+      → Serves (CountedCall does failures) (below old) (below new) now given before after turn
   serves-below old new now given before after turn s = record {
     script = s.script;
     all_read = s.all_read;
     all_offered = s.all_offered;
-    talks = talks-below _ old new s.talks;
+    makes = talks-below _ old new s.makes;
     server = s.server;
     opened = s.opened;
     refused = s.refused;
@@ -131,18 +131,18 @@ module _ {L B H W : Type 0} (below : B → L) (does : L → Call → L → Type 
       → process-chosen ≡ (choose_input device now jump lines-before process-before).process
       → lines-after ≡ (choose_input device now jump lines-before process-before).lines
       → s ≡ held-after.device
-      → acts host-before (Tells clocks.system clocks.steady) host-after
+      → acts host-before (ReadsTimes clocks.system clocks.steady) host-after
       → LogsAll contents asks old (shift_log now shift) begun
       → turn_refusal clock next.given held-before ≡ None
-      → Serves (Called (λ o call n. does (below o) call (below n)) (λ b. failures (below b)))
-      link-before link-after (moment_at clock held-before) (reported_in next.given) held-before
+      → Serves (CountedCall (λ o call n. does (below o) call (below n)) (λ b. failures (below b)))
+      link-before link-after (moment_at clock held-before) (report_in next.given) held-before
       held-after turn
-      → before ≡ bay_seen held-before.device
-      → ReportsAndPolls (Called does failures) contents asks now count-before next before turn s
+      → before ≡ bay_view held-before.device
+      → ReportsAndPolls (CountedCall does failures) contents asks now count-before next before turn s
       process-chosen process-after begun told-to answer
       → count-after ≡ count_after now turn count-before
       → LogsAll contents asks told-to (record_log now end) new
-      → TurnGoes (Called does failures) acts contents asks
+      → TurnServed (CountedCall does failures) acts contents asks
       (record {
         link = below link-before;
         held = held-before;
@@ -165,7 +165,7 @@ module _ {L B H W : Type 0} (below : B → L) (does : L → Call → L → Type 
       host-after process-before process-chosen process-after lines-before lines-after clocks
       clock now next shift device before old begun told-to new end turn s jump count-before
       count-after answer read is-clock now-is shift-is by-device jump-is is-next is-process is-lines
-      is-s told logged at-clock at-clock-serves is-before reports counted ended =
+      is-s reported logged at-clock at-clock-serves is-before reports counted ended =
       let k : ℕ = moment_read clocks clock-before in
       let same : clock ≡ k = is-clock ∙ ap (λ (x : ClockData). x.moment) read in
       let is-now : now ≡ moment_at k held-before =
@@ -175,10 +175,10 @@ module _ {L B H W : Type 0} (below : B → L) (does : L → Call → L → Type 
       (ap (λ (x : ClockData). x.moment) read) shift-is in
       let right : turn_refusal k next.given held-before ≡ None =
       subst (λ m. turn_refusal m next.given held-before ≡ None) same at-clock in
-      let serves = subst (λ m. Serves (Called (λ o call n. does (below o) call (below n))
+      let serves = subst (λ m. Serves (CountedCall (λ o call n. does (below o) call (below n))
       (λ b. failures (below b))) link-before link-after (moment_at m held-before)
-      (reported_in next.given) held-before held-after turn) same at-clock-serves in
-      let here : Chosen L =
+      (report_in next.given) held-before held-after turn) same at-clock-serves in
+      let here : ChosenInput L =
       choose_input held-before.device (moment_at k held-before) (jump_of clocks clock-before)
       lines-before
       process-before in
@@ -188,51 +188,51 @@ module _ {L B H W : Type 0} (below : B → L) (does : L → Call → L → Type 
       ∙ ap (λ j. choose_input held-before.device (moment_at k held-before) j lines-before
       process-before)
       jump-is in
-      let next-is : next ≡ here.next = is-next ∙ ap (λ (x : Chosen L). x.next) here-is in
+      let next-is : next ≡ here.next = is-next ∙ ap (λ (x : ChosenInput L). x.next) here-is in
       let process-is : process-chosen ≡ here.process =
-      is-process ∙ ap (λ (x : Chosen L). x.process) here-is in
+      is-process ∙ ap (λ (x : ChosenInput L). x.process) here-is in
       let serves-turn = serves-below below does failures link-before link-after
-      (moment_at (moment_read clocks clock-before) held-before) (reported_in next.given) held-before
+      (moment_at (moment_read clocks clock-before) held-before) (report_in next.given) held-before
       held-after turn serves in
       record {
         clocks = clocks;
         begun = begun;
-        asked = record {
-          told = told;
+        clocks_read = record {
+          reported = reported;
           logged =
               subst (λ m. LogsAll contents asks old (shift_log m (shift_of clock-before.side
               (moment_read clocks clock-before) clocks.system)) begun) is-now
               (subst (λ x. LogsAll contents asks old (shift_log now x) begun) is-shift logged);
         };
         clock = read;
-        lines = is-lines ∙ ap (λ (x : Chosen L). x.lines) here-is;
+        lines = is-lines ∙ ap (λ (x : ChosenInput L). x.lines) here-is;
         turn = turn;
         right =
             subst (λ (n : NextInput). turn_refusal (moment_read clocks clock-before) n.given
             held-before
             ≡ None) next-is right;
         serves =
-            subst (λ (n : NextInput). Serves (Called does failures) (below link-before)
+            subst (λ (n : NextInput). Serves (CountedCall does failures) (below link-before)
             (below link-after) (moment_at (moment_read clocks clock-before) held-before)
-            (reported_in n.given) held-before held-after turn) next-is serves-turn;
-        told = told-to;
+            (report_in n.given) held-before held-after turn) next-is serves-turn;
+        reported = told-to;
         reports =
-            subst (λ m. ReportsAndPolls (Called does failures) contents asks m count-before
+            subst (λ m. ReportsAndPolls (CountedCall does failures) contents asks m count-before
             here.next
-            (bay_seen held-before.device) turn held-after.device here.process process-after begun
+            (bay_view held-before.device) turn held-after.device here.process process-after begun
             told-to answer) is-now
-            (subst (λ d. ReportsAndPolls (Called does failures) contents asks now count-before
+            (subst (λ d. ReportsAndPolls (CountedCall does failures) contents asks now count-before
             here.next
-            (bay_seen held-before.device) turn d here.process process-after begun told-to answer)
+            (bay_view held-before.device) turn d here.process process-after begun told-to answer)
             is-s
-            (subst (λ p. ReportsAndPolls (Called does failures) contents asks now count-before
+            (subst (λ p. ReportsAndPolls (CountedCall does failures) contents asks now count-before
             here.next
-            (bay_seen held-before.device) turn s p process-after begun told-to answer) process-is
-            (subst (λ (n : NextInput). ReportsAndPolls (Called does failures) contents asks now
+            (bay_view held-before.device) turn s p process-after begun told-to answer) process-is
+            (subst (λ (n : NextInput). ReportsAndPolls (CountedCall does failures) contents asks now
             count-before n
-            (bay_seen held-before.device) turn s process-chosen process-after begun told-to answer)
+            (bay_view held-before.device) turn s process-chosen process-after begun told-to answer)
             next-is
-            (subst (λ (b : BayView). ReportsAndPolls (Called does failures) contents asks now
+            (subst (λ (b : BayView). ReportsAndPolls (CountedCall does failures) contents asks now
             count-before next b
             turn s process-chosen process-after begun told-to answer) is-before reports))));
         count = subst (λ m. count-after ≡ count_after m turn count-before) is-now counted;
@@ -253,11 +253,11 @@ module _ {L H W : Type 0} (step : L → Call → L → Type 0) (acts : H → Hos
       → shift ≡ shift_of clock-before.side (moment_read clocks clock-before) clocks.system
       → device ≡ held.device → jump ≡ jump_of clocks clock-before
       → next ≡ (choose_input device now jump lines-before process-before).next
-      → acts host-before (Tells clocks.system clocks.steady) host-after
+      → acts host-before (ReadsTimes clocks.system clocks.steady) host-after
       → LogsAll contents asks old (shift_log now shift) begun
       → turn_refusal clock next.given held ≡ Some fault
       → ReportsTurnRefusal contents asks fault next.number next.shown begun new answer
-      → TurnFails step acts contents asks
+      → TurnRefused step acts contents asks
       (record {
         link = link;
         held = held;
@@ -270,13 +270,13 @@ module _ {L H W : Type 0} (step : L → Call → L → Type 0) (acts : H → Hos
   turn-fails link held clock-before host-before host-after process-before lines-before clocks
       clock now next shift device jump count old begun new fault answer same now-is is-shift
       is-device
-      jump-is is-next told logged at-clock tells =
+      jump-is is-next reported logged at-clock tells =
       let is-now : now ≡ moment_at (moment_read clocks clock-before) held =
       subst (λ m. now ≡ moment_at m held) same now-is in
       let is : turn_refusal (moment_read clocks clock-before) next.given held ≡ Some fault =
       subst (λ m. turn_refusal m next.given held ≡ Some fault) same at-clock in
       let k : ℕ = moment_read clocks clock-before in
-      let here : Chosen L =
+      let here : ChosenInput L =
       choose_input held.device (moment_at k held) (jump_of clocks clock-before) lines-before
       process-before in
       let here-is : choose_input device now jump lines-before process-before ≡ here =
@@ -284,12 +284,12 @@ module _ {L H W : Type 0} (step : L → Call → L → Type 0) (acts : H → Hos
       ∙ ap (λ m. choose_input held.device m jump lines-before process-before) is-now
       ∙ ap (λ j. choose_input held.device (moment_at k held) j lines-before process-before) jump-is
       in
-      let next-is : next ≡ here.next = is-next ∙ ap (λ (x : Chosen L). x.next) here-is in
+      let next-is : next ≡ here.next = is-next ∙ ap (λ (x : ChosenInput L). x.next) here-is in
       record {
         clocks = clocks;
         begun = begun;
-        asked = record {
-          told = told;
+        clocks_read = record {
+          reported = reported;
           logged =
               subst (λ m. LogsAll contents asks old (shift_log m (shift_of clock-before.side
               (moment_read clocks clock-before) clocks.system)) begun) is-now
@@ -319,18 +319,18 @@ module _ {L H W : Type 0} (step : L → Call → L → Type 0) (acts : H → Hos
     where
       by-quiet : (b : Bool) → MatchBool b
           ((new ≡ tells.mid) × (◌≡◌ {A = Result ℕ WriteFault} (Err one) (Ok 0)))
-          (Prints contents asks (IsLast (turn_text now turn s) 0) tells.mid new (Err one))
+          (Prints contents asks (IsOutput (turn_text now turn s) 0) tells.mid new (Err one))
           → MatchBool b ((new ≡ tells.mid) × (◌≡◌ {A = Result ℕ WriteFault} (Err other) (Ok 0)))
-          (Prints contents asks (IsLast (turn_text now turn s) 0) tells.mid new (Err other))
+          (Prints contents asks (IsOutput (turn_text now turn s) 0) tells.mid new (Err other))
       by-quiet true stays = let e = stays.1 in absurd cc
       by-quiet false prints = prints
 
-  news-cut : (now : ℕ) (news : Option ConnectionEvent) (old new : WriterState W)
+  news-cut : (now : ℕ) (connection_event : Option ConnectionEvent) (old new : WriterState W)
       (one other : WriteFault)
-      → ReportsConnectionEvent contents asks now news old new (Err one)
-      → ReportsConnectionEvent contents asks now news old new (Err other)
+      → ReportsConnectionEvent contents asks now connection_event old new (Err one)
+      → ReportsConnectionEvent contents asks now connection_event old new (Err other)
   news-cut now None old new one other stays = let e = stays.1 in absurd cc
-  news-cut now (Some news) old new one other prints = prints
+  news-cut now (Some connection_event) old new one other prints = prints
 
   hears-cut : (now : ℕ) (turn : Turn) (s : State) (before after : Option (ProcessData L))
       (old new : WriterState W) (one other : WriteFault)
@@ -340,9 +340,9 @@ module _ {L H W : Type 0} (step : L → Call → L → Type 0) (acts : H → Hos
   hears-cut now turn s None (Some after) old new one other h = absurd h
   hears-cut now turn s (Some before) None old new one other h = absurd h
   hears-cut now turn s (Some before) (Some after) old new one other h = record {
-    news = h.news;
+    connection_event = h.connection_event;
     attends = h.attends;
-    printed = news-cut now h.news old new one other h.printed;
+    printed = news-cut now h.connection_event old new one other h.printed;
   }
 
   reports-cut : (now : ℕ) (count : LineCount) (next : NextInput) (seen : BayView) (turn : Turn)
@@ -352,7 +352,7 @@ module _ {L H W : Type 0} (step : L → Call → L → Type 0) (acts : H → Hos
       → ReportsAndPolls step contents asks now count next seen turn s before after old new
       (Err other)
   reports-cut now count next seen turn s before after old new one other goes =
-      by-outcome goes.outcome goes.printed goes.hears
+      by-outcome goes.outcome goes.printed goes.polls
     where
       by-outcome : (r : Result ℕ WriteFault)
           → ReportsTurn contents asks now count next seen turn s old goes.between r
@@ -362,17 +362,17 @@ module _ {L H W : Type 0} (step : L → Call → L → Type 0) (acts : H → Hos
           (PollsProcess step contents asks now turn s before after goes.between new (Err one))
           → ReportsAndPolls step contents asks now count next seen turn s before after old new
           (Err other)
-      by-outcome (Ok status) printed hears = record {
+      by-outcome (Ok status) printed polls = record {
         between = goes.between;
         outcome = Ok status;
         printed = printed;
-        hears = hears-cut now turn s before after goes.between new one other hears;
+        polls = hears-cut now turn s before after goes.between new one other polls;
       }
-      by-outcome (Err fault) printed hears = record {
+      by-outcome (Err fault) printed polls = record {
         between = goes.between;
         outcome = Err other;
         printed = tells-cut now count next seen turn s old goes.between fault other printed;
-        hears = (hears.0, hears.1, refl);
+        polls = (polls.0, polls.1, refl);
       }
 
   -- its lines could not be printed, so the process was not attended to
@@ -387,7 +387,7 @@ module _ {L H W : Type 0} (step : L → Call → L → Type 0) (acts : H → Hos
     between = new;
     outcome = Err other;
     printed = tells-cut now count next seen turn s old new fault other tells;
-    hears = (refl, refl, refl);
+    polls = (refl, refl, refl);
   }
 
   -- The views are compared only if lines are logged.
@@ -413,27 +413,27 @@ module _ {L H W : Type 0} (step : L → Call → L → Type 0) (acts : H → Hos
           logged = unlogged-as contents asks old goes.printed.mid _ _ off goes.printed.logged;
           printed = goes.printed.printed;
         };
-        hears = goes.hears;
+        polls = goes.polls;
       }
 
-  goes-cut : (before : Serving L H) (old : WriterState W)
-      (after : Serving L H) (new : WriterState W) (one other : WriteFault)
-      → TurnGoes step acts contents asks before old after new (Err one)
-      → TurnGoes step acts contents asks before old after new (Err other)
+  goes-cut : (before : ServiceState L H) (old : WriterState W)
+      (after : ServiceState L H) (new : WriterState W) (one other : WriteFault)
+      → TurnServed step acts contents asks before old after new (Err one)
+      → TurnServed step acts contents asks before old after new (Err other)
   goes-cut before old after new one other goes = record {
     clocks = goes.clocks;
     begun = goes.begun;
-    asked = goes.asked;
+    clocks_read = goes.clocks_read;
     clock = goes.clock;
     lines = goes.lines;
     turn = goes.turn;
     right = goes.right;
     serves = goes.serves;
-    told = goes.told;
+    reported = goes.reported;
     reports =
-        reports-cut (moment_of goes.clocks before) before.count (choice_of goes.clocks before).next
-        (bay_seen before.held.device) goes.turn after.held.device
-        (choice_of goes.clocks before).process after.process goes.begun goes.told one other
+        reports-cut (moment_of goes.clocks before) before.count (chosen_input goes.clocks before).next
+        (bay_view before.held.device) goes.turn after.held.device
+        (chosen_input goes.clocks before).process after.process goes.begun goes.reported one other
         goes.reports;
     count = goes.count;
     end = goes.end;
@@ -441,37 +441,37 @@ module _ {L H W : Type 0} (step : L → Call → L → Type 0) (acts : H → Hos
   }
 
   -- its lines could not be written
-  pub tried-cut : (before : Serving L H) (old : WriterState W) (after : Serving L H) (new : WriterState W)
+  pub tried-cut : (before : ServiceState L H) (old : WriterState W) (after : ServiceState L H) (new : WriterState W)
       (fault : WriteFault) (r : Result TurnAttempt WriteFault) → IsErr r
-      → TurnGoes step acts contents asks before old after new (Err fault)
+      → TurnServed step acts contents asks before old after new (Err fault)
       → TriesTurn step acts contents asks before old after new r
   tried-cut before old after new fault (Ok x) e goes = absurd cc
   tried-cut before old after new fault (Err f) e goes =
       inl (goes-cut before old after new fault f goes)
 
-  fails-cut : (before : Serving L H) (old : WriterState W) (host : H) (new : WriterState W)
-      (one other : WriteFault) → TurnFails step acts contents asks before old host new (Err one)
-      → TurnFails step acts contents asks before old host new (Err other)
+  fails-cut : (before : ServiceState L H) (old : WriterState W) (host : H) (new : WriterState W)
+      (one other : WriteFault) → TurnRefused step acts contents asks before old host new (Err one)
+      → TurnRefused step acts contents asks before old host new (Err other)
   fails-cut before old host new one other fails = record {
     clocks = fails.clocks;
     begun = fails.begun;
-    asked = fails.asked;
+    clocks_read = fails.clocks_read;
     fault = fails.fault;
     is = fails.is;
     printed = fails.printed;
   }
 
   -- why it was not done could not be written
-  pub failed-cut : (before : Serving L H) (old : WriterState W) (after : Serving L H) (new : WriterState W)
+  pub failed-cut : (before : ServiceState L H) (old : WriterState W) (after : ServiceState L H) (new : WriterState W)
       (fault : WriteFault) (r : Result TurnAttempt WriteFault) → IsErr r
-      → TurnFails step acts contents asks before old after.host new (Err fault)
+      → TurnRefused step acts contents asks before old after.host new (Err fault)
       → TriesTurn step acts contents asks before old after new r
   failed-cut before old after new fault (Ok x) e fails = absurd cc
   failed-cut before old after new fault (Err f) e fails =
       inr (fails-cut before old after.host new fault f fails)
 
   -- there was a pause behind it, or none
-  pub may-pause : (before : Serving L H) (after : H)
+  pub may-pause : (before : ServiceState L H) (after : H)
       → (after ≡ before.host) ⊎ acts before.host Pauses after
       → MayPause acts before (record before { host = after })
   may-pause before after (inl same) =
@@ -483,27 +483,27 @@ module _ {L H W : Type 0} (step : L → Call → L → Type 0) (acts : H → Hos
 module _ {L H W : Type 0} (step : L → Call → L → Type 0) (acts : H → HostCall L → H → Type 0)
     (contents : W → Option (List ℕ)) (asks : W → WriteCall → W → Type 0) where
   -- what is left to be served goes on to all of it
-  pub record Reached (turns : ℕ) (before : Serving L H) (old : WriterState W) (left : ℕ)
-      (here : Serving L H) (mid : WriterState W) : Type 0 where
+  pub record Reached (turns : ℕ) (before : ServiceState L H) (old : WriterState W) (left : ℕ)
+      (here : ServiceState L H) (mid : WriterState W) : Type 0 where
     pub goes : (host : H) (new : WriterState W) (answer : Result ℕ WriteFault)
         → ServesTurns step acts contents asks left here mid host new answer
         → ServesTurns step acts contents asks turns before old host new answer
 
-  pub Reached-start : (turns : ℕ) (before : Serving L H) (old : WriterState W)
+  pub Reached-start : (turns : ℕ) (before : ServiceState L H) (old : WriterState W)
       → Reached turns before old turns before old
   Reached-start turns before old = record { goes = λ host new answer s. s }
 
-  module _ (turns : ℕ) (before : Serving L H) (old : WriterState W) (left more : ℕ)
-      (here : Serving L H) (mid : WriterState W)
+  module _ (turns : ℕ) (before : ServiceState L H) (old : WriterState W) (left more : ℕ)
+      (here : ServiceState L H) (mid : WriterState W)
       (reached : Reached turns before old left here mid) (e : left ≡ suc more) where
     -- the next is not done
     Reached-stop : (host : H) (new : WriterState W) (answer : Result ℕ WriteFault)
-        → TurnFails step acts contents asks here mid host new answer
+        → TurnRefused step acts contents asks here mid host new answer
         → ServesTurns step acts contents asks turns before old host new answer
     Reached-stop host new answer fails = reached.goes host new answer (rw e (inl fails))
 
     -- one turn was tried, and done
-    pub Reached-done : (after next : Serving L H) (new : WriterState W) (t : TurnAttempt)
+    pub Reached-done : (after next : ServiceState L H) (new : WriterState W) (t : TurnAttempt)
         (was_idle : Bool)
         → t ≡ tried.Done was_idle
         → TriesTurn step acts contents asks here mid after new (Ok t)
@@ -516,7 +516,7 @@ module _ {L H W : Type 0} (step : L → Call → L → Type 0) (acts : H → Hos
     Reached-done after next new (tried.Ends s) was_idle is fails pause = absurd cc
 
     -- it was not done
-    pub Reached-ends : (after : Serving L H) (new : WriterState W) (t : TurnAttempt) (status : ℕ)
+    pub Reached-ends : (after : ServiceState L H) (new : WriterState W) (t : TurnAttempt) (status : ℕ)
         → t ≡ tried.Ends status → TriesTurn step acts contents asks here mid after new (Ok t)
         → ServesTurns step acts contents asks turns before old after.host new (Ok status)
     Reached-ends after new (tried.Done w) status is goes = absurd cc
@@ -529,7 +529,7 @@ module _ {L H W : Type 0} (step : L → Call → L → Type 0) (acts : H → Hos
         status-of (tried.Ends n) = n
 
     -- what is to be printed for it could not be written
-    pub Reached-fails : (after : Serving L H) (new : WriterState W) (fault : WriteFault)
+    pub Reached-fails : (after : ServiceState L H) (new : WriterState W) (fault : WriteFault)
         (r : Result ℕ WriteFault) → IsErr r
         → TriesTurn step acts contents asks here mid after new (Err fault)
         → ServesTurns step acts contents asks turns before old after.host new r
@@ -548,10 +548,10 @@ module _ {L H W : Type 0} (step : L → Call → L → Type 0) (acts : H → Hos
         (fails-cut step acts contents asks here mid after.host new fault f fails)
 
   -- there is none left
-  pub Reached-end : (turns : ℕ) (before : Serving L H) (old : WriterState W) (left : ℕ)
-      (here : Serving L H) (mid new : WriterState W)
+  pub Reached-end : (turns : ℕ) (before : ServiceState L H) (old : WriterState W) (left : ℕ)
+      (here : ServiceState L H) (mid new : WriterState W)
       → Reached turns before old left here mid → left ≡ 0
-      → Logs contents asks mid (used_up_log here.held.device.moment) new
+      → Logs contents asks mid (all_served_log here.held.device.moment) new
       → ServesTurns step acts contents asks turns before old here.host new (Ok 0)
   Reached-end turns before old left here mid new reached e logged =
       reached.goes here.host new (Ok 0) (rw e (refl, logged, refl))

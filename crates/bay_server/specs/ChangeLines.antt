@@ -9,7 +9,7 @@ use Rattle.bay_tree.specs.declared.leaf.Leaf.TheVariants as leaf
 use Rattle.bay_device.specs.Device.{State}
 use Rattle.bay_device.specs.LookUps.{enabled_of, operating_in, position_of}
 use Rattle.bay_mms_services.specs.declared.answer.Command.{Command}
-use Rattle.bay_server_turn.specs.Served.{reported_in}
+use Rattle.bay_server_turn.specs.Served.{report_in}
 use Rattle.bay_server_turn.specs.declared.turn_report.Turn.{Turn}
 use Rattle.bay_server.specs.ConnectionLines.{count_at, count_at_closings, count_at_memory, first_ten, left_out, left_out_log}
 use Rattle.bay_server.specs.LogLines.{decisions_log, closed_line, id_of, concat, memory_line, opened_log, refused_log}
@@ -28,13 +28,13 @@ dbpos_in (Some (leaf.Dbpos position)) = Some position
 dbpos_in other = None
 
 -- the view of the switch at an index
-abbrev pub seen_at : State → ℕ → SwitchView
-seen_at s k = record { position = dbpos_in (position_of s k); release = enabled_of s k }
+abbrev pub switch_view_at : State → ℕ → SwitchView
+switch_view_at s k = record { position = dbpos_in (position_of s k); release = enabled_of s k }
 
 -- the view of 32 switches, how many the bay has, and the switch that is operating
-abbrev pub bay_seen : State → BayView
-bay_seen s = record {
-  switches = map (seen_at s) (range_with_len 0 32);
+abbrev pub bay_view : State → BayView
+bay_view s = record {
+  switches = map (switch_view_at s) (range_with_len 0 32);
   count = length s.switches;
   operating = operating_in s;
 }
@@ -46,7 +46,7 @@ own_switches v = take v.count v.switches
 -- These are the views of the switches from index k on.
 abbrev pub AreSeen : State → ℕ → List SwitchView → Type 0
 AreSeen s k [] = Unit {0}
-AreSeen s k (view ∷ more) = (view ≡ seen_at s k) × AreSeen s (k + 1) more
+AreSeen s k (view ∷ more) = (view ≡ switch_view_at s k) × AreSeen s (k + 1) more
 
 -- ---- positions and releases
 
@@ -72,16 +72,16 @@ word_log now what id before after =
     if bytes_eq before after then [] else concat (utc_text now ∷ what ∷ id ∷ after ∷ []) ∷ []
 
 -- the position or the release of a switch, if it has changed from the first view to the second
-abbrev pub seen_log : Column → ℕ → List ℕ → SwitchView → SwitchView → List (List ℕ)
-seen_log Position now id before after =
+abbrev pub view_log : Column → ℕ → List ℕ → SwitchView → SwitchView → List (List ℕ)
+view_log Position now id before after =
     word_log now (codes " position ") id (position_word before.position)
     (position_word after.position)
-seen_log Release now id before after =
+view_log Release now id before after =
     word_log now (codes " release ") id (release_word before.release) (release_word after.release)
 
 -- the change of the switch at an index
 abbrev pub switch_log : Column → ℕ → State → ℕ → SwitchView → List (List ℕ)
-switch_log column now s k before = seen_log column now (id_of s k) before (seen_at s k)
+switch_log column now s k before = view_log column now (id_of s k) before (switch_view_at s k)
 
 -- the changes of the switches from index k on
 abbrev pub switches_log : Column → ℕ → State → ℕ → List SwitchView → List (List ℕ)
@@ -141,7 +141,7 @@ abbrev pub turn_log : ℕ → LineCount → NextInput → BayView → State → 
 turn_log now count next before s turn =
     left_out_log now (left_out now count)
     ++ first_ten (count_at now count) (opened_log now turn.opened)
-    ++ lost_log now (reported_in next.given).is_lost
+    ++ lost_log now (report_in next.given).is_lost
     ++ refused_log now turn.refused next.shown
     ++ flat_map (decisions_log now s) turn.decisions
     ++ map (closed_line now) (first_ten (count_at_closings now turn count) turn.closed)

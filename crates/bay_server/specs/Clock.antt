@@ -56,8 +56,8 @@ abbrev pub jump_of : Clocks → ClockData → ℕ
 jump_of clocks c = (clocks.system - c.system) - elapsed_time clocks c
 
 -- by how much the moment may be drawn toward the system's time: a millisecond in each hundred
-abbrev pub draw : Clocks → ClockData → ℕ
-draw clocks c = (c.carry + elapsed_time clocks c) / 100
+abbrev pub max_adjustment : Clocks → ClockData → ℕ
+max_adjustment clocks c = (c.carry + elapsed_time clocks c) / 100
 
 -- A moment is adjusted toward the system's time, by no more than that, and not beyond it.
 abbrev pub adjusted_moment : ℕ → ℕ → ℕ → ℕ
@@ -68,7 +68,7 @@ adjusted_moment moment by system =
 -- adjusted toward the system's time, up to the largest number of 64 bits.
 abbrev pub moment_read : Clocks → ClockData → ℕ
 moment_read clocks c =
-    min (adjusted_moment (c.moment + elapsed_time clocks c) (draw clocks c) clocks.system)
+    min (adjusted_moment (c.moment + elapsed_time clocks c) (max_adjustment clocks c) clocks.system)
     (2 ^ 64 - 1)
 
 -- the clock after a reading
@@ -82,9 +82,9 @@ after_reading clocks c = record {
 }
 
 -- the clock after several readings
-abbrev pub read_all : List Clocks → ClockData → ClockData
-read_all [] c = c
-read_all (clocks ∷ readings) c = read_all readings (after_reading clocks c)
+abbrev pub after_readings : List Clocks → ClockData → ClockData
+after_readings [] c = c
+after_readings (clocks ∷ readings) c = after_readings readings (after_reading clocks c)
 
 -- From one clock to a later one the moment did not go back. It advanced as far as the steady clock,
 -- give or take a millisecond in each hundred, up to the largest number of 64 bits.

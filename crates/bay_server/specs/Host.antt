@@ -7,5 +7,5 @@ use Rattle.bay_server.specs.declared.host.BindFault.{BindFault}
 -- clock and of the steady clock; a pause
 pub data HostCall (L : Type 0) : Type 0 where
   Binds : ℕ → Option ℕ → Result L BindFault → HostCall L
-  Tells : ℕ → ℕ → HostCall L
+  ReadsTimes : ℕ → ℕ → HostCall L
   Pauses : HostCall L

@@ -155,14 +155,14 @@ selected_line now id decision =
     ∷ service_words decision.part ∷ id ∷ verdict_texts decision.answer)
 
 -- the line of a decision on what was written, or on a select by a read
-abbrev pub line_of : ℕ → List ℕ → ControlDecision → Option ControlRequest → List ℕ
-line_of now id decision None = selected_line now id decision
-line_of now id decision (Some request) =
+abbrev pub control_line : ℕ → List ℕ → ControlDecision → Option ControlRequest → List ℕ
+control_line now id decision None = selected_line now id decision
+control_line now id decision (Some request) =
     written_line now id (escaped_text request.origin.ident) decision request
 
 -- the line of a decision
 abbrev pub decision_line : ℕ → State → ControlDecision → List ℕ
-decision_line now s decision = line_of now (id_of s decision.switch) decision decision.request
+decision_line now s decision = control_line now (id_of s decision.switch) decision decision.request
 
 -- the decisions on what an association requested, if the device handled octets of it
 abbrev pub decisions_log : ℕ → State → Option (List ControlDecision) → List (List ℕ)
@@ -181,20 +181,20 @@ refused_log now None shown = []
 refused_log now (Some code) shown = refused_line now code shown ∷ []
 
 -- a turn was refused, with a line of the trace, by its number and escaped
-abbrev pub unserved_log : ServeFault → ℕ → List ℕ → List ℕ
-unserved_log BadLine k shown =
+abbrev pub turn_refusal_log : ServeFault → ℕ → List ℕ → List ℕ
+turn_refusal_log BadLine k shown =
     concat (codes "bayctl: fault 120 line " ∷ decimal k ∷ codes ": " ∷ shown ∷ codes "\n" ∷ [])
-unserved_log MomentTooLarge k shown = codes "bayctl: fault 114: the clock is past the last moment\n"
+turn_refusal_log MomentTooLarge k shown = codes "bayctl: fault 114: the clock is past the last moment\n"
 
 -- all turns were served
-abbrev pub used_up_log : ℕ → List ℕ
-used_up_log now = concat (utc_text now ∷ codes " all turns are served\n" ∷ [])
+abbrev pub all_served_log : ℕ → List ℕ
+all_served_log now = concat (utc_text now ∷ codes " all turns are served\n" ∷ [])
 
 -- ---- the process
 
 -- its connection was closed, by the number of the reason and in words
-abbrev pub parted_line : ℕ → ℕ → List ℕ → List ℕ
-parted_line now code words =
+abbrev pub process_closed_line : ℕ → ℕ → List ℕ → List ℕ
+process_closed_line now code words =
     concat (utc_text now ∷ codes " process closed " ∷ decimal code ∷ codes ": " ∷ words
     ∷ codes "\n" ∷ [])
 
@@ -206,20 +206,20 @@ silent_line now limit =
 
 -- its connection was closed, for this reason
 abbrev pub disconnect_line : ℕ → DisconnectReason → List ℕ
-disconnect_line now parting.Ended = parted_line now 0 (codes "it ended its connection")
-disconnect_line now (parting.BadLine line) = parted_line now 120 line
+disconnect_line now parting.Ended = process_closed_line now 0 (codes "it ended its connection")
+disconnect_line now (parting.BadLine line) = process_closed_line now 120 line
 disconnect_line now parting.QueueFull =
-    parted_line now 130 (codes "what it is told does not fit its queue")
+    process_closed_line now 130 (codes "what it is told does not fit its queue")
 disconnect_line now parting.LinkFailed =
-    parted_line now 131 (codes "its connection failed, or it sent nothing for 10 seconds")
+    process_closed_line now 131 (codes "its connection failed, or it sent nothing for 10 seconds")
 disconnect_line now parting.Foreign =
-    parted_line now 132 (codes "it is not the process of this bay, or has another key")
+    process_closed_line now 132 (codes "it is not the process of this bay, or has another key")
 disconnect_line now parting.Untimely =
-    parted_line now 133 (codes "its time is too far from the server's")
+    process_closed_line now 133 (codes "its time is too far from the server's")
 disconnect_line now parting.OutOfOrder =
-    parted_line now 133 (codes "its time is before that of the line before")
+    process_closed_line now 133 (codes "its time is before that of the line before")
 disconnect_line now (parting.Silent limit) = silent_line now limit
-disconnect_line now parting.Jumped = parted_line now 134 (codes "the clock has jumped")
+disconnect_line now parting.Jumped = process_closed_line now 134 (codes "the clock has jumped")
 
 -- an event of its connection
 abbrev pub connection_event_log : ℕ → ConnectionEvent → List ℕ

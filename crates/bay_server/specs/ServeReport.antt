@@ -7,21 +7,21 @@ use Rattle.bay_io.specs.Sent.{Logs}
 use Rattle.bay_io.specs.Watched.{WriterState}
 use Rattle.bay_io.specs.declared.outbox.WriteFault.{WriteFault}
 use Rattle.bay_server.specs.Clock.{ClockData, after_reading, jump_of, moment_read, shift_of}
-use Rattle.bay_server.specs.Host.{HostCall, Tells, Pauses}
-use Rattle.bay_report.specs.Report.{IsLast, Prints}
+use Rattle.bay_server.specs.Host.{HostCall, ReadsTimes, Pauses}
+use Rattle.bay_report.specs.Report.{IsOutput, Prints}
 use Rattle.bay_server.specs.TurnLines.{is_quiet, connection_event_text, turn_text, turn_refusal_text}
 use Rattle.bay_server.specs.Logging.{LogsAll}
-use Rattle.bay_server.specs.ChangeLines.{bay_seen, turn_log}
+use Rattle.bay_server.specs.ChangeLines.{bay_view, turn_log}
 use Rattle.bay_server.specs.ConnectionLines.{count_after}
-use Rattle.bay_server.specs.LogLines.{connection_event_log, shift_log, unserved_log, used_up_log}
+use Rattle.bay_server.specs.LogLines.{connection_event_log, shift_log, turn_refusal_log, all_served_log}
 use Rattle.bay_server.specs.RecordLine.{record_log}
-use Rattle.bay_process_port.specs.Polling.{Attends, attendance}
+use Rattle.bay_process_port.specs.Polling.{Polls, poll_outcome}
 use Rattle.bay_lines.specs.Escaped.{escaped_text}
-use Rattle.bay_process_port.specs.Ports.{PortData, shown_line, reading_at, loss_reading}
+use Rattle.bay_process_port.specs.Ports.{PortData, shown_line, port_reading, loss_reading}
 use Rattle.bay_process_port.specs.ProcessOutput.{reported_turn}
 use Rattle.bay_process_port.specs.declared.connection_event.ConnectionEvent.{ConnectionEvent}
 use Rattle.bay_server_turn.specs.Calls.{Call}
-use Rattle.bay_server_turn.specs.Served.{TurnInput, Serves, turn_input_of_line, report_of_event, reported_in, turn_refusal}
+use Rattle.bay_server_turn.specs.Served.{TurnInput, Serves, turn_input_of_line, report_of_event, report_in, turn_refusal}
 use Rattle.bay_server_turn.specs.Turns.{ServerData, moment_at}
 use Rattle.bay_server_turn.specs.declared.fault.ServeFault.{ServeFault}
 use Rattle.bay_server_turn.specs.declared.record.RecordEnd.{RecordEnd}
@@ -43,16 +43,16 @@ line_view None = None
 line_view (Some line) = Some (line.0, line.1.now)
 
 -- a writer is not used
-abbrev pub Stays : {W : Type 0} → WriterState W → WriterState W → Result ℕ WriteFault → Type 0
-Stays old new answer = (new ≡ old) × (answer ≡ Ok 0)
+abbrev pub StaysUnused : {W : Type 0} → WriterState W → WriterState W → Result ℕ WriteFault → Type 0
+StaysUnused old new answer = (new ≡ old) × (answer ≡ Ok 0)
 
 -- the lines of a turn are printed and flushed; if there are none, the writer is not used
 abbrev pub PrintsTurn : {W : Type 0} → (W → Option (List ℕ)) → (W → WriteCall → W → Type 0) → ℕ
     → Turn → State → WriterState W
     → WriterState W → Result ℕ WriteFault → Type 0
 PrintsTurn contents asks now turn s old new answer =
-    MatchBool (is_quiet turn) (Stays old new answer)
-    (Prints contents asks (IsLast (turn_text now turn s) 0) old new answer)
+    MatchBool (is_quiet turn) (StaysUnused old new answer)
+    (Prints contents asks (IsOutput (turn_text now turn s) 0) old new answer)
 
 -- a turn is logged, and then its lines are printed
 pub record ReportsTurn {W : Type 0} (contents : W → Option (List ℕ))
@@ -68,8 +68,8 @@ pub record ReportsTurnRefusal {W : Type 0} (contents : W → Option (List ℕ))
     (asks : W → WriteCall → W → Type 0) (fault : ServeFault) (number : ℕ) (shown : List ℕ)
     (old new : WriterState W) (answer : Result ℕ WriteFault) : Type 0 where
   pub mid : WriterState W
-  pub logged : Logs contents asks old (unserved_log fault number shown) mid
-  pub printed : Prints contents asks (IsLast (turn_refusal_text fault number) 3) mid new answer
+  pub logged : Logs contents asks old (turn_refusal_log fault number shown) mid
+  pub printed : Prints contents asks (IsOutput (turn_refusal_text fault number) 3) mid new answer
 
 -- the first, after a turn whose lines could not be written; otherwise the second
 abbrev pub AfterTurn : Result ℕ WriteFault → Type 0 → Type 0 → Type 0
@@ -84,7 +84,7 @@ pub record ProcessData (L : Type 0) : Type 0 where
 -- the state of a service, before or after a turn: the link, the server, its clock, the count of the
 -- log lines of connections, the host, the process, if there is one, and the lines of the trace that
 -- are left
-pub record Serving (L H : Type 0) : Type 0 where
+pub record ServiceState (L H : Type 0) : Type 0 where
   pub link : L
   pub held : ServerData
   pub clock : ClockData
@@ -96,7 +96,7 @@ pub record Serving (L H : Type 0) : Type 0 where
 -- ---- the input of a turn
 
 -- the input of a turn, the lines of the trace after it, and the process then
-pub record Chosen (L : Type 0) : Type 0 where
+pub record ChosenInput (L : Type 0) : Type 0 where
   pub next : NextInput
   pub lines : List (ℕ × List ℕ)
   pub process : Option (ProcessData L)
@@ -119,23 +119,23 @@ with_loss is_lost (Ok given) =
     Ok (record { is_lost = is_lost || given.is_lost; event = given.event })
 
 -- the input of a turn from a line of the trace
-abbrev pub next_by : State → Bool → ℕ × List ℕ → NextInput
-next_by s is_lost line = record {
+abbrev pub input_from_line : State → Bool → ℕ × List ℕ → NextInput
+input_from_line s is_lost line = record {
   number = line.0;
   shown = escaped_text line.1;
   given = with_loss is_lost (turn_input_of_line s line.1);
 }
 
 -- the input of a turn from the port of the process, if there is one; its line has no number
-abbrev pub from_port : {L : Type 0} → State → ℕ → ℕ → List (ℕ × List ℕ) → Option (ProcessData L)
-    → Chosen L
-from_port s now jump lines None = record {
+abbrev pub input_from_port : {L : Type 0} → State → ℕ → ℕ → List (ℕ × List ℕ) → Option (ProcessData L)
+    → ChosenInput L
+input_from_port s now jump lines None = record {
   next = record { number = 0; shown = []; given = Ok (report_of_event None) };
   lines = lines;
   process = None;
 }
-from_port s now jump lines (Some p) =
-    let taken = reading_at s now jump p.port in
+input_from_port s now jump lines (Some p) =
+    let taken = port_reading s now jump p.port in
     record {
       next = record {
         number = 0;
@@ -148,41 +148,41 @@ from_port s now jump lines (Some p) =
 
 -- The input of a turn is the next line of the trace, with the loss of the process, if it is lost;
 -- if no line is left, it is what the process has.
-abbrev pub from_trace : {L : Type 0} → Option (ℕ × List ℕ) → State → ℕ → ℕ → List (ℕ × List ℕ)
-    → Option (ProcessData L) → Chosen L
-from_trace None s now jump lines process = from_port s now jump lines process
-from_trace (Some line) s now jump lines process = record {
-  next = next_by s (loss_of s now jump process) line;
+abbrev pub input_from_trace : {L : Type 0} → Option (ℕ × List ℕ) → State → ℕ → ℕ → List (ℕ × List ℕ)
+    → Option (ProcessData L) → ChosenInput L
+input_from_trace None s now jump lines process = input_from_port s now jump lines process
+input_from_trace (Some line) s now jump lines process = record {
+  next = input_from_line s (loss_of s now jump process) line;
   lines = drop 1 lines;
   process = after_loss s now jump process;
 }
 
 -- the input of a turn, by the lines of the trace that are left
 abbrev pub choose_input : {L : Type 0} → State → ℕ → ℕ → List (ℕ × List ℕ) → Option (ProcessData L)
-    → Chosen L
-choose_input s now jump lines process = from_trace (slice_get lines 0) s now jump lines process
+    → ChosenInput L
+choose_input s now jump lines process = input_from_trace (slice_get lines 0) s now jump lines process
 
 -- ---- a turn
 
 -- the moment of a turn, if the host's clocks have these times
-abbrev pub moment_of : {L H : Type 0} → Clocks → Serving L H → ℕ
+abbrev pub moment_of : {L H : Type 0} → Clocks → ServiceState L H → ℕ
 moment_of clocks b = moment_at (moment_read clocks b.clock) b.held
 
 -- the input of this turn
-abbrev pub choice_of : {L H : Type 0} → Clocks → Serving L H → Chosen L
-choice_of clocks b =
+abbrev pub chosen_input : {L H : Type 0} → Clocks → ServiceState L H → ChosenInput L
+chosen_input clocks b =
     choose_input b.held.device (moment_of clocks b) (jump_of clocks b.clock) b.lines b.process
 
 -- The host's clocks were read. If the side of the system's time changed, that was logged.
 pub record ReadsClocks {L H W : Type 0} (acts : H → HostCall L → H → Type 0)
     (contents : W → Option (List ℕ)) (asks : W → WriteCall → W → Type 0) (clocks : Clocks)
-    (before : Serving L H) (host : H) (old new : WriterState W) : Type 0 where
-  pub told : acts before.host (Tells clocks.system clocks.steady) host
+    (before : ServiceState L H) (host : H) (old new : WriterState W) : Type 0 where
+  pub reported : acts before.host (ReadsTimes clocks.system clocks.steady) host
   pub logged : LogsAll contents asks old (shift_log (moment_of clocks before)
       (shift_of before.clock.side (moment_read clocks before.clock) clocks.system)) new
 
 -- a pause was made, or none
-abbrev pub MayPause : {L H : Type 0} → (H → HostCall L → H → Type 0) → Serving L H → Serving L H
+abbrev pub MayPause : {L H : Type 0} → (H → HostCall L → H → Type 0) → ServiceState L H → ServiceState L H
     → Type 0
 MayPause acts before after = (after ≡ before)
     ⊎ (acts before.host Pauses after.host × (after ≡ record before { host = after.host }))
@@ -192,32 +192,32 @@ abbrev pub ReportsConnectionEvent : {W : Type 0} → (W → Option (List ℕ))
     → (W → WriteCall → W → Type 0) → ℕ
     → Option ConnectionEvent → WriterState W
     → WriterState W → Result ℕ WriteFault → Type 0
-ReportsConnectionEvent contents asks now None old new answer = Stays old new answer
-ReportsConnectionEvent {W} contents asks now (Some news) old new answer =
-    (mid : WriterState W) × Logs contents asks old (connection_event_log now news) mid
-    × Prints contents asks (IsLast (connection_event_text now news) 0) mid new answer
+ReportsConnectionEvent contents asks now None old new answer = StaysUnused old new answer
+ReportsConnectionEvent {W} contents asks now (Some connection_event) old new answer =
+    (mid : WriterState W) × Logs contents asks old (connection_event_log now connection_event) mid
+    × Prints contents asks (IsOutput (connection_event_text now connection_event) 0) mid new answer
 
 module _ {L W : Type 0} (step : L → Call → L → Type 0) (contents : W → Option (List ℕ))
     (asks : W → WriteCall → W → Type 0) where
   -- the process's connection is served, if there is one, and its event is reported
-  pub record AttendsTo (now : ℕ) (turn : Turn) (s : State) (before after : ProcessData L)
+  pub record PollsOne (now : ℕ) (turn : Turn) (s : State) (before after : ProcessData L)
       (old new : WriterState W) (answer : Result ℕ WriteFault) : Type 0 where
-    pub news : Option ConnectionEvent
-    pub attends : Attends step
-        (λ script. attendance (reported_turn now turn s) s script before.port)
-        before.link after.link after.port news
-    pub printed : ReportsConnectionEvent contents asks now news old new answer
+    pub connection_event : Option ConnectionEvent
+    pub attends : Polls step
+        (λ script. poll_outcome (reported_turn now turn s) s script before.port)
+        before.link after.link after.port connection_event
+    pub printed : ReportsConnectionEvent contents asks now connection_event old new answer
 
   -- The process's connection is served, if there is a process; without one the writer stays as it
   -- is.
   abbrev pub PollsProcess : ℕ → Turn → State → Option (ProcessData L) → Option (ProcessData L)
       → WriterState W
       → WriterState W → Result ℕ WriteFault → Type 0
-  PollsProcess now turn s None None old new answer = Stays old new answer
+  PollsProcess now turn s None None old new answer = StaysUnused old new answer
   PollsProcess now turn s None (Some after) old new answer = ⊥
   PollsProcess now turn s (Some before) None old new answer = ⊥
   PollsProcess now turn s (Some before) (Some after) old new answer =
-      AttendsTo now turn s before after old new answer
+      PollsOne now turn s before after old new answer
 
   -- What a turn reports is logged and printed, and then the process is attended to; or the lines
   -- could not be printed.
@@ -227,7 +227,7 @@ module _ {L W : Type 0} (step : L → Call → L → Type 0) (contents : W → O
     pub between : WriterState W
     pub outcome : Result ℕ WriteFault
     pub printed : ReportsTurn contents asks now count next seen turn s old between outcome
-    pub hears : AfterTurn outcome
+    pub polls : AfterTurn outcome
         ((after ≡ before) × (new ≡ between) × (answer ≡ outcome))
         (PollsProcess now turn s before after between new answer)
 
@@ -235,51 +235,51 @@ module _ {L H W : Type 0} (step : L → Call → L → Type 0) (acts : H → Hos
     (contents : W → Option (List ℕ)) (asks : W → WriteCall → W → Type 0) where
   -- The clock was read for the moment of a turn, and the input of the turn was chosen. The turn was
   -- refused: the reason is reported, and nothing has changed.
-  pub record TurnFails (before : Serving L H) (old : WriterState W) (host : H) (new : WriterState W)
+  pub record TurnRefused (before : ServiceState L H) (old : WriterState W) (host : H) (new : WriterState W)
       (answer : Result ℕ WriteFault) : Type 0 where
     pub clocks : Clocks
     pub begun : WriterState W
-    pub asked : ReadsClocks acts contents asks clocks before host old begun
+    pub clocks_read : ReadsClocks acts contents asks clocks before host old begun
     pub fault : ServeFault
-    pub is : turn_refusal (moment_read clocks before.clock) (choice_of clocks before).next.given
+    pub is : turn_refusal (moment_read clocks before.clock) (chosen_input clocks before).next.given
         before.held ≡ Some fault
-    pub printed : ReportsTurnRefusal contents asks fault (choice_of clocks before).next.number
-        (choice_of clocks before).next.shown begun new answer
+    pub printed : ReportsTurnRefusal contents asks fault (chosen_input clocks before).next.number
+        (chosen_input clocks before).next.shown begun new answer
 
   -- The clock was read, the input of the turn was chosen, the turn was done, its report was
   -- printed, and the process was attended to; or it could not be printed. Then the record was
   -- written: if it has ended, that was logged.
-  pub record TurnGoes (before : Serving L H) (old : WriterState W) (after : Serving L H)
+  pub record TurnServed (before : ServiceState L H) (old : WriterState W) (after : ServiceState L H)
       (new : WriterState W) (answer : Result ℕ WriteFault) : Type 0 where
     pub clocks : Clocks
     pub begun : WriterState W
-    pub asked : ReadsClocks acts contents asks clocks before after.host old begun
+    pub clocks_read : ReadsClocks acts contents asks clocks before after.host old begun
     pub clock : after.clock ≡ after_reading clocks before.clock
-    pub lines : after.lines ≡ (choice_of clocks before).lines
+    pub lines : after.lines ≡ (chosen_input clocks before).lines
     pub turn : Turn
-    pub right : turn_refusal (moment_read clocks before.clock) (choice_of clocks before).next.given
+    pub right : turn_refusal (moment_read clocks before.clock) (chosen_input clocks before).next.given
         before.held ≡ None
     pub serves : Serves step before.link after.link (moment_of clocks before)
-        (reported_in (choice_of clocks before).next.given) before.held after.held turn
-    pub told : WriterState W
+        (report_in (chosen_input clocks before).next.given) before.held after.held turn
+    pub reported : WriterState W
     pub reports : ReportsAndPolls step contents asks (moment_of clocks before) before.count
-        (choice_of clocks before).next (bay_seen before.held.device) turn after.held.device
-        (choice_of clocks before).process after.process begun told answer
+        (chosen_input clocks before).next (bay_view before.held.device) turn after.held.device
+        (chosen_input clocks before).process after.process begun reported answer
     pub count : after.count ≡ count_after (moment_of clocks before) turn before.count
     pub end : Option RecordEnd
-    pub ended : LogsAll contents asks told (record_log (moment_of clocks before) end) new
+    pub ended : LogsAll contents asks reported (record_log (moment_of clocks before) end) new
 
   -- `turns` turns are served: all of them, which is logged; up to one that is refused; or up to one
   -- whose lines could not be written.
-  abbrev pub ServesTurns : ℕ → Serving L H → WriterState W → H → WriterState W → Result ℕ WriteFault
+  abbrev pub ServesTurns : ℕ → ServiceState L H → WriterState W → H → WriterState W → Result ℕ WriteFault
       → Type 0
   ServesTurns zero before old host new answer =
-      (host ≡ before.host) × Logs contents asks old (used_up_log before.held.device.moment) new
+      (host ≡ before.host) × Logs contents asks old (all_served_log before.held.device.moment) new
       × (answer ≡ Ok 0)
   ServesTurns (suc turns) before old host new answer =
-      TurnFails before old host new answer
-      ⊎ ((after : Serving L H) × (mid : WriterState W) × (told : Result ℕ WriteFault)
-      × TurnGoes before old after mid told
-      × AfterTurn told ((host ≡ after.host) × (new ≡ mid) × (answer ≡ told))
-      ((next : Serving L H) × MayPause acts after next
+      TurnRefused before old host new answer
+      ⊎ ((after : ServiceState L H) × (mid : WriterState W) × (reported : Result ℕ WriteFault)
+      × TurnServed before old after mid reported
+      × AfterTurn reported ((host ≡ after.host) × (new ≡ mid) × (answer ≡ reported))
+      ((next : ServiceState L H) × MayPause acts after next
       × ServesTurns turns next mid host new answer))

@@ -4,14 +4,14 @@ use Rattle.std.specs.Prelude.{ℕ, List, Option, Result, Ok, Err, ◌⊎◌}
 use Rattle.bay_io.specs.Watched.{WriterState}
 use Rattle.bay_io.specs.declared.outbox.WriteFault.{WriteFault}
 use Rattle.bay_server.specs.Host.{HostCall}
-use Rattle.bay_server.specs.ServeReport.{Serving, TurnFails, TurnGoes}
-use Rattle.bay_server.specs.declared.serving.Served.{Served}
+use Rattle.bay_server.specs.ServeReport.{ServiceState, TurnRefused, TurnServed}
+use Rattle.bay_server.specs.declared.serving.Service.{Service}
 use Rattle.bay_server.specs.declared.serving.TurnAttempt.{TurnAttempt}
 use Rattle.bay_server.specs.declared.serving.TurnAttempt.TheVariants as tried
 use Rattle.bay_server_turn.specs.Calls.{Call}
 
 -- the state of a service, with the host and the lines of the trace
-abbrev pub with_host : {L H : Type 0} → Served L → H → List (ℕ × List ℕ) → Serving L H
+abbrev pub with_host : {L H : Type 0} → Service L → H → List (ℕ × List ℕ) → ServiceState L H
 with_host served host lines = record {
   link = served.link.link;
   held = served.server;
@@ -26,12 +26,12 @@ module _ {L H W : Type 0} (step : L → Call → L → Type 0) (acts : H → Hos
     (contents : W → Option (List ℕ)) (asks : W → WriteCall → W → Type 0) where
   -- a turn was done, or it was refused, and what must be printed for it was; or that could not be
   -- written
-  abbrev pub TriesTurn : Serving L H → WriterState W → Serving L H → WriterState W
+  abbrev pub TriesTurn : ServiceState L H → WriterState W → ServiceState L H → WriterState W
       → Result TurnAttempt WriteFault → Type 0
   TriesTurn before old after new (Ok (tried.Done was_idle)) =
-      (status : ℕ) × TurnGoes step acts contents asks before old after new (Ok status)
+      (status : ℕ) × TurnServed step acts contents asks before old after new (Ok status)
   TriesTurn before old after new (Ok (tried.Ends status)) =
-      TurnFails step acts contents asks before old after.host new (Ok status)
+      TurnRefused step acts contents asks before old after.host new (Ok status)
   TriesTurn before old after new (Err fault) =
-      TurnGoes step acts contents asks before old after new (Err fault)
-      ⊎ TurnFails step acts contents asks before old after.host new (Err fault)
+      TurnServed step acts contents asks before old after new (Err fault)
+      ⊎ TurnRefused step acts contents asks before old after.host new (Err fault)

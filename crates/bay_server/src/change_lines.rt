@@ -1,12 +1,12 @@
 // Logs the process and its switches in a turn.
 ghost use Rattle.std.specs.Prelude.{◌≡◌, ◌++◌, false, true, MatchBool};
-ghost use Rattle.bay_server_turn.specs.Served.{reported_in};
+ghost use Rattle.bay_server_turn.specs.Served.{report_in};
 ghost use Rattle.bay_server.specs.Logging.{LogsAll};
-ghost use Rattle.bay_server.specs.ChangeLines.{AreSeen, bay_seen, commanded_switch, end_log, ends_log, lost_log, operates_in, own_switches, reached_in, seen_at, seen_log, switch_log, switches_log, word_log};
+ghost use Rattle.bay_server.specs.ChangeLines.{AreSeen, bay_view, commanded_switch, end_log, ends_log, lost_log, operates_in, own_switches, reached_in, switch_view_at, view_log, switch_log, switches_log, word_log};
 ghost use Rattle.bay_server.specs.declared.change_lines.Column.TheVariants as column;
 ghost use Rattle.bay_server.specs.ChangeLines as spec;
 
-use crate::connection_lines::first;
+use crate::connection_lines::take_first;
 use crate::control_lines::id;
 use bay_base::position::Dbpos;
 use bay_device::device::Device;
@@ -46,7 +46,7 @@ impl BayView {
     fn own_switches(&self) -> &[SwitchView]
         ensures { result.now ≡ own_switches self.now }
     {
-        first(&self.switches, self.count)
+        take_first(&self.switches, self.count)
     }
 }
 
@@ -57,18 +57,18 @@ const NO_SWITCH: SwitchView = SwitchView {
 };
 
 // Returns the view of the switch at an index.
-fn view_switch(device: &Device, place: usize) -> SwitchView
-    ensures { result ≡ seen_at device.now place }
+fn view_switch(device: &Device, index: usize) -> SwitchView
+    ensures { result ≡ switch_view_at device.now index }
 {
     SwitchView {
-        position: device.position(place),
-        release: device.ena(place),
+        position: device.position(index),
+        release: device.ena(index),
     }
 }
 
 // Returns the view of each switch, and the switch that is operating.
 fn view_bay(device: &Device) -> BayView
-    ensures { result ≡ bay_seen device.now }
+    ensures { result ≡ bay_view device.now }
 {
     let count = device.switch_count();
     let mut switches = [NO_SWITCH; SWITCHES];
@@ -85,7 +85,7 @@ fn view_bay(device: &Device) -> BayView
 /// Returns the view of each switch, and the switch that is operating, if lines are logged. If not,
 /// nobody compares it with a later one, and it has no switches.
 pub fn view_for_log<W>(device: &Device, writer: &WatchedWriter<W>) -> BayView
-    ensures { MatchBool writer.now.logs (result ≡ bay_seen device.now) (Unit {0}) }
+    ensures { MatchBool writer.now.logs (result ≡ bay_view device.now) (Unit {0}) }
 {
     if writer.is_logging() {
         view_bay(device)
@@ -156,7 +156,7 @@ fn log_change<W: Sink>(
     before: SwitchView,
     after: SwitchView,
 )
-    ensures { LogsAll W.contents W.does writer.old (seen_log column moment id.now before after)
+    ensures { LogsAll W.contents W.does writer.old (view_log column moment id.now before after)
         writer.new }
 {
     match column {
@@ -179,19 +179,19 @@ fn log_switch<W: Sink>(
     column: Column,
     device: &Device,
     moment: u64,
-    place: usize,
+    index: usize,
     before: SwitchView,
 )
     ensures { LogsAll W.contents W.does writer.old
-        (switch_log column moment device.now place before) writer.new }
+        (switch_log column moment device.now index before) writer.new }
 {
     log_change(
         writer,
         column,
         moment,
-        id(device, place),
+        id(device, index),
         before,
-        view_switch(device, place),
+        view_switch(device, index),
     );
 }
 
@@ -253,8 +253,8 @@ fn log_switches<W: Sink>(
     ensures { LogsAll W.contents W.does writer.old
         (switches_log column moment device.now 0 before.now) writer.new }
 {
-    for place in 0..before.len() {
-        log_switch(writer, column, device, moment, place, before[place]);
+    for index in 0..before.len() {
+        log_switch(writer, column, device, moment, index, before[index]);
     }
 }
 
@@ -310,7 +310,7 @@ fn first_commanded(commands: &[Command]) -> Option<usize>
 
 // Returns the switch that has reached its position in a turn, if one has: the one that operated, if
 // none operates after the turn.
-fn reached(before: Option<usize>, after: Option<usize>, turn: &Turn) -> Option<usize>
+fn reached_switch(before: Option<usize>, after: Option<usize>, turn: &Turn) -> Option<usize>
     ensures { result ≡ reached_in after
         (operates_in turn.now.over before (commanded_switch turn.now.commands)) }
 {
@@ -335,19 +335,19 @@ pub fn log_ends<W: Sink>(
         (ends_log moment before.now device.now turn.now) writer.new }
 {
     log_end(writer, device, moment, b" ended: time over\n", turn.over);
-    let reached = reached(before.operating, device.operating(), turn);
+    let reached_switch = reached_switch(before.operating, device.operating(), turn);
     log_end(
         writer,
         device,
         moment,
         b" ended: position reached\n",
-        reached,
+        reached_switch,
     );
 }
 
 /// Logs that the process is lost, if the input of a turn has this.
 pub fn log_lost<W: Sink>(writer: &mut WatchedWriter<W>, moment: u64, given: TurnInput)
-    ensures { LogsAll W.contents W.does writer.old (lost_log moment (reported_in given).is_lost)
+    ensures { LogsAll W.contents W.does writer.old (lost_log moment (report_in given).is_lost)
         writer.new }
 {
     let Ok(reported) = given else {

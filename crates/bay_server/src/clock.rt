@@ -1,6 +1,6 @@
 // The clock of a server: the system's time at its start, carried on by a clock that does not jump.
 ghost use Rattle.std.specs.Prelude.{◌≡◌, ◌+◌, ◌-◌, ◌*◌, ◌/◌, ◌^◌, ◌≤◌, ◌<◌, List, min};
-ghost use Rattle.bay_server.specs.Clock.{ClockData, KeepsPace, after_reading, draw, elapsed_time, jump_of, read_all, shift_of, initial_clock};
+ghost use Rattle.bay_server.specs.Clock.{ClockData, KeepsPace, after_reading, max_adjustment, elapsed_time, jump_of, after_readings, shift_of, initial_clock};
 ghost use Rattle.bay_server.specs.Clock as spec;
 
 use std::marker::Model;
@@ -121,9 +121,9 @@ impl ServeClock {
         ensures forward { self.old.moment ≤ result.moment }
         // It advances as far as the steady clock, give or take a millisecond in each hundred.
         ensures least { min (self.old.moment + elapsed_time clocks self.old) (2 ^ 64 - 1)
-            ≤ result.moment + draw clocks self.old }
+            ≤ result.moment + max_adjustment clocks self.old }
         ensures most { result.moment
-            ≤ self.old.moment + elapsed_time clocks self.old + draw clocks self.old }
+            ≤ self.old.moment + elapsed_time clocks self.old + max_adjustment clocks self.old }
     {
         let elapsed = clocks.steady.saturating_sub(self.steady);
         let jump = clocks
@@ -159,5 +159,5 @@ impl ServeClock {
 /// clock, give or take a millisecond in each hundred, whatever the times of the two clocks are.
 pub fn any_readings_keep_pace()
     ensures { (readings : List Clocks) (c : ClockData) → c.carry < 100
-        → c.moment < 2 ^ 64 → KeepsPace c (read_all readings c) }
+        → c.moment < 2 ^ 64 → KeepsPace c (after_readings readings c) }
 {}

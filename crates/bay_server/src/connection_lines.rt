@@ -130,7 +130,7 @@ pub fn log_left_out<W: Sink>(writer: &mut WatchedWriter<W>, moment: u64, count: 
 }
 
 /// Returns the first items of a list, at most this number.
-pub fn first<T>(items: &[T], most: usize) -> &[T]
+pub fn take_first<T>(items: &[T], most: usize) -> &[T]
     ensures { result.now ≡ take most items.now }
 {
     if most < items.len() {

@@ -1,6 +1,6 @@
 // The system that serving uses: ports, and two clocks.
 ghost use Rattle.std.specs.Prelude.{◌≡◌};
-ghost use Rattle.bay_server.specs.Host.{HostCall, Binds, Tells, Pauses};
+ghost use Rattle.bay_server.specs.Host.{HostCall, Binds, ReadsTimes, Pauses};
 ghost use Rattle.bay_server.specs.LogLines.{bind_words};
 
 use crate::clock::Clocks;
@@ -74,7 +74,7 @@ pub trait Host<L> {
 
     /// Returns the times of the system's clock and of one that does not jump, in milliseconds.
     fn clocks(&mut self) -> Clocks
-        ensures { does self.old (Tells result.system result.steady) self.new };
+        ensures { does self.old (ReadsTimes result.system result.steady) self.new };
 
     /// Waits until something may have happened on a link, for at most some milliseconds.
     fn pause(&mut self)
@@ -108,7 +108,7 @@ fn milliseconds(time: io::Result<Duration>) -> u64 {
 }
 
 // Returns the readiness of a host's sockets, which is created at the first port.
-fn ready_for<'a, R: Runtime<A = Global> + Net>(
+fn open_readiness<'a, R: Runtime<A = Global> + Net>(
     rt: &R,
     readiness: &'a mut Option<Readiness>,
 ) -> Result<&'a mut Readiness, BindFault> {
@@ -122,7 +122,7 @@ impl<'a, R: Runtime<A = Global> + Net<Listener = TcpListener, Stream = TcpStream
     TcpLink<'a, R>,
 > for SystemHost<'a, R> {
     fn bind(&mut self, port: u16, idle_s: Option<u32>) -> Result<TcpLink<'a, R>, BindFault> {
-        let readiness = ready_for(self.rt, &mut self.readiness)?;
+        let readiness = open_readiness(self.rt, &mut self.readiness)?;
         Ok(TcpLink::bind(self.rt, self.rt, readiness, port, idle_s)?)
     }
 

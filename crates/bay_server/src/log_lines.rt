@@ -2,13 +2,13 @@
 ghost use Rattle.std.specs.Prelude.{◌≡◌, Some, map, take};
 ghost use Rattle.bay_io.specs.Sent.{Logs};
 ghost use Rattle.bay_server.specs.Logging.{LogsAll};
-ghost use Rattle.bay_server.specs.LogLines.{closed_line, memory_line, connection_event_log, opened_line, opened_log, parted_line, disconnect_line, ports_log, refused_line, refused_log, shift_log, silent_line, unbound_log, unserved_log, used_up_log};
+ghost use Rattle.bay_server.specs.LogLines.{closed_line, memory_line, connection_event_log, opened_line, opened_log, process_closed_line, disconnect_line, ports_log, refused_line, refused_log, shift_log, silent_line, unbound_log, turn_refusal_log, all_served_log};
 ghost use Rattle.bay_server.specs.ChangeLines.{turn_log};
 ghost use Rattle.bay_server_turn.specs.declared.fault.ServeFault.TheVariants.{BadLine};
 
 use crate::change_lines::{BayView, log_changes, log_ends, log_lost};
 use crate::clock::{ClockShift, ClockSide};
-use crate::connection_lines::{LineCount, first, log_left_out};
+use crate::connection_lines::{LineCount, take_first, log_left_out};
 use crate::control_lines::log_controls;
 use crate::host::BindFault;
 use crate::process::NextInput;
@@ -228,11 +228,11 @@ pub fn log_turn<W: Sink>(
     if !writer.is_logging() {
         return;
     }
-    let closed = first(
+    let closed = take_first(
         turn.closed.as_slice(),
         count.at_closings(moment, turn).room(),
     );
-    let memory = first(turn.memory.as_slice(), count.at_memory(moment, turn).room());
+    let memory = take_first(turn.memory.as_slice(), count.at_memory(moment, turn).room());
     log_left_out(writer, moment, count);
     log_opened(writer, moment, turn.opened, count.at(moment).room());
     log_lost(writer, moment, next.given);
@@ -246,7 +246,7 @@ pub fn log_turn<W: Sink>(
 
 // Logs which line of the trace is not valid.
 fn log_bad_line<W: Sink>(writer: &mut WatchedWriter<W>, number: usize, shown: &EscapedText)
-    ensures { Logs W.contents W.does writer.old (unserved_log BadLine number shown.now) writer.new }
+    ensures { Logs W.contents W.does writer.old (turn_refusal_log BadLine number shown.now) writer.new }
 {
     writer.log(&[
         LinePart::Text(b"bayctl: fault 120 line "),
@@ -264,7 +264,7 @@ pub fn log_turn_refusal<W: Sink>(
     number: usize,
     shown: &EscapedText,
 )
-    ensures { Logs W.contents W.does writer.old (unserved_log fault number shown.now) writer.new }
+    ensures { Logs W.contents W.does writer.old (turn_refusal_log fault number shown.now) writer.new }
 {
     match fault {
         ServeFault::BadLine => log_bad_line(writer, number, shown),
@@ -275,8 +275,8 @@ pub fn log_turn_refusal<W: Sink>(
 }
 
 /// Logs that all turns were served.
-pub fn log_used_up<W: Sink>(writer: &mut WatchedWriter<W>, moment: u64)
-    ensures { Logs W.contents W.does writer.old (used_up_log moment) writer.new }
+pub fn log_all_served<W: Sink>(writer: &mut WatchedWriter<W>, moment: u64)
+    ensures { Logs W.contents W.does writer.old (all_served_log moment) writer.new }
 {
     writer.log(&[
         LinePart::Moment(moment),
@@ -285,8 +285,8 @@ pub fn log_used_up<W: Sink>(writer: &mut WatchedWriter<W>, moment: u64)
 }
 
 // Logs that the connection of the process was closed, with the number of the reason and in words.
-fn log_parted<W: Sink>(writer: &mut WatchedWriter<W>, moment: u64, code: u8, words: &[u8])
-    ensures { Logs W.contents W.does writer.old (parted_line moment code words.now) writer.new }
+fn log_process_closed<W: Sink>(writer: &mut WatchedWriter<W>, moment: u64, code: u8, words: &[u8])
+    ensures { Logs W.contents W.does writer.old (process_closed_line moment code words.now) writer.new }
 {
     writer.log(&[
         LinePart::Moment(moment),
@@ -312,14 +312,14 @@ fn log_silence<W: Sink>(writer: &mut WatchedWriter<W>, moment: u64, limit_ms: u3
 }
 
 // Logs that the connection of the process was closed, and why.
-fn log_parting<W: Sink>(writer: &mut WatchedWriter<W>, moment: u64, why: &DisconnectReason)
+fn log_disconnect<W: Sink>(writer: &mut WatchedWriter<W>, moment: u64, why: &DisconnectReason)
     ensures { Logs W.contents W.does writer.old (disconnect_line moment why.now) writer.new }
 {
     match why {
-        DisconnectReason::Ended => log_parted(writer, moment, 0, b"it ended its connection"),
-        DisconnectReason::BadLine(line) => log_parted(writer, moment, 120, line.as_slice()),
+        DisconnectReason::Ended => log_process_closed(writer, moment, 0, b"it ended its connection"),
+        DisconnectReason::BadLine(line) => log_process_closed(writer, moment, 120, line.as_slice()),
         DisconnectReason::QueueFull => {
-            log_parted(
+            log_process_closed(
                 writer,
                 moment,
                 130,
@@ -327,21 +327,21 @@ fn log_parting<W: Sink>(writer: &mut WatchedWriter<W>, moment: u64, why: &Discon
             )
         }
         DisconnectReason::LinkFailed => {
-            log_parted(
+            log_process_closed(
                 writer,
                 moment,
                 131,
                 b"its connection failed, or it sent nothing for 10 seconds",
             )
         }
-        DisconnectReason::Foreign => log_parted(
+        DisconnectReason::Foreign => log_process_closed(
             writer,
             moment,
             132,
             b"it is not the process of this bay, or has another key",
         ),
         DisconnectReason::Untimely => {
-            log_parted(
+            log_process_closed(
                 writer,
                 moment,
                 133,
@@ -349,7 +349,7 @@ fn log_parting<W: Sink>(writer: &mut WatchedWriter<W>, moment: u64, why: &Discon
             )
         }
         DisconnectReason::OutOfOrder => {
-            log_parted(
+            log_process_closed(
                 writer,
                 moment,
                 133,
@@ -357,7 +357,7 @@ fn log_parting<W: Sink>(writer: &mut WatchedWriter<W>, moment: u64, why: &Discon
             )
         }
         DisconnectReason::Silent(limit_ms) => log_silence(writer, moment, *limit_ms),
-        DisconnectReason::Jumped => log_parted(writer, moment, 134, b"the clock has jumped"),
+        DisconnectReason::Jumped => log_process_closed(writer, moment, 134, b"the clock has jumped"),
     }
 }
 
@@ -365,15 +365,15 @@ fn log_parting<W: Sink>(writer: &mut WatchedWriter<W>, moment: u64, why: &Discon
 pub fn log_connection_event<W: Sink>(
     writer: &mut WatchedWriter<W>,
     moment: u64,
-    news: &ConnectionEvent,
+    connection_event: &ConnectionEvent,
 )
-    ensures { Logs W.contents W.does writer.old (connection_event_log moment news.now) writer.new }
+    ensures { Logs W.contents W.does writer.old (connection_event_log moment connection_event.now) writer.new }
 {
-    match news {
+    match connection_event {
         ConnectionEvent::Opened => writer.log(&[
             LinePart::Moment(moment),
             LinePart::Text(b" process open\n"),
         ]),
-        ConnectionEvent::Closed(why) => log_parting(writer, moment, why),
+        ConnectionEvent::Closed(why) => log_disconnect(writer, moment, why),
     }
 }

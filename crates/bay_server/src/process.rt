@@ -1,7 +1,7 @@
 // The process, and the input of a turn.
 ghost use Rattle.std.specs.Prelude.{◌≡◌, []};
-ghost use Rattle.bay_server_turn.specs.Calls.{Called};
-ghost use Rattle.bay_server.specs.ServeReport.{AttendsTo, PollsProcess, after_loss, choose_input, from_port, loss_of, next_by};
+ghost use Rattle.bay_server_turn.specs.Calls.{CountedCall};
+ghost use Rattle.bay_server.specs.ServeReport.{PollsOne, PollsProcess, after_loss, choose_input, input_from_port, loss_of, input_from_line};
 ghost use Rattle.bay_server.specs.ServeReport as spec;
 
 use crate::trace_lines::TraceLines;
@@ -84,18 +84,18 @@ fn take_port_input<L>(
     moment: u64,
     jump: u64,
 ) -> NextInput
-    ensures next { result ≡ (from_port device.now moment jump [] process.old).next }
-    ensures process { process.new ≡ (from_port device.now moment jump [] process.old).process }
+    ensures next { result ≡ (input_from_port device.now moment jump [] process.old).next }
+    ensures process { process.new ≡ (input_from_port device.now moment jump [] process.old).process }
 {
     match process {
         Some(process) => {
-            let said = process.port.take_line(device, moment, jump);
+            let port_input = process.port.take_line(device, moment, jump);
             NextInput {
                 number: 0,
-                shown: said.shown,
+                shown: port_input.shown,
                 given: Ok(ProcessReport {
-                    is_lost: said.is_lost,
-                    event: said.event,
+                    is_lost: port_input.is_lost,
+                    event: port_input.event,
                 }),
             }
         }
@@ -132,7 +132,7 @@ fn with_loss(given: TurnInput, is_lost: bool) -> TurnInput
 // Reads a line of the trace, with its number, for a turn whose input may also have the loss of the
 // process.
 fn read_next(device: &Device, is_lost: bool, line: (usize, &[u8])) -> NextInput
-    ensures { result ≡ next_by device.now is_lost (line.entry.0, line.entry.1.now) }
+    ensures { result ≡ input_from_line device.now is_lost (line.entry.0, line.entry.1.now) }
 {
     let (number, text) = line;
     NextInput {
@@ -171,14 +171,14 @@ fn poll_one<L: Link, W: Sink>(
     turn: &Turn,
     writer: &mut WatchedWriter<W>,
 ) -> Result<u8, WriteFault>
-    ensures { AttendsTo (Called L.does L.failures) W.contents W.does moment turn.now device.now
+    ensures { PollsOne (CountedCall L.does L.failures) W.contents W.does moment turn.now device.now
         process.old
         process.new writer.old writer.new result }
 {
     let sizes = process.port.sizes();
-    let news = poll(&mut process.port, &mut process.link, device, moment, turn);
-    process.is_busy |= news.is_some() || process.port.sizes() != sizes;
-    report_connection_event(writer, moment, &news)
+    let connection_event = poll(&mut process.port, &mut process.link, device, moment, turn);
+    process.is_busy |= connection_event.is_some() || process.port.sizes() != sizes;
+    report_connection_event(writer, moment, &connection_event)
 }
 
 /// Serves the connection of the process after a turn, if there is one, and reports its event.
@@ -190,7 +190,7 @@ pub fn poll_process<L: Link, W: Sink>(
     turn: &Turn,
     writer: &mut WatchedWriter<W>,
 ) -> Result<u8, WriteFault>
-    ensures { PollsProcess (Called L.does L.failures) W.contents W.does moment turn.now device.now
+    ensures { PollsProcess (CountedCall L.does L.failures) W.contents W.does moment turn.now device.now
         process.old
         process.new writer.old writer.new result }
 {

@@ -5,14 +5,14 @@ ghost use Rattle.bay_server.specs.Host.{Pauses};
 ghost use Rattle.bay_report.specs.TextLines.{lines_of};
 ghost use Rattle.bay_server.specs.ServeReport.{ReportsAndPolls, ServesTurns, numbered_lines};
 ghost use Rattle.bay_server.specs.Serving.{TriesTurn, with_host};
-ghost use Rattle.bay_server_turn.specs.Calls.{Called};
+ghost use Rattle.bay_server_turn.specs.Calls.{CountedCall};
 
 use crate::busy::BusyLink;
 use crate::change_lines::{BayView, view_for_log};
 use crate::clock::ServeClock;
 use crate::connection_lines::LineCount;
 use crate::host::Host;
-use crate::log_lines::{log_shift, log_used_up};
+use crate::log_lines::{log_shift, log_all_served};
 use crate::process::{NextInput, Process, next_input, poll_process, was_busy};
 use crate::record_line::log_record;
 use crate::trace_lines::TraceLines;
@@ -40,7 +40,7 @@ pub enum TurnAttempt {
 // A device that is served to clients over their link by a clock, with the count of the log lines of
 // their connections, and the process, if there is one.
 #[derive(Drop)]
-struct Served<L> {
+struct Service<L> {
     server: Server,
     clock: ServeClock,
     count: LineCount,
@@ -48,7 +48,7 @@ struct Served<L> {
     process: Option<Process<L>>,
 }
 
-impl<L> Served<L> {
+impl<L> Service<L> {
     // Returns whether a turn left nothing to do at once, given its input.
     fn is_idle(&mut self, given: TurnInput) -> bool
         ensures server { self.new.server ≡ self.old.server }
@@ -76,7 +76,7 @@ fn report_and_poll<L: Link, W: Sink>(
     turn: &Turn,
     writer: &mut WatchedWriter<W>,
 ) -> Result<u8, WriteFault>
-    ensures { ReportsAndPolls (Called L.does L.failures) W.contents W.does moment count next.now
+    ensures { ReportsAndPolls (CountedCall L.does L.failures) W.contents W.does moment count next.now
         before.now turn.now device.now process.old process.new writer.old writer.new result }
 {
     report_turn(writer, device, moment, count, next, before, turn)?;
@@ -87,12 +87,12 @@ fn report_and_poll<L: Link, W: Sink>(
 // reports, and polls the process. Only then it writes what was recorded of the turn: a file may
 // make it wait, and a command must not wait for that.
 fn try_turn<L: Link, H: Host<L>, W: Sink>(
-    served: &mut Served<L>,
+    served: &mut Service<L>,
     host: &mut H,
     lines: &mut TraceLines<'_>,
     writer: &mut WatchedWriter<W>,
 ) -> Result<TurnAttempt, WriteFault>
-    ensures { TriesTurn (Called L.does L.failures) H.does W.contents W.does
+    ensures { TriesTurn (CountedCall L.does L.failures) H.does W.contents W.does
         (with_host served.old host.old lines.old) writer.old
         (with_host served.new host.new lines.new) writer.new result }
 {
@@ -108,16 +108,16 @@ fn try_turn<L: Link, H: Host<L>, W: Sink>(
         reading.jump,
     );
     let before = view_for_log(served.server.device(), writer);
-    let said = next.shown.as_slice();
+    let source_line = next.shown.as_slice();
     match serve_event(
         &mut served.server,
         &mut served.link,
         clock,
         next.given,
-        said,
+        source_line,
     ) {
         Ok(turn) => {
-            let told = report_and_poll(
+            let reported = report_and_poll(
                 &mut served.process,
                 served.server.device(),
                 moment,
@@ -129,7 +129,7 @@ fn try_turn<L: Link, H: Host<L>, W: Sink>(
             );
             served.count = served.count.after(moment, &turn);
             log_record(writer, moment, served.server.write_record());
-            told?;
+            reported?;
             let was_idle = served.is_idle(next.given);
             Ok(TurnAttempt::Done { was_idle })
         }
@@ -141,7 +141,7 @@ fn try_turn<L: Link, H: Host<L>, W: Sink>(
 }
 
 // Pauses if there is nothing to do at once.
-fn rest<L, H: Host<L>>(host: &mut H, was_idle: bool)
+fn pause_if_idle<L, H: Host<L>>(host: &mut H, was_idle: bool)
     ensures { (host.new ≡ host.old) ⊎ H.does host.old Pauses host.new }
 {
     if was_idle {
@@ -153,22 +153,22 @@ fn rest<L, H: Host<L>>(host: &mut H, was_idle: bool)
 // served. Returns the exit status: 0 after the last turn, or 3 at a turn that is refused. Pauses
 // after a turn that left nothing to do at once.
 fn serve_lines<L: Link, H: Host<L>, W: Sink>(
-    served: &mut Served<L>,
+    served: &mut Service<L>,
     host: &mut H,
     lines: &mut TraceLines<'_>,
     turns: u32,
     writer: &mut WatchedWriter<W>,
 ) -> Result<u8, WriteFault>
-    ensures { ServesTurns (Called L.does L.failures) H.does W.contents W.does turns
+    ensures { ServesTurns (CountedCall L.does L.failures) H.does W.contents W.does turns
         (with_host served.old host.old lines.old) writer.old host.new writer.new result }
 {
     for turn in 0..turns {
         match try_turn(served, host, lines, writer)? {
             TurnAttempt::Ends(status) => return Ok(status),
-            TurnAttempt::Done { was_idle } => rest::<L, H>(host, was_idle),
+            TurnAttempt::Done { was_idle } => pause_if_idle::<L, H>(host, was_idle),
         }
     }
-    log_used_up(writer, served.server.device().moment());
+    log_all_served(writer, served.server.device().moment());
     Ok(Status::Clean.code())
 }
 
@@ -187,7 +187,7 @@ pub fn serve_turns<L: Link + Drop, H: Host<L>, W: Sink>(
     turns: u32,
     writer: &mut WatchedWriter<W>,
 ) -> Result<u8, WriteFault>
-    ensures { ServesTurns (Called L.does L.failures) H.does W.contents W.does turns
+    ensures { ServesTurns (CountedCall L.does L.failures) H.does W.contents W.does turns
         (record {
           link = link;
           held = server;
@@ -198,7 +198,7 @@ pub fn serve_turns<L: Link + Drop, H: Host<L>, W: Sink>(
           lines = numbered_lines 1 (lines_of trace.now);
         }) writer.old host.new writer.new result }
 {
-    let mut served = Served {
+    let mut served = Service {
         server,
         clock,
         count: LineCount::new(),

@@ -3,7 +3,7 @@ ghost use Rattle.std.specs.Prelude.{◌≡◌};
 ghost use Rattle.bay_io.specs.Sent.{Puts};
 ghost use Rattle.bay_device.specs.declared.event.Why.TheVariants.{Fault};
 ghost use Rattle.bay_report.specs.Lines.{closing_text};
-ghost use Rattle.bay_report.specs.Report.{IsLast, Prints};
+ghost use Rattle.bay_report.specs.Report.{IsOutput, Prints};
 ghost use Rattle.bay_server_turn.specs.Code.{code_of};
 ghost use Rattle.bay_server.specs.ServeReport.{PrintsTurn, ReportsConnectionEvent, ReportsTurn, ReportsTurnRefusal};
 ghost use Rattle.bay_process_port.specs.ProcessOutput.{refusal_text};
@@ -93,7 +93,7 @@ fn write_turn<W: Sink>(
     moment: u64,
     turn: &Turn,
 ) -> Result<u8, WriteFault>
-    ensures { Prints W.contents W.does (IsLast (turn_text moment turn.now device.now) 0) writer.old
+    ensures { Prints W.contents W.does (IsOutput (turn_text moment turn.now device.now) 0) writer.old
         writer.new result }
 {
     put_turn(writer, device, moment, turn);
@@ -158,10 +158,10 @@ fn put_disconnect<W: Sink>(writer: &mut WatchedWriter<W>, moment: u64, why: &Dis
 }
 
 // Writes an event of the connection of the process.
-fn put_connection_event<W: Sink>(writer: &mut WatchedWriter<W>, moment: u64, news: &ConnectionEvent)
-    ensures { Puts W.contents W.does writer.old (connection_event_text moment news.now) writer.new }
+fn put_connection_event<W: Sink>(writer: &mut WatchedWriter<W>, moment: u64, connection_event: &ConnectionEvent)
+    ensures { Puts W.contents W.does writer.old (connection_event_text moment connection_event.now) writer.new }
 {
-    match news {
+    match connection_event {
         ConnectionEvent::Opened => put_opened(writer, moment),
         ConnectionEvent::Closed(why) => put_disconnect(writer, moment, why),
     }
@@ -171,13 +171,13 @@ fn put_connection_event<W: Sink>(writer: &mut WatchedWriter<W>, moment: u64, new
 fn write_connection_event<W: Sink>(
     writer: &mut WatchedWriter<W>,
     moment: u64,
-    news: &ConnectionEvent,
+    connection_event: &ConnectionEvent,
 ) -> Result<u8, WriteFault>
-    ensures { Prints W.contents W.does (IsLast (connection_event_text moment news.now) 0) writer.old
+    ensures { Prints W.contents W.does (IsOutput (connection_event_text moment connection_event.now) 0) writer.old
         writer.new
         result }
 {
-    put_connection_event(writer, moment, news);
+    put_connection_event(writer, moment, connection_event);
     finish(writer, Status::Clean)
 }
 
@@ -186,15 +186,15 @@ fn write_connection_event<W: Sink>(
 pub fn report_connection_event<W: Sink>(
     writer: &mut WatchedWriter<W>,
     moment: u64,
-    news: &Option<ConnectionEvent>,
+    connection_event: &Option<ConnectionEvent>,
 ) -> Result<u8, WriteFault>
-    ensures { ReportsConnectionEvent W.contents W.does moment news.now writer.old writer.new
+    ensures { ReportsConnectionEvent W.contents W.does moment connection_event.now writer.old writer.new
         result }
 {
-    match news {
-        Some(news) => {
-            log_connection_event(writer, moment, news);
-            write_connection_event(writer, moment, news)
+    match connection_event {
+        Some(connection_event) => {
+            log_connection_event(writer, moment, connection_event);
+            write_connection_event(writer, moment, connection_event)
         }
         None => Ok(Status::Clean.code()),
     }
@@ -202,7 +202,7 @@ pub fn report_connection_event<W: Sink>(
 
 // Writes which line of the trace is not valid.
 fn write_bad_line<W: Sink>(writer: &mut WatchedWriter<W>, number: usize) -> Result<u8, WriteFault>
-    ensures { Prints W.contents W.does (IsLast (turn_refusal_text ServeFault.BadLine number) 3)
+    ensures { Prints W.contents W.does (IsOutput (turn_refusal_text ServeFault.BadLine number) 3)
         writer.old
         writer.new result }
 {
@@ -216,7 +216,7 @@ fn write_turn_refusal<W: Sink>(
     fault: ServeFault,
     number: usize,
 ) -> Result<u8, WriteFault>
-    ensures { Prints W.contents W.does (IsLast (turn_refusal_text fault number) 3) writer.old
+    ensures { Prints W.contents W.does (IsOutput (turn_refusal_text fault number) 3) writer.old
         writer.new
         result }
 {

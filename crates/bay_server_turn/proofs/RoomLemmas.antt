@@ -4,7 +4,7 @@ use Rattle.std.proofs.lemmas.List.Sums.{count_by-le-length, sum_by-cons}
 use Rattle.bay_server_turn.specs.Room.{HasEntries}
 use Rattle.bay_server_turn.specs.AssociationStates.{is_close_reported}
 use Rattle.bay_server_turn.specs.declared.association_state.AssociationState.{AssociationState}
-use Rattle.bay_server_turn.specs.declared.association_state.AssociationState.TheVariants.{Steady, Gone}
+use Rattle.bay_server_turn.specs.declared.association_state.AssociationState.TheVariants.{Steady, Closed}
 
 -- an entry that is told, or none
 abbrev entry_of : AssociationState → ℕ
@@ -61,12 +61,12 @@ pub told-room : (xs : List AssociationState) (k : ℕ) → k < length xs
     → is_close_reported (slice_index_or xs k Steady) ≡ false
     → count_by is_close_reported xs < length xs
 told-room xs k h isnt =
-    let is : is_close_reported Gone ≡ true = refl in
+    let is : is_close_reported Closed ≡ true = refl in
     omega (
       arith,
-      told-more xs k Gone h isnt is,
-      count_by-le-length is_close_reported (slice_set xs k Gone),
-      set-length xs k Gone,
+      told-more xs k Closed h isnt is,
+      count_by-le-length is_close_reported (slice_set xs k Closed),
+      set-length xs k Closed,
     )
 
 -- then there is room for its entry

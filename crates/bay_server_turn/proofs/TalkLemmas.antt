@@ -15,33 +15,33 @@ module _ {L : Type 0} (step : L → Call → L → Type 0) where
   Talks-append old mid new (x ∷ xs) ys p q = (p.0, p.1, Talks-append p.0 mid new xs ys p.2 q)
 
 -- one more place
-pub after_each-more : {C : Type 0} (f : ℕ → C → TurnState → TurnState) (place : ℕ) (cs : List C)
+pub after_each-more : {C : Type 0} (f : ℕ → C → TurnState → TurnState) (slot : ℕ) (cs : List C)
     (c : C)
     (s : TurnState)
-    → after_each f place (cs ++ c ∷ []) s ≡ f (place + length cs) c (after_each f place cs s)
-after_each-more f place [] c s =
-    let here : place ≡ place + 0 = omega arith in
+    → after_each f slot (cs ++ c ∷ []) s ≡ f (slot + length cs) c (after_each f slot cs s)
+after_each-more f slot [] c s =
+    let here : slot ≡ slot + 0 = omega arith in
     ap (λ n. f n c s) here
-after_each-more f place (b ∷ cs) c s =
-    let shifted : place + 1 + length cs ≡ place + suc (length cs) = omega arith in
-    after_each-more f (place + 1) cs c (f place b s)
-    ∙ ap (λ n. f n c (after_each f (place + 1) cs (f place b s))) shifted
+after_each-more f slot (b ∷ cs) c s =
+    let shifted : slot + 1 + length cs ≡ slot + suc (length cs) = omega arith in
+    after_each-more f (slot + 1) cs c (f slot b s)
+    ∙ ap (λ n. f n c (after_each f (slot + 1) cs (f slot b s))) shifted
 
 pub calls_of_each-more : {C : Type 0} (f : ℕ → C → TurnState → TurnState)
-    (calls : ℕ → C → TurnState → List Call) (place : ℕ) (cs : List C) (c : C) (s : TurnState)
-    → calls_of_each f calls place (cs ++ c ∷ []) s
-    ≡ calls_of_each f calls place cs s ++ calls (place + length cs) c (after_each f place cs s)
-calls_of_each-more f calls place [] c s =
-    let here : place ≡ place + 0 = omega arith in
-    append-nil (calls place c s) ∙ ap (λ n. calls n c s) here
-calls_of_each-more f calls place (b ∷ cs) c s =
-    let shifted : place + 1 + length cs ≡ place + suc (length cs) = omega arith in
-    ap (λ l. calls place b s ++ l)
-    (calls_of_each-more f calls (place + 1) cs c (f place b s)
-    ∙ ap (λ n. calls_of_each f calls (place + 1) cs (f place b s)
-    ++ calls n c (after_each f (place + 1) cs (f place b s))) shifted)
-    ∙ sym (append_assoc (calls place b s) (calls_of_each f calls (place + 1) cs (f place b s))
-    (calls (place + suc (length cs)) c (after_each f (place + 1) cs (f place b s))))
+    (calls : ℕ → C → TurnState → List Call) (slot : ℕ) (cs : List C) (c : C) (s : TurnState)
+    → calls_of_each f calls slot (cs ++ c ∷ []) s
+    ≡ calls_of_each f calls slot cs s ++ calls (slot + length cs) c (after_each f slot cs s)
+calls_of_each-more f calls slot [] c s =
+    let here : slot ≡ slot + 0 = omega arith in
+    append-nil (calls slot c s) ∙ ap (λ n. calls n c s) here
+calls_of_each-more f calls slot (b ∷ cs) c s =
+    let shifted : slot + 1 + length cs ≡ slot + suc (length cs) = omega arith in
+    ap (λ l. calls slot b s ++ l)
+    (calls_of_each-more f calls (slot + 1) cs c (f slot b s)
+    ∙ ap (λ n. calls_of_each f calls (slot + 1) cs (f slot b s)
+    ++ calls n c (after_each f (slot + 1) cs (f slot b s))) shifted)
+    ∙ sym (append_assoc (calls slot b s) (calls_of_each f calls (slot + 1) cs (f slot b s))
+    (calls (slot + suc (length cs)) c (after_each f (slot + 1) cs (f slot b s))))
 
 -- and then the next place
 pub GoesEach-more : {L C : Type 0} (step : L → Call → L → Type 0)
@@ -63,10 +63,10 @@ GoesEach-more step f calls old mid new count before between after done one =
     record {
       choices = cs ++ c ∷ [];
       many = length-append cs (c ∷ []) ∙ ap (λ n. n + 1) done.many;
-      talks = subst (λ l. MakesCalls step old l new)
+      makes = subst (λ l. MakesCalls step old l new)
           (ap (λ l. calls_of_each f calls 0 cs before ++ l) (sym same_calls)
           ∙ sym (calls_of_each-more f calls 0 cs c before))
           (Talks-append step old mid new (calls_of_each f calls 0 cs before) (calls count c between)
-          done.talks one.talks);
+          done.makes one.makes);
       is = one.is ∙ sym same_state ∙ sym (after_each-more f 0 cs c before);
     }

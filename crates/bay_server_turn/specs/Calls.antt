@@ -8,8 +8,8 @@ use Rattle.bay_server_turn.specs.declared.link.ReadResult.TheVariants.{Bytes, No
 pub data ReadOutcome : Type 0 where
   Octets : List ℕ → ReadOutcome
   Silence : ReadOutcome
-  Over : ReadOutcome
-  Broken : ReadOutcome
+  StreamEnd : ReadOutcome
+  Failure : ReadOutcome
 
 -- One call, with the number of an association: an accept, with the address of the connection that
 -- was accepted, if one waited; a read, with the octets that there was room for, and its result; a
@@ -24,8 +24,8 @@ pub data Call : Type 0 where
 abbrev pub read_outcome_of : {E : Type 0} → Result ReadResult E → List ℕ → ReadOutcome
 read_outcome_of (Ok (Bytes n)) room = Octets (take n room)
 read_outcome_of (Ok Nothing) room = Silence
-read_outcome_of (Ok End) room = Over
-read_outcome_of (Err e) room = Broken
+read_outcome_of (Ok End) room = StreamEnd
+read_outcome_of (Err e) room = Failure
 
 -- a read returns no more octets than there is room for
 abbrev pub FitsIn : {E : Type 0} → List ℕ → Result ReadResult E → Type 0
@@ -35,16 +35,16 @@ FitsIn room (Ok End) = Unit {0}
 FitsIn room (Err e) = Unit {0}
 
 -- the read failed
-abbrev pub is_broken : ReadOutcome → Bool
-is_broken (Octets xs) = false
-is_broken Silence = false
-is_broken Over = false
-is_broken Broken = true
+abbrev pub is_failure : ReadOutcome → Bool
+is_failure (Octets xs) = false
+is_failure Silence = false
+is_failure StreamEnd = false
+is_failure Failure = true
 
 -- the call failed
 abbrev pub is_failed : Call → Bool
 is_failed (Accepts a taken) = is_none taken
-is_failed (Reads a room what) = is_broken what
+is_failed (Reads a room what) = is_failure what
 is_failed (Writes a octets taken) = is_none taken
 is_failed (Closes a) = false
 
@@ -54,7 +54,7 @@ abbrev pub failures_after : ℕ → Bool → ℕ
 failures_after n failed = if failed then min (n + 1) 18446744073709551615 else n
 
 -- one call of a link, which counts its failures
-pub record Called {L : Type 0} (does : L → Call → L → Type 0) (failures : L → ℕ) (old : L)
+pub record CountedCall {L : Type 0} (does : L → Call → L → Type 0) (failures : L → ℕ) (old : L)
     (call : Call) (new : L) : Type 0 where
   pub done : does old call new
   pub counted : failures new ≡ failures_after (failures old) (is_failed call)

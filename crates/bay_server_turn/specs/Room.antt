@@ -5,5 +5,5 @@ use Rattle.bay_server_turn.specs.declared.association_state.AssociationState.{As
 
 -- There is one entry for each association whose closing is reported.
 abbrev pub HasEntries : {C M : Type 0} → List AssociationState → List C → List M → Type 0
-HasEntries standings closed memory =
-    length closed + length memory ≡ count_by is_close_reported standings
+HasEntries states closed memory =
+    length closed + length memory ≡ count_by is_close_reported states

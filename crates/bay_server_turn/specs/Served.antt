@@ -7,7 +7,7 @@ use Rattle.bay_device.specs.LookUps.{input_index, meter_index, switch_index}
 use Rattle.bay_device.specs.Outcomes.{associations, last_moment}
 use Rattle.bay_trace.specs.Trace.{LineData, NamedData, blank, at_moment, connects, receives, disconnects, contact, input, measure, bad_measure, lost, scan, process_of, trace_line_of}
 use Rattle.bay_server_turn.specs.Calls.{Call, MakesCalls}
-use Rattle.bay_server_turn.specs.Offers.{offering_of, after_calls}
+use Rattle.bay_server_turn.specs.Offers.{offer_outcome, after_calls}
 use Rattle.bay_server_turn.specs.Turns.{ServerData, Script, TurnState, accept_calls, with_accept, after_each, calls_of_each, moment_at, opening_of, after_octets, after_turn, turn_calls}
 use Rattle.bay_server_turn.specs.declared.fault.ServeFault.{ServeFault}
 use Rattle.bay_server_turn.specs.declared.fault.ServeFault.TheVariants.{BadLine, MomentTooLarge}
@@ -80,9 +80,9 @@ turn_input_of s None = Ok (report_of_event None)
 turn_input_of s (Some text) = turn_input_of_line s text
 
 -- the report of the process in the input of a turn
-abbrev pub reported_in : TurnInput → ProcessReport
-reported_in (Ok given) = given
-reported_in (Err fault) = report_of_event None
+abbrev pub report_in : TurnInput → ProcessReport
+report_in (Ok given) = given
+report_in (Err fault) = report_of_event None
 
 -- A turn is refused first for a bad line, then for a moment that is too large.
 abbrev pub turn_refusal : ℕ → TurnInput → ServerData → Option ServeFault
@@ -93,9 +93,9 @@ turn_refusal clock (Ok given) h =
 -- ---- its parts
 
 -- the device handled octets of an association, with some choice of where memory ran out
-pub record TakesIn (now place : ℕ) (octets : List ℕ) (before after : TurnState) : Type 0 where
+pub record HandlesOctets (now slot : ℕ) (octets : List ℕ) (before after : TurnState) : Type 0 where
   pub choice : Option ℕ
-  pub is : after ≡ after_octets now place choice octets before
+  pub is : after ≡ after_octets now slot choice octets before
 
 module _ {L : Type 0} (step : L → Call → L → Type 0) where
   -- A part of a turn was done: for some choice, the calls and the state after them are those of the
@@ -104,15 +104,15 @@ module _ {L : Type 0} (step : L → Call → L → Type 0) where
       (calls : C → TurnState → List Call)
       (old new : L) (before after : TurnState) : Type 0 where
     pub choice : C
-    pub talks : MakesCalls step old (calls choice before) new
+    pub makes : MakesCalls step old (calls choice before) new
     pub is : after ≡ f choice before
 
   -- a connection was accepted, or none: the association that was opened, and the address of its
   -- client
   pub record Opens (now : ℕ) (old new : L) (before after : TurnState)
       (opened : Option (ℕ × SocketAddrV4)) : Type 0 where
-    pub goes : Performs (with_accept now) (accept_calls now) old new before after
-    pub opened_is : opened ≡ opening_of goes.choice before.server
+    pub performs : Performs (with_accept now) (accept_calls now) old new before after
+    pub opened_is : opened ≡ opening_of performs.choice before.server
 
   -- the part was done for the first `count` associations, in order
   pub record PerformsEach {C : Type 0} (f : ℕ → C → TurnState → TurnState)
@@ -120,7 +120,7 @@ module _ {L : Type 0} (step : L → Call → L → Type 0) where
       : Type 0 where
     pub choices : List C
     pub many : length choices ≡ count
-    pub talks : MakesCalls step old (calls_of_each f calls 0 choices before) new
+    pub makes : MakesCalls step old (calls_of_each f calls 0 choices before) new
     pub is : after ≡ after_each f 0 choices before
 
   -- octets were offered to the link: `done` of them were taken, and a write failed or not
@@ -128,18 +128,18 @@ module _ {L : Type 0} (step : L → Call → L → Type 0) where
       : Type 0 where
     pub takes : List ℕ
     pub fails : Bool
-    pub talks : MakesCalls step old (offering_of a octets takes fails).calls new
-    pub left : (offering_of a octets takes fails).left ≡ drop done octets
-    pub failed_is : (offering_of a octets takes fails).failed ≡ failed
+    pub makes : MakesCalls step old (offer_outcome a octets takes fails).calls new
+    pub left : (offer_outcome a octets takes fails).left ≡ drop done octets
+    pub failed_is : (offer_outcome a octets takes fails).failed ≡ failed
 
   -- an offer under way: `done` octets were taken so far
-  pub record Offering (old new : L) (a : ℕ) (octets : List ℕ) (done : ℕ) : Type 0 where
+  pub record OffersSoFar (old new : L) (a : ℕ) (octets : List ℕ) (done : ℕ) : Type 0 where
     pub takes : List ℕ
     pub calls : List Call
-    pub talks : MakesCalls step old calls new
-    pub goes : (later : List ℕ) (fails : Bool)
-        → offering_of a octets (takes ++ later) fails
-        ≡ after_calls calls (offering_of a (drop done octets) later fails)
+    pub makes : MakesCalls step old calls new
+    pub performs : (later : List ℕ) (fails : Bool)
+        → offer_outcome a octets (takes ++ later) fails
+        ≡ after_calls calls (offer_outcome a (drop done octets) later fails)
 
   -- ---- a turn
 
@@ -151,7 +151,7 @@ module _ {L : Type 0} (step : L → Call → L → Type 0) where
     pub script : Script
     pub all_read : length script.readings ≡ associations
     pub all_offered : length script.offers ≡ associations
-    pub talks : MakesCalls step old (turn_calls now given script before) new
+    pub makes : MakesCalls step old (turn_calls now given script before) new
     pub server : after ≡ (after_turn now given script before).server
     pub opened : turn.opened ≡ opening_of script.accepted before
     pub over : turn.over ≡ expired_at now before.device

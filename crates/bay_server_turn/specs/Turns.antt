@@ -14,15 +14,15 @@ use Rattle.bay_device.specs.declared.event.Step.{Step}
 use Rattle.bay_device.specs.declared.event.Why.{Why}
 use Rattle.bay_device.specs.declared.event.Why.TheVariants.{Ended, Fault, Memory}
 use Rattle.bay_device.specs.declared.fault.StepFault.{StepFault}
-use Rattle.bay_trace.specs.Resolving.{borrowed}
-use Rattle.bay_server_turn.specs.Calls.{Call, Accepts, Reads, Closes, ReadOutcome, Octets, Silence, Over, Broken}
-use Rattle.bay_server_turn.specs.Offers.{Offer, Offered, offering_of}
+use Rattle.bay_trace.specs.Resolving.{borrow_of}
+use Rattle.bay_server_turn.specs.Calls.{Call, Accepts, Reads, Closes, ReadOutcome, Octets, Silence, StreamEnd, Failure}
+use Rattle.bay_server_turn.specs.Offers.{Offer, OfferOutcome, offer_outcome}
 use Rattle.bay_server_turn.specs.AssociationStates.{after_full, is_full, is_draining, is_close_reported, accepts_replies}
 use Rattle.bay_server_turn.specs.declared.process_input.ProcessEvent.{ProcessEvent}
 use Rattle.bay_server_turn.specs.declared.process_input.ProcessEvent.TheVariants as process
 use Rattle.bay_server_turn.specs.declared.process_input.ProcessReport.{ProcessReport}
 use Rattle.bay_server_turn.specs.declared.association_state.AssociationState.{AssociationState}
-use Rattle.bay_server_turn.specs.declared.association_state.AssociationState.TheVariants.{Steady, Leaving, Gone}
+use Rattle.bay_server_turn.specs.declared.association_state.AssociationState.TheVariants.{Steady, Draining, Closed}
 use Rattle.bay_server_turn.specs.declared.turn_report.CloseReason.{CloseReason}
 use Rattle.bay_server_turn.specs.declared.turn_report.CloseReason.TheVariants as closing
 
@@ -34,7 +34,7 @@ pub record ServerData : Type 0 where
 -- what a turn collects: the state of each association, and the report; for each association what
 -- was decided on the controls that it requested, if the device handled octets of it
 pub record TurnData : Type 0 where
-  pub standings : List AssociationState
+  pub states : List AssociationState
   pub refused : Option ℕ
   pub commands : List Command
   pub decisions : List (Option (List ControlDecision))
@@ -52,25 +52,25 @@ turn_state server noted = record { server = server; noted = noted }
 -- ---- its parts
 
 -- the queue of an association
-abbrev pub queue_at : ℕ → ServerData → List ℕ
-queue_at place h = slice_index_or h.queues place []
+abbrev pub server_queue : ℕ → ServerData → List ℕ
+server_queue slot h = slice_index_or h.queues slot []
 
-abbrev pub queue_of : ℕ → TurnState → List ℕ
-queue_of place s = queue_at place s.server
+abbrev pub turn_queue : ℕ → TurnState → List ℕ
+turn_queue slot s = server_queue slot s.server
 
 -- an association is open
-abbrev pub is_up_in : ℕ → ServerData → Bool
-is_up_in place h = is_some (connection_at (Some place) h.device)
+abbrev pub has_open : ℕ → ServerData → Bool
+has_open slot h = is_some (connection_at (Some slot) h.device)
 
-abbrev pub is_up : ℕ → TurnState → Bool
-is_up place s = is_up_in place s.server
+abbrev pub is_open_at : ℕ → TurnState → Bool
+is_open_at slot s = has_open slot s.server
 
 -- the state of an association within a turn
-abbrev pub state_in : ℕ → TurnData → AssociationState
-state_in place n = slice_index_or n.standings place Steady
+abbrev pub noted_state : ℕ → TurnData → AssociationState
+noted_state slot n = slice_index_or n.states slot Steady
 
 abbrev pub state_at : ℕ → TurnState → AssociationState
-state_at place s = state_in place s.noted
+state_at slot s = noted_state slot s.noted
 
 -- the state with another device
 abbrev pub with_device : State → TurnState → TurnState
@@ -79,14 +79,14 @@ with_device device s =
 
 -- a server with another queue of an association
 abbrev pub put_queue : ℕ → List ℕ → ServerData → ServerData
-put_queue place queue h = record { device = h.device; queues = slice_set h.queues place queue }
+put_queue slot queue h = record { device = h.device; queues = slice_set h.queues slot queue }
 
 abbrev pub with_queue : ℕ → List ℕ → TurnState → TurnState
-with_queue place queue s = record { server = put_queue place queue s.server; noted = s.noted }
+with_queue slot queue s = record { server = put_queue slot queue s.server; noted = s.noted }
 
 -- an association has this state from now on
 abbrev pub with_state : ℕ → AssociationState → TurnData → TurnData
-with_state place standing n = record n { standings = slice_set n.standings place standing }
+with_state slot state n = record n { states = slice_set n.states slot state }
 
 -- the state with other data collected
 abbrev pub with_noted : TurnData → TurnState → TurnState
@@ -96,30 +96,30 @@ with_noted noted s = record { server = s.server; noted = noted }
 
 -- reports that an association was closed, once
 abbrev pub with_closing : ℕ → CloseReason → TurnData → TurnData
-with_closing place closing n =
-    if is_close_reported (state_in place n) then n
-    else record n { closed = n.closed ++ (place + 1, closing) ∷ [] }
+with_closing slot closing n =
+    if is_close_reported (noted_state slot n) then n
+    else record n { closed = n.closed ++ (slot + 1, closing) ∷ [] }
 
 -- reports that it was closed because memory ran out, once
 abbrev pub memory_reported : ℕ → TurnData → TurnData
-memory_reported place n =
-    if is_close_reported (state_in place n)
+memory_reported slot n =
+    if is_close_reported (noted_state slot n)
     then n
-    else record n { memory = n.memory ++ (place + 1) ∷ [] }
+    else record n { memory = n.memory ++ (slot + 1) ∷ [] }
 
 -- reports that the device closed it
 abbrev pub close_reported : ℕ → Why → TurnData → TurnData
-close_reported place Ended n = with_closing place closing.Ended n
-close_reported place (Fault code) n = with_closing place (closing.Fault code) n
-close_reported place Memory n = memory_reported place n
+close_reported slot Ended n = with_closing slot closing.Ended n
+close_reported slot (Fault code) n = with_closing slot (closing.Fault code) n
+close_reported slot Memory n = memory_reported slot n
 
 -- an association was closed, and its queue will be offered once more
 abbrev pub start_closing : ℕ → Why → TurnData → TurnData
-start_closing place why n = with_state place Leaving (close_reported place why n)
+start_closing slot why n = with_state slot Draining (close_reported slot why n)
 
 -- closed, with an empty queue
 abbrev pub mark_closed : ℕ → CloseReason → TurnData → TurnData
-mark_closed place closing n = with_state place Gone (with_closing place closing n)
+mark_closed slot closing n = with_state slot Closed (with_closing slot closing n)
 
 -- ---- what is sent
 
@@ -130,15 +130,15 @@ has_room queue octets = nat_le (length queue + length octets) 262144
 -- A reply is appended to its queue as a whole. If it does not fit, the queue is left unchanged and
 -- the state is marked full.
 abbrev pub put_whole : ℕ → List ℕ → TurnState → TurnState
-put_whole place octets s =
-    if has_room (queue_of place s) octets then with_queue place (queue_of place s ++ octets) s
-    else with_noted (with_state place (after_full (state_at place s)) s.noted) s
+put_whole slot octets s =
+    if has_room (turn_queue slot s) octets then with_queue slot (turn_queue slot s ++ octets) s
+    else with_noted (with_state slot (after_full (state_at slot s)) s.noted) s
 
 -- an association that accepts replies gets this one
 abbrev pub put_at : Option ℕ → List ℕ → TurnState → TurnState
 put_at None octets s = s
-put_at (Some place) octets s =
-    if accepts_replies (state_at place s) (is_up place s) then put_whole place octets s else s
+put_at (Some slot) octets s =
+    if accepts_replies (state_at slot s) (is_open_at slot s) then put_whole slot octets s else s
 
 -- what the device sends is queued for its association
 abbrev pub put_sent : Sent → TurnState → TurnState
@@ -172,20 +172,20 @@ after_event now event s = quiet_after (outcome None now event s.server.device) s
 
 -- An association is closed at once, and the rest of its queue is lost.
 unfoldable pub close_at_once : ℕ → CloseReason → ℕ → TurnState → TurnState
-close_at_once now closing place s =
-    let t = after_event now (Close (place + 1)) s in
-    with_noted (mark_closed place closing t.noted) (with_queue place [] t)
+close_at_once now closing slot s =
+    let t = after_event now (Close (slot + 1)) s in
+    with_noted (mark_closed slot closing t.noted) (with_queue slot [] t)
 
 -- the lowest association to which a reply did not fit
 abbrev pub first_full : TurnData → Option ℕ
-first_full n = position is_full n.standings
+first_full n = position is_full n.states
 
 -- Each association to which a reply did not fit is closed. A closing can fill the queue of another,
 -- so the search is repeated, at most n times.
 abbrev pub after_closing_next_full : ℕ → Option ℕ → TurnState → (TurnState → TurnState) → TurnState
 after_closing_next_full now None s later = s
-after_closing_next_full now (Some place) s later =
-    later (close_at_once now closing.QueueFull place s)
+after_closing_next_full now (Some slot) s later =
+    later (close_at_once now closing.QueueFull slot s)
 
 -- at most n of them, the lowest first
 abbrev pub after_closing_some_full : ℕ → ℕ → TurnState → TurnState
@@ -196,8 +196,8 @@ after_closing_some_full now (suc count) s =
 -- the calls that close them
 abbrev pub calls_closing_next_full : ℕ → Option ℕ → TurnState → (TurnState → List Call) → List Call
 calls_closing_next_full now None s later = []
-calls_closing_next_full now (Some place) s later =
-    Closes (place + 1) ∷ later (close_at_once now closing.QueueFull place s)
+calls_closing_next_full now (Some slot) s later =
+    Closes (slot + 1) ∷ later (close_at_once now closing.QueueFull slot s)
 
 abbrev pub calls_closing_some_full : ℕ → ℕ → TurnState → List Call
 calls_closing_some_full now zero s = []
@@ -220,29 +220,29 @@ lowest_free_association h = position is_none h.device.connections
 
 -- the state after an association was opened
 abbrev pub after_opening : ℕ → ℕ → TurnState → TurnState
-after_opening now place s = after_event now (Open (place + 1)) s
+after_opening now slot s = after_event now (Open (slot + 1)) s
 
 -- a connection that was accepted opens the association
 abbrev pub on_accept : ℕ → Option ℕ → Option (Option SocketAddrV4) → TurnState → TurnState
 on_accept now None taken s = s
-on_accept now (Some place) None s = s
-on_accept now (Some place) (Some None) s = s
-on_accept now (Some place) (Some (Some from)) s = after_closing_full now (after_opening now place s)
+on_accept now (Some slot) None s = s
+on_accept now (Some slot) (Some None) s = s
+on_accept now (Some slot) (Some (Some from)) s = after_closing_full now (after_opening now slot s)
 
 -- the calls on the link to accept a connection; if no association is free, none is made
 abbrev pub accept_calls_at : ℕ → Option ℕ → Option (Option SocketAddrV4) → TurnState → List Call
 accept_calls_at now None taken s = []
-accept_calls_at now (Some place) None s = Accepts (place + 1) None ∷ []
-accept_calls_at now (Some place) (Some None) s = Accepts (place + 1) (Some None) ∷ []
-accept_calls_at now (Some place) (Some (Some from)) s =
-    Accepts (place + 1) (Some (Some from)) ∷ calls_closing_full now (after_opening now place s)
+accept_calls_at now (Some slot) None s = Accepts (slot + 1) None ∷ []
+accept_calls_at now (Some slot) (Some None) s = Accepts (slot + 1) (Some None) ∷ []
+accept_calls_at now (Some slot) (Some (Some from)) s =
+    Accepts (slot + 1) (Some (Some from)) ∷ calls_closing_full now (after_opening now slot s)
 
 -- the association that is opened, and the address of its client
 abbrev pub opening_at : Option ℕ → Option (Option SocketAddrV4) → Option (ℕ × SocketAddrV4)
 opening_at None taken = None
-opening_at (Some place) None = None
-opening_at (Some place) (Some None) = None
-opening_at (Some place) (Some (Some from)) = Some (place + 1, from)
+opening_at (Some slot) None = None
+opening_at (Some slot) (Some None) = None
+opening_at (Some slot) (Some (Some from)) = Some (slot + 1, from)
 
 -- the association that a turn opens, and the address of its client
 abbrev pub opening_of : Option (Option SocketAddrV4) → ServerData → Option (ℕ × SocketAddrV4)
@@ -266,72 +266,72 @@ pub record Reading : Type 0 where
 
 -- the device closed it, or not
 abbrev pub start_closing_if_closed : ℕ → Option (ℕ × Why) → TurnData → TurnData
-start_closing_if_closed place None n = n
-start_closing_if_closed place (Some closed) n = start_closing place closed.1 n
+start_closing_if_closed slot None n = n
+start_closing_if_closed slot (Some closed) n = start_closing slot closed.1 n
 
 abbrev pub after_device_close : ℕ → Option (ℕ × Why) → TurnState → TurnState
-after_device_close place closed s = with_noted (start_closing_if_closed place closed s.noted) s
+after_device_close slot closed s = with_noted (start_closing_if_closed slot closed s.noted) s
 
 -- switch commands that were issued in this turn
 abbrev pub with_commands : List Command → TurnState → TurnState
 with_commands commands s = with_noted (record s.noted { commands = s.noted.commands ++ commands }) s
 
 -- what was decided on controls that an association requested
-abbrev pub decides : ℕ → List ControlDecision → TurnData → TurnData
-decides place decisions n =
-    record n { decisions = slice_set n.decisions place (Some decisions) }
+abbrev pub with_decisions : ℕ → List ControlDecision → TurnData → TurnData
+with_decisions slot decisions n =
+    record n { decisions = slice_set n.decisions slot (Some decisions) }
 
 -- the device's answer to octets: whether it closed the association, what it sends, its commands,
 -- and its decisions
 abbrev pub put_answer : ℕ → Result Step StepFault → TurnState → TurnState
-put_answer place (Err fault) s = s
-put_answer place (Ok step) s =
+put_answer slot (Err fault) s = s
+put_answer slot (Ok step) s =
     let t : TurnState =
     with_commands step.commands
-    (put_all step.sent (put_ended step.ended (after_device_close place step.closed s))) in
-    with_noted (decides place step.decisions t.noted) t
+    (put_all step.sent (put_ended step.ended (after_device_close slot step.closed s))) in
+    with_noted (with_decisions slot step.decisions t.noted) t
 
 -- the state after the outcome of an association's octets
 abbrev pub answer_after : ℕ → Outcome → TurnState → TurnState
-answer_after place o s = put_answer place o.answer (with_device o.after s)
+answer_after slot o s = put_answer slot o.answer (with_device o.after s)
 
 -- octets of an association are handled
 abbrev pub after_octets : ℕ → ℕ → Option ℕ → List ℕ → TurnState → TurnState
-after_octets now place choice octets s =
-    answer_after place (outcome choice now (Recv (place + 1) (borrowed octets)) s.server.device) s
+after_octets now slot choice octets s =
+    answer_after slot (outcome choice now (Recv (slot + 1) (borrow_of octets)) s.server.device) s
 
 -- the client sends no more
 abbrev pub after_end : ℕ → ℕ → TurnState → TurnState
-after_end now place s =
-    after_event now (Close (place + 1)) (with_noted (start_closing place Ended s.noted) s)
+after_end now slot s =
+    after_event now (Close (slot + 1)) (with_noted (start_closing slot Ended s.noted) s)
 
 -- after a read with this result
 abbrev pub on_read : ℕ → ℕ → Option ℕ → ReadOutcome → TurnState → TurnState
-on_read now place choice (Octets octets) s =
-    after_closing_full now (after_octets now place choice octets s)
-on_read now place choice Silence s = s
-on_read now place choice Over s = after_closing_full now (after_end now place s)
-on_read now place choice Broken s =
-    after_closing_full now (close_at_once now closing.LinkFailed place s)
+on_read now slot choice (Octets octets) s =
+    after_closing_full now (after_octets now slot choice octets s)
+on_read now slot choice Silence s = s
+on_read now slot choice StreamEnd s = after_closing_full now (after_end now slot s)
+on_read now slot choice Failure s =
+    after_closing_full now (close_at_once now closing.LinkFailed slot s)
 
 -- the calls on the link after the read
 abbrev pub calls_on_read : ℕ → ℕ → Option ℕ → ReadOutcome → TurnState → List Call
-calls_on_read now place choice (Octets octets) s =
-    calls_closing_full now (after_octets now place choice octets s)
-calls_on_read now place choice Silence s = []
-calls_on_read now place choice Over s = calls_closing_full now (after_end now place s)
-calls_on_read now place choice Broken s =
-    Closes (place + 1) ∷ calls_closing_full now (close_at_once now closing.LinkFailed place s)
+calls_on_read now slot choice (Octets octets) s =
+    calls_closing_full now (after_octets now slot choice octets s)
+calls_on_read now slot choice Silence s = []
+calls_on_read now slot choice StreamEnd s = calls_closing_full now (after_end now slot s)
+calls_on_read now slot choice Failure s =
+    Closes (slot + 1) ∷ calls_closing_full now (close_at_once now closing.LinkFailed slot s)
 
 -- An open association is read once, up to 4,096 octets.
 abbrev pub read_one : ℕ → ℕ → Reading → TurnState → TurnState
-read_one now place r s = if is_up place s then on_read now place r.choice r.heard s else s
+read_one now slot r s = if is_open_at slot s then on_read now slot r.choice r.heard s else s
 
 -- the calls on the link to read an association
 abbrev pub read_calls : ℕ → ℕ → Reading → TurnState → List Call
-read_calls now place r s =
-    if is_up place s
-    then Reads (place + 1) 4096 r.heard ∷ calls_on_read now place r.choice r.heard s
+read_calls now slot r s =
+    if is_open_at slot s
+    then Reads (slot + 1) 4096 r.heard ∷ calls_on_read now slot r.choice r.heard s
     else []
 
 -- ---- the process and the scan
@@ -359,18 +359,18 @@ after_process_event now event s =
     after_reported (outcome None now (event_of event) s.server.device) s
 
 -- the event that a turn applies before it reads: the loss of the process, if it is lost
-abbrev pub first_of : ProcessReport → Option ProcessEvent
-first_of given = if given.is_lost then Some process.Lost else None
+abbrev pub loss_event : ProcessReport → Option ProcessEvent
+loss_event given = if given.is_lost then Some process.Lost else None
 
 -- the event of the process is applied, if there is one
-abbrev pub with_line : ℕ → Option ProcessEvent → TurnState → TurnState
-with_line now None s = s
-with_line now (Some event) s = after_closing_full now (after_process_event now event s)
+abbrev pub with_event : ℕ → Option ProcessEvent → TurnState → TurnState
+with_event now None s = s
+with_event now (Some event) s = after_closing_full now (after_process_event now event s)
 
 -- the calls on the link after the event of the process, if there is one
-abbrev pub line_calls : ℕ → Option ProcessEvent → TurnState → List Call
-line_calls now None s = []
-line_calls now (Some event) s = calls_closing_full now (after_process_event now event s)
+abbrev pub event_calls : ℕ → Option ProcessEvent → TurnState → List Call
+event_calls now None s = []
+event_calls now (Some event) s = calls_closing_full now (after_process_event now event s)
 
 -- the program runs once
 abbrev pub after_turn_scan : ℕ → TurnState → TurnState
@@ -383,57 +383,57 @@ scan_calls now s = calls_closing_full now (after_event now Scan s)
 -- ---- offering
 
 -- the outcome of offering the queue of an association
-abbrev pub offer_of : ℕ → Offer → TurnState → Offered
-offer_of place o s = offering_of (place + 1) (queue_of place s) o.takes o.fails
+abbrev pub queue_offer : ℕ → Offer → TurnState → OfferOutcome
+queue_offer slot o s = offer_outcome (slot + 1) (turn_queue slot s) o.takes o.fails
 
 -- after an offer: the association is closed if a write failed; otherwise the queue holds what the
 -- link did not take
-abbrev pub after_offer : ℕ → ℕ → Offered → TurnState → TurnState
-after_offer now place o s =
-    if o.failed then after_closing_full now (close_at_once now closing.LinkFailed place s)
-    else with_queue place o.left s
+abbrev pub after_offer : ℕ → ℕ → OfferOutcome → TurnState → TurnState
+after_offer now slot o s =
+    if o.failed then after_closing_full now (close_at_once now closing.LinkFailed slot s)
+    else with_queue slot o.left s
 
 -- it is closed, and its queue empty
 abbrev pub after_closing : ℕ → TurnState → TurnState
-after_closing place s =
-    record { server = put_queue place [] s.server; noted = with_state place Gone s.noted }
+after_closing slot s =
+    record { server = put_queue slot [] s.server; noted = with_state slot Closed s.noted }
 
 -- The queue of an association is offered. If the association was closed, what the link does not
 -- take is lost.
 abbrev pub offer_one : ℕ → ℕ → Offer → TurnState → TurnState
-offer_one now place o s =
-    if is_draining (state_at place s) then after_closing place s
-    else (if is_up place s then after_offer now place (offer_of place o s) s else s)
+offer_one now slot o s =
+    if is_draining (state_at slot s) then after_closing slot s
+    else (if is_open_at slot s then after_offer now slot (queue_offer slot o s) s else s)
 
 -- the calls after an offer: if a write failed, the association is closed
 abbrev pub offer_end : ℕ → ℕ → Bool → TurnState → List Call
-offer_end now place failed s =
+offer_end now slot failed s =
     if failed
-    then Closes (place + 1)
-    ∷ calls_closing_full now (close_at_once now closing.LinkFailed place s)
+    then Closes (slot + 1)
+    ∷ calls_closing_full now (close_at_once now closing.LinkFailed slot s)
     else []
 
 -- the calls on the link for an offer
 abbrev pub offer_calls : ℕ → ℕ → Offer → TurnState → List Call
-offer_calls now place o s =
-    if is_draining (state_at place s) then (offer_of place o s).calls ++ Closes (place + 1) ∷ []
-    else (if is_up place s then (offer_of place o s).calls
-    ++ offer_end now place (offer_of place o s).failed s else [])
+offer_calls now slot o s =
+    if is_draining (state_at slot s) then (queue_offer slot o s).calls ++ Closes (slot + 1) ∷ []
+    else (if is_open_at slot s then (queue_offer slot o s).calls
+    ++ offer_end now slot (queue_offer slot o s).failed s else [])
 
 -- ---- a turn
 
 -- for one association after another
 abbrev pub after_each : {C : Type 0} → (ℕ → C → TurnState → TurnState) → ℕ → List C → TurnState
     → TurnState
-after_each f place [] s = s
-after_each f place (c ∷ cs) s = after_each f (place + 1) cs (f place c s)
+after_each f slot [] s = s
+after_each f slot (c ∷ cs) s = after_each f (slot + 1) cs (f slot c s)
 
 -- the calls for one association after another
 abbrev pub calls_of_each : {C : Type 0} → (ℕ → C → TurnState → TurnState)
     → (ℕ → C → TurnState → List Call) → ℕ → List C → TurnState → List Call
-calls_of_each f calls place [] s = []
-calls_of_each f calls place (c ∷ cs) s =
-    calls place c s ++ calls_of_each f calls (place + 1) cs (f place c s)
+calls_of_each f calls slot [] s = []
+calls_of_each f calls slot (c ∷ cs) s =
+    calls slot c s ++ calls_of_each f calls (slot + 1) cs (f slot c s)
 
 -- all that a turn does not decide itself: whether a connection waited, what each association
 -- brought, and what the link took of each queue
@@ -450,7 +450,7 @@ moment_at clock h = max clock h.device.moment
 abbrev pub nothing_noted : TurnData
 nothing_noted =
     record {
-      standings = replicate associations Steady;
+      states = replicate associations Steady;
       refused = None;
       commands = [];
       decisions = replicate associations None;
@@ -466,15 +466,15 @@ turn_begin h = turn_state h nothing_noted
 abbrev pub after_accept : ℕ → Script → ServerData → TurnState
 after_accept now script h = with_accept now script.accepted (turn_begin h)
 
-abbrev pub after_first : ℕ → ProcessReport → Script → ServerData → TurnState
-after_first now given script h = with_line now (first_of given) (after_accept now script h)
+abbrev pub after_loss : ℕ → ProcessReport → Script → ServerData → TurnState
+after_loss now given script h = with_event now (loss_event given) (after_accept now script h)
 
 abbrev pub after_reads : ℕ → ProcessReport → Script → ServerData → TurnState
 after_reads now given script h =
-    after_each (read_one now) 0 script.readings (after_first now given script h)
+    after_each (read_one now) 0 script.readings (after_loss now given script h)
 
 abbrev pub after_line : ℕ → ProcessReport → Script → ServerData → TurnState
-after_line now given script h = with_line now given.event (after_reads now given script h)
+after_line now given script h = with_event now given.event (after_reads now given script h)
 
 abbrev pub after_scan : ℕ → ProcessReport → Script → ServerData → TurnState
 after_scan now given script h = after_turn_scan now (after_line now given script h)
@@ -490,10 +490,10 @@ after_turn now given script h =
 abbrev pub turn_calls : ℕ → ProcessReport → Script → ServerData → List Call
 turn_calls now given script h =
     accept_calls now script.accepted (turn_begin h)
-    ++ line_calls now (first_of given) (after_accept now script h)
+    ++ event_calls now (loss_event given) (after_accept now script h)
     ++ calls_of_each (read_one now) (read_calls now) 0 script.readings
-    (after_first now given script h)
-    ++ line_calls now given.event (after_reads now given script h)
+    (after_loss now given script h)
+    ++ event_calls now given.event (after_reads now given script h)
     ++ scan_calls now (after_line now given script h)
     ++ calls_of_each (offer_one now) (offer_calls now) 0 script.offers
     (after_scan now given script h)

@@ -11,11 +11,11 @@ pub enum AssociationState {
     /// It is open and a reply did not fit its queue, so the turn will close it.
     Full,
     /// It was closed, and its queue will be offered once more.
-    Leaving,
+    Draining,
     /// It was closed, its queue will be offered once more, and a reply did not fit this queue.
-    LeavingFull,
+    DrainingFull,
     /// It was closed, with an empty queue.
-    Gone,
+    Closed,
 }
 
 impl AssociationState {
@@ -26,9 +26,9 @@ impl AssociationState {
         match self {
             AssociationState::Full => true,
             AssociationState::Steady
-            | AssociationState::Leaving
-            | AssociationState::LeavingFull
-            | AssociationState::Gone => false,
+            | AssociationState::Draining
+            | AssociationState::DrainingFull
+            | AssociationState::Closed => false,
         }
     }
 
@@ -37,8 +37,8 @@ impl AssociationState {
         ensures { result ≡ spec.is_draining self }
     {
         match self {
-            AssociationState::Leaving | AssociationState::LeavingFull => true,
-            AssociationState::Steady | AssociationState::Full | AssociationState::Gone => false,
+            AssociationState::Draining | AssociationState::DrainingFull => true,
+            AssociationState::Steady | AssociationState::Full | AssociationState::Closed => false,
         }
     }
 
@@ -47,7 +47,7 @@ impl AssociationState {
         ensures { result ≡ spec.is_close_reported self }
     {
         match self {
-            AssociationState::Leaving | AssociationState::LeavingFull | AssociationState::Gone =>
+            AssociationState::Draining | AssociationState::DrainingFull | AssociationState::Closed =>
                 true,
             AssociationState::Steady | AssociationState::Full => false,
         }
@@ -59,8 +59,8 @@ impl AssociationState {
     {
         match self {
             AssociationState::Steady => is_open,
-            AssociationState::Leaving => true,
-            AssociationState::Full | AssociationState::LeavingFull | AssociationState::Gone =>
+            AssociationState::Draining => true,
+            AssociationState::Full | AssociationState::DrainingFull | AssociationState::Closed =>
                 false,
         }
     }
@@ -71,9 +71,9 @@ impl AssociationState {
     {
         match self {
             AssociationState::Steady | AssociationState::Full => AssociationState::Full,
-            AssociationState::Leaving | AssociationState::LeavingFull =>
-                AssociationState::LeavingFull,
-            AssociationState::Gone => AssociationState::Gone,
+            AssociationState::Draining | AssociationState::DrainingFull =>
+                AssociationState::DrainingFull,
+            AssociationState::Closed => AssociationState::Closed,
         }
     }
 }

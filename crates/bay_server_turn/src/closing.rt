@@ -1,6 +1,6 @@
 // Closes associations at once.
 ghost use Rattle.std.specs.Prelude.{◌≡◌, ◌+◌, ◌<◌};
-ghost use Rattle.bay_server_turn.specs.Calls.{Called, Closes, MakesCalls};
+ghost use Rattle.bay_server_turn.specs.Calls.{CountedCall, Closes, MakesCalls};
 ghost use Rattle.bay_server_turn.specs.Turns.{after_closing_full, after_closing_some_full, calls_closing_full, calls_closing_some_full, turn_state};
 ghost use Rattle.bay_server_turn.specs.Turns as spec;
 ghost use Rattle.bay_device.specs.Outcomes.{associations};
@@ -19,32 +19,32 @@ pub fn close_at_once<L: Link>(
     notes: &mut TurnBuilder,
     link: &mut L,
     now: u64,
-    place: usize,
+    slot: usize,
     closing: CloseReason,
 )
-    requires { place < associations }
-    ensures call { Called L.does L.failures link.old (Closes (place + 1)) link.new }
+    requires { slot < associations }
+    ensures call { CountedCall L.does L.failures link.old (Closes (slot + 1)) link.new }
     ensures after { turn_state server.new notes.new
-        ≡ spec.close_at_once now closing place (turn_state server.old notes.old) }
+        ≡ spec.close_at_once now closing slot (turn_state server.old notes.old) }
     ensures commands { notes.new.commands ≡ notes.old.commands }
 {
-    let association = place as u16 + 1;
+    let association = slot as u16 + 1;
     step_without_replies(server, notes, now, Event::Close { association });
     link.close(association);
-    server.clear(place);
-    notes.mark_closed(place, closing);
+    server.clear(slot);
+    notes.mark_closed(slot, closing);
 }
 
 // Closes associations to which a reply did not fit, the lowest first, `count` at most. A closing
 // can fill the queue of another association, so each call looks again.
-fn settle_some<L: Link>(
+fn close_some_overflowed<L: Link>(
     server: &mut Server,
     notes: &mut TurnBuilder,
     link: &mut L,
     now: u64,
     count: usize,
 )
-    ensures talks { MakesCalls (Called L.does L.failures) link.old
+    ensures makes { MakesCalls (CountedCall L.does L.failures) link.old
         (calls_closing_some_full now count (turn_state server.old notes.old)) link.new }
     ensures after { turn_state server.new notes.new
         ≡ after_closing_some_full now count (turn_state server.old notes.old) }
@@ -53,9 +53,9 @@ fn settle_some<L: Link>(
     if count == 0 {
         return;
     }
-    if let Some(place) = notes.first_full() {
-        close_at_once(server, notes, link, now, place, CloseReason::QueueFull);
-        settle_some(server, notes, link, now, count - 1);
+    if let Some(slot) = notes.first_full() {
+        close_at_once(server, notes, link, now, slot, CloseReason::QueueFull);
+        close_some_overflowed(server, notes, link, now, count - 1);
     }
 }
 
@@ -66,11 +66,11 @@ pub fn close_overflowed<L: Link>(
     link: &mut L,
     now: u64,
 )
-    ensures talks { MakesCalls (Called L.does L.failures) link.old
+    ensures makes { MakesCalls (CountedCall L.does L.failures) link.old
         (calls_closing_full now (turn_state server.old notes.old)) link.new }
     ensures after { turn_state server.new notes.new
         ≡ after_closing_full now (turn_state server.old notes.old) }
     ensures commands { notes.new.commands ≡ notes.old.commands }
 {
-    settle_some(server, notes, link, now, ASSOCIATIONS);
+    close_some_overflowed(server, notes, link, now, ASSOCIATIONS);
 }

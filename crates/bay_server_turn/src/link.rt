@@ -1,7 +1,7 @@
 // The connections of the clients.
 ghost use Rattle.std.specs.Prelude.{◌≡◌, ℕ, ◌<◌, ◌≤◌, length, IfOk};
 ghost use Rattle.std.specs.Result.{result_ok};
-ghost use Rattle.bay_server_turn.specs.Calls.{Call, Accepts, Reads, Writes, Closes, Called, read_outcome_of, FitsIn};
+ghost use Rattle.bay_server_turn.specs.Calls.{Call, Accepts, Reads, Writes, Closes, CountedCall, read_outcome_of, FitsIn};
 ghost use Rattle.bay_device.specs.Outcomes.{associations};
 
 use std::net::SocketAddrV4;
@@ -40,7 +40,7 @@ pub trait Link {
     fn accept(&mut self, association: u16) -> Result<Option<SocketAddrV4>, LinkFault>
         requires low { 0 < association }
         requires high { association ≤ associations }
-        ensures call { Called does failures self.old (Accepts association (result_ok result))
+        ensures call { CountedCall does failures self.old (Accepts association (result_ok result))
             self.new };
 
     /// Reads octets from a client, at most as many as fit in `room`. An error counts as one
@@ -48,7 +48,7 @@ pub trait Link {
     fn read(&mut self, association: u16, room: &mut [u8]) -> Result<ReadResult, LinkFault>
         requires low { 0 < association }
         requires high { association ≤ associations }
-        ensures call { Called does failures self.old
+        ensures call { CountedCall does failures self.old
             (Reads association (length room.old) (read_outcome_of result room.new)) self.new }
         ensures within { FitsIn room.new result };
 
@@ -57,7 +57,7 @@ pub trait Link {
     fn write(&mut self, association: u16, octets: &[u8]) -> Result<usize, LinkFault>
         requires low { 0 < association }
         requires high { association ≤ associations }
-        ensures call { Called does failures self.old
+        ensures call { CountedCall does failures self.old
             (Writes association octets.now (result_ok result)) self.new }
         ensures within { IfOk result (λ n. n ≤ length octets.now) };
 
@@ -65,5 +65,5 @@ pub trait Link {
     fn close(&mut self, association: u16)
         requires low { 0 < association }
         requires high { association ≤ associations }
-        ensures { Called does failures self.old (Closes association) self.new };
+        ensures { CountedCall does failures self.old (Closes association) self.new };
 }

@@ -1,6 +1,6 @@
 // Offers the queues to the link.
 ghost use Rattle.std.specs.Prelude.{◌≡◌, ◌+◌, ◌<◌, ◌≤◌, length};
-ghost use Rattle.bay_server_turn.specs.Calls.{Called};
+ghost use Rattle.bay_server_turn.specs.Calls.{CountedCall};
 ghost use Rattle.bay_server_turn.specs.Served.{Performs, PerformsEach, Offers};
 ghost use Rattle.bay_server_turn.specs.Turns.{offer_calls, turn_state};
 ghost use Rattle.bay_server_turn.specs.Turns as spec;
@@ -25,7 +25,7 @@ fn offer<L: Link>(octets: &[u8], link: &mut L, association: u16) -> OfferResult
     requires low { 0 < association }
     requires high { association ≤ associations }
     ensures within { result.done ≤ length octets.now }
-    ensures offers { Offers (Called L.does L.failures) link.old link.new association octets.now
+    ensures offers { Offers (CountedCall L.does L.failures) link.old link.new association octets.now
         result.done result.failed }
 {
     let mut done = 0;
@@ -54,39 +54,39 @@ fn offer_one<L: Link>(
     notes: &mut TurnBuilder,
     link: &mut L,
     now: u64,
-    place: usize,
+    slot: usize,
 )
-    requires { place < associations }
-    ensures { Performs (Called L.does L.failures) (spec.offer_one now place) (offer_calls now place)
+    requires { slot < associations }
+    ensures { Performs (CountedCall L.does L.failures) (spec.offer_one now slot) (offer_calls now slot)
         link.old link.new (turn_state server.old notes.old) (turn_state server.new notes.new) }
 {
-    let association = place as u16 + 1;
-    if notes.association_state(place).is_draining() {
-        offer(server.queue(place), link, association);
+    let association = slot as u16 + 1;
+    if notes.association_state(slot).is_draining() {
+        offer(server.queue(slot), link, association);
         link.close(association);
-        server.clear(place);
-        notes.finish_closing(place);
+        server.clear(slot);
+        notes.finish_closing(slot);
         return;
     }
-    if !server.is_open(place) {
+    if !server.is_open(slot) {
         return;
     }
-    let offered = offer(server.queue(place), link, association);
+    let offered = offer(server.queue(slot), link, association);
     if offered.failed {
-        close_at_once(server, notes, link, now, place, CloseReason::LinkFailed);
+        close_at_once(server, notes, link, now, slot, CloseReason::LinkFailed);
         close_overflowed(server, notes, link, now);
     } else {
-        server.remove_first(place, offered.done);
+        server.remove_first(slot, offered.done);
     }
 }
 
 /// Offers all queues, in the order of the associations' numbers.
 pub fn offer_each<L: Link>(server: &mut Server, notes: &mut TurnBuilder, link: &mut L, now: u64)
-    ensures { PerformsEach (Called L.does L.failures) (spec.offer_one now) (offer_calls now)
+    ensures { PerformsEach (CountedCall L.does L.failures) (spec.offer_one now) (offer_calls now)
         link.old
         link.new associations (turn_state server.old notes.old) (turn_state server.new notes.new) }
 {
-    for place in 0..ASSOCIATIONS {
-        offer_one(server, notes, link, now, place);
+    for slot in 0..ASSOCIATIONS {
+        offer_one(server, notes, link, now, slot);
     }
 }

@@ -1,7 +1,7 @@
 // Events of the process, and the lines that spell them.
 ghost use Rattle.std.specs.Prelude.{◌≡◌};
 ghost use Rattle.bay_device.specs.Steps.{IsWithoutOctets};
-ghost use Rattle.bay_server_turn.specs.Turns.{event_of, first_of};
+ghost use Rattle.bay_server_turn.specs.Turns.{event_of, loss_event};
 ghost use Rattle.bay_server_turn.specs.Served.{turn_input_of_line, report_of_event, event_in_line};
 ghost use Rattle.bay_server_turn.specs.Served as spec;
 ghost use Rattle.bay_trace.specs.TraceView.{named_view};
@@ -65,8 +65,8 @@ impl ProcessReport {
 
     /// Returns the event that the turn applies before it reads clients: the loss of the process, or
     /// `None`.
-    pub(crate) fn first(self) -> Option<ProcessEvent>
-        ensures { result ≡ first_of self }
+    pub(crate) fn loss_event(self) -> Option<ProcessEvent>
+        ensures { result ≡ loss_event self }
     {
         if self.is_lost {
             Some(ProcessEvent::Lost)

@@ -1,7 +1,7 @@
 // Accepts connections, and reads clients.
 ghost use Rattle.std.specs.Prelude.{◌≡◌, ◌+◌, ◌<◌, ◌≤◌, length};
-ghost use Rattle.bay_server_turn.specs.Calls.{Called};
-ghost use Rattle.bay_server_turn.specs.Served.{Performs, PerformsEach, Opens, TakesIn};
+ghost use Rattle.bay_server_turn.specs.Calls.{CountedCall};
+ghost use Rattle.bay_server_turn.specs.Served.{Performs, PerformsEach, Opens, HandlesOctets};
 ghost use Rattle.bay_server_turn.specs.Turns.{read_calls, turn_state};
 ghost use Rattle.bay_server_turn.specs.Turns as spec;
 ghost use Rattle.bay_device.specs.Outcomes.{associations};
@@ -26,14 +26,14 @@ pub fn accept_one<L: Link>(
     link: &mut L,
     now: u64,
 ) -> Option<(u16, SocketAddrV4)>
-    ensures opens { Opens (Called L.does L.failures) now link.old link.new
+    ensures opens { Opens (CountedCall L.does L.failures) now link.old link.new
         (turn_state server.old notes.old) (turn_state server.new notes.new) result }
     ensures commands { notes.new.commands ≡ notes.old.commands }
 {
-    let Some(place) = server.lowest_free_association() else {
+    let Some(slot) = server.lowest_free_association() else {
         return None;
     };
-    let association = place as u16 + 1;
+    let association = slot as u16 + 1;
     match link.accept(association) {
         Ok(Some(from)) => {
             step_without_replies(server, notes, now, Event::Open { association });
@@ -47,14 +47,14 @@ pub fn accept_one<L: Link>(
 
 // Passes a client's octets to the device, queues what the device sends, and notes its commands, its
 // decisions and whether it closed the association.
-fn take_in(server: &mut Server, notes: &mut TurnBuilder, now: u64, place: usize, octets: &[u8])
-    requires place { place < associations }
+fn handle_octets(server: &mut Server, notes: &mut TurnBuilder, now: u64, slot: usize, octets: &[u8])
+    requires slot { slot < associations }
     requires room { length notes.old.commands < associations }
-    ensures takes { TakesIn now place octets.now (turn_state server.old notes.old)
+    ensures takes { HandlesOctets now slot octets.now (turn_state server.old notes.old)
         (turn_state server.new notes.new) }
     ensures grows { length notes.new.commands ≤ length notes.old.commands + 1 }
 {
-    let association = place as u16 + 1;
+    let association = slot as u16 + 1;
     let Ok(step) = server.step(
         now,
         Event::Recv {
@@ -65,11 +65,11 @@ fn take_in(server: &mut Server, notes: &mut TurnBuilder, now: u64, place: usize,
     ) else {
         return;
     };
-    notes.start_closing_if_closed(place, step.closed);
+    notes.start_closing_if_closed(slot, step.closed);
     put_ended(server, notes, &step.ended);
     put_all(server, notes, step.sent.as_slice());
     report_commands(server, notes, step.commands.as_slice());
-    notes.report_decisions(place, step.decisions);
+    notes.report_decisions(slot, step.decisions);
 }
 
 // Reads a client once, if its association is open.
@@ -78,33 +78,33 @@ fn read_one<L: Link>(
     notes: &mut TurnBuilder,
     link: &mut L,
     now: u64,
-    place: usize,
+    slot: usize,
 )
-    requires place { place < associations }
+    requires slot { slot < associations }
     requires room { length notes.old.commands < associations }
-    ensures goes { Performs (Called L.does L.failures) (spec.read_one now place)
-        (read_calls now place)
+    ensures performs { Performs (CountedCall L.does L.failures) (spec.read_one now slot)
+        (read_calls now slot)
         link.old link.new (turn_state server.old notes.old) (turn_state server.new notes.new) }
     ensures grows { length notes.new.commands ≤ length notes.old.commands + 1 }
 {
-    if !server.is_open(place) {
+    if !server.is_open(slot) {
         return;
     }
-    let association = place as u16 + 1;
+    let association = slot as u16 + 1;
     let mut room = [0; PIECE];
     match link.read(association, &mut room) {
         Ok(ReadResult::Bytes(count)) => {
-            take_in(server, notes, now, place, &room[..count]);
+            handle_octets(server, notes, now, slot, &room[..count]);
             close_overflowed(server, notes, link, now);
         }
         Ok(ReadResult::Nothing) => {}
         Ok(ReadResult::End) => {
-            notes.start_closing(place, Why::Ended);
+            notes.start_closing(slot, Why::Ended);
             step_without_replies(server, notes, now, Event::Close { association });
             close_overflowed(server, notes, link, now);
         }
         Err(_) => {
-            close_at_once(server, notes, link, now, place, CloseReason::LinkFailed);
+            close_at_once(server, notes, link, now, slot, CloseReason::LinkFailed);
             close_overflowed(server, notes, link, now);
         }
     }
@@ -113,10 +113,10 @@ fn read_one<L: Link>(
 /// Reads all clients, in the order of their numbers.
 pub fn read_clients<L: Link>(server: &mut Server, notes: &mut TurnBuilder, link: &mut L, now: u64)
     requires { length notes.old.commands ≤ 0 }
-    ensures { PerformsEach (Called L.does L.failures) (spec.read_one now) (read_calls now) link.old
+    ensures { PerformsEach (CountedCall L.does L.failures) (spec.read_one now) (read_calls now) link.old
         link.new associations (turn_state server.old notes.old) (turn_state server.new notes.new) }
 {
-    for place in 0..ASSOCIATIONS {
-        read_one(server, notes, link, now, place);
+    for slot in 0..ASSOCIATIONS {
+        read_one(server, notes, link, now, slot);
     }
 }

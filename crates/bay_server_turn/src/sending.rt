@@ -11,14 +11,14 @@ use bay_device::event::{Event, Sent, association_slot};
 use bay_mms_services::answer::Command;
 
 // Appends a reply to the queue of an association as a whole, or notes that it did not fit.
-fn put_whole(server: &mut Server, notes: &mut TurnBuilder, place: usize, octets: &[u8])
-    requires { place < associations }
+fn put_whole(server: &mut Server, notes: &mut TurnBuilder, slot: usize, octets: &[u8])
+    requires { slot < associations }
     ensures after { turn_state server.new notes.new
-        ≡ spec.put_whole place octets.now (turn_state server.old notes.old) }
+        ≡ spec.put_whole slot octets.now (turn_state server.old notes.old) }
     ensures commands { notes.new.commands ≡ notes.old.commands }
 {
-    if !server.put(place, octets) {
-        notes.mark_full(place);
+    if !server.put(slot, octets) {
+        notes.mark_full(slot);
     }
 }
 
@@ -28,14 +28,14 @@ pub fn put_sent(server: &mut Server, notes: &mut TurnBuilder, sent: &Sent)
         ≡ spec.put_sent sent.now (turn_state server.old notes.old) }
     ensures commands { notes.new.commands ≡ notes.old.commands }
 {
-    let Some(place) = association_slot(sent.association) else {
+    let Some(slot) = association_slot(sent.association) else {
         return;
     };
     if notes
-        .association_state(place)
-        .accepts_replies(server.is_open(place))
+        .association_state(slot)
+        .accepts_replies(server.is_open(slot))
     {
-        put_whole(server, notes, place, sent.octets.as_slice());
+        put_whole(server, notes, slot, sent.octets.as_slice());
     }
 }
 

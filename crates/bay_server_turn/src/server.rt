@@ -3,7 +3,7 @@ ghost use Rattle.std.specs.Prelude.{◌≡◌, ℕ, ◌+◌, ◌<◌, ◌≤◌,
 ghost use Rattle.bay_device.specs.Commands.{IsSingle};
 ghost use Rattle.bay_device.specs.Outcomes.{associations, outcome};
 ghost use Rattle.bay_device.specs.Steps.{IsOutcome, IsWithoutOctets, Steps};
-ghost use Rattle.bay_server_turn.specs.Turns.{has_room, is_up_in, put_queue, queue_at};
+ghost use Rattle.bay_server_turn.specs.Turns.{has_room, has_open, put_queue, server_queue};
 ghost use Rattle.bay_server_turn.specs.Turns as spec;
 
 use crate::record::{Record, RecordEnd};
@@ -100,17 +100,17 @@ impl Server {
     }
 
     /// Returns whether the association at an index is open.
-    pub(crate) fn is_open(&self, place: usize) -> bool
-        requires { place < associations }
-        ensures { result ≡ is_up_in place self.now }
+    pub(crate) fn is_open(&self, slot: usize) -> bool
+        requires { slot < associations }
+        ensures { result ≡ has_open slot self.now }
     {
-        self.parts.device.is_open(place as u16 + 1)
+        self.parts.device.is_open(slot as u16 + 1)
     }
 
     /// Returns the index of the lowest free association; `None` if none is free.
     pub(crate) fn lowest_free_association(&self) -> Option<usize>
         ensures lowest { result ≡ spec.lowest_free_association self.now }
-        ensures within { IfSome result (λ place. place < associations) }
+        ensures within { IfSome result (λ slot. slot < associations) }
     {
         let association = self.parts.device.free_association()?;
         Some(usize::from(association - 1))
@@ -153,39 +153,39 @@ impl Server {
     }
 
     /// Returns the queue of the association at an index.
-    pub(crate) fn queue(&self, place: usize) -> &[u8]
-        requires { place < associations }
-        ensures { result.now ≡ queue_at place self.now }
+    pub(crate) fn queue(&self, slot: usize) -> &[u8]
+        requires { slot < associations }
+        ensures { result.now ≡ server_queue slot self.now }
     {
-        self.parts.queues[place].as_slice()
+        self.parts.queues[slot].as_slice()
     }
 
     /// Appends octets to the queue of the association at an index, if there is room for all of
     /// them. Returns false, with the queue unchanged, if there is not.
-    pub(crate) fn put(&mut self, place: usize, octets: &[u8]) -> bool
-        requires { place < associations }
-        ensures fits { result ≡ has_room (queue_at place self.old) octets.now }
+    pub(crate) fn put(&mut self, slot: usize, octets: &[u8]) -> bool
+        requires { slot < associations }
+        ensures fits { result ≡ has_room (server_queue slot self.old) octets.now }
         ensures after { self.new
-            ≡ (if result then put_queue place (queue_at place self.old ++ octets.now) self.old
+            ≡ (if result then put_queue slot (server_queue slot self.old ++ octets.now) self.old
             else self.old) }
     {
-        self.parts.queues[place].put(octets)
+        self.parts.queues[slot].put(octets)
     }
 
     /// Removes the first `count` octets of the queue of the association at an index.
-    pub(crate) fn remove_first(&mut self, place: usize, count: usize)
-        requires place { place < associations }
-        requires count { count ≤ length (queue_at place self.old) }
-        ensures { self.new ≡ put_queue place (drop count (queue_at place self.old)) self.old }
+    pub(crate) fn remove_first(&mut self, slot: usize, count: usize)
+        requires slot { slot < associations }
+        requires count { count ≤ length (server_queue slot self.old) }
+        ensures { self.new ≡ put_queue slot (drop count (server_queue slot self.old)) self.old }
     {
-        self.parts.queues[place].remove_first(count);
+        self.parts.queues[slot].remove_first(count);
     }
 
     /// Empties the queue of the association at an index.
-    pub(crate) fn clear(&mut self, place: usize)
-        requires { place < associations }
-        ensures { self.new ≡ put_queue place [] self.old }
+    pub(crate) fn clear(&mut self, slot: usize)
+        requires { slot < associations }
+        ensures { self.new ≡ put_queue slot [] self.old }
     {
-        self.parts.queues[place].clear();
+        self.parts.queues[slot].clear();
     }
 }

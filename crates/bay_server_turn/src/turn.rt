@@ -1,8 +1,8 @@
 // One turn of the server.
 ghost use Rattle.std.specs.Prelude.{◌≡◌, None, Some, IfOk, IfErr, OnErr, OnOk};
-ghost use Rattle.bay_server_turn.specs.Calls.{Called, MakesCalls};
-ghost use Rattle.bay_server_turn.specs.Served.{Serves, turn_input_of, reported_in, text_in, turn_refusal};
-ghost use Rattle.bay_server_turn.specs.Turns.{line_calls, with_line, moment_at, scan_calls, after_turn_scan, after_process_event, turn_state};
+ghost use Rattle.bay_server_turn.specs.Calls.{CountedCall, MakesCalls};
+ghost use Rattle.bay_server_turn.specs.Served.{Serves, turn_input_of, report_in, text_in, turn_refusal};
+ghost use Rattle.bay_server_turn.specs.Turns.{event_calls, with_event, moment_at, scan_calls, after_turn_scan, after_process_event, turn_state};
 
 use crate::closing::close_overflowed;
 use crate::fault::ServeFault;
@@ -31,7 +31,7 @@ fn apply_event(
 {
     match server.step(now, event.event(), source_line) {
         Ok(step) => put_ended(server, notes, &step.ended),
-        Err(fault) => notes.refuse(fault.code()),
+        Err(fault) => notes.report_refusal(fault.code()),
     }
 }
 
@@ -45,10 +45,10 @@ fn apply_event_if_any<L: Link>(
     event: Option<ProcessEvent>,
     source_line: &[u8],
 )
-    ensures talks { MakesCalls (Called L.does L.failures) link.old
-        (line_calls now event (turn_state server.old notes.old)) link.new }
+    ensures makes { MakesCalls (CountedCall L.does L.failures) link.old
+        (event_calls now event (turn_state server.old notes.old)) link.new }
     ensures after { turn_state server.new notes.new
-        ≡ with_line now event (turn_state server.old notes.old) }
+        ≡ with_event now event (turn_state server.old notes.old) }
     ensures commands { notes.new.commands ≡ notes.old.commands }
 {
     if let Some(event) = event {
@@ -59,7 +59,7 @@ fn apply_event_if_any<L: Link>(
 
 // Runs the program once, and closes the associations whose queues this filled.
 fn scan<L: Link>(server: &mut Server, notes: &mut TurnBuilder, link: &mut L, now: u64)
-    ensures talks { MakesCalls (Called L.does L.failures) link.old
+    ensures makes { MakesCalls (CountedCall L.does L.failures) link.old
         (scan_calls now (turn_state server.old notes.old)) link.new }
     ensures after { turn_state server.new notes.new
         ≡ after_turn_scan now (turn_state server.old notes.old) }
@@ -82,7 +82,7 @@ fn scan<L: Link>(server: &mut Server, notes: &mut TurnBuilder, link: &mut L, now
 /// After each of these it closes each association to whose queue a reply did not fit (130). The
 /// record copies the words of an event of the process from `source_line`.
 ///
-/// Returns the fault of `given` first, then `MomentTooLarge` for a time that no time stamp can
+/// Returns the fault of `given` loss_event, then `MomentTooLarge` for a time that no time stamp can
 /// hold. Then nothing has changed.
 pub fn serve_event<L: Link>(
     server: &mut Server,
@@ -94,8 +94,8 @@ pub fn serve_event<L: Link>(
     // There is a script such that the calls on the link, the server after the turn and what the
     // turn reports are the script's.
     ensures ok { IfOk result
-        (λ turn. Serves (Called L.does L.failures) link.old link.new (moment_at clock server.old)
-        (reported_in given) server.old server.new turn) }
+        (λ turn. Serves (CountedCall L.does L.failures) link.old link.new (moment_at clock server.old)
+        (report_in given) server.old server.new turn) }
     // A turn succeeds exactly if its input has no fault and its moment is not too large; otherwise
     // the error is this fault.
     ensures right { OnOk result (turn_refusal clock given server.old ≡ None) }
@@ -112,7 +112,7 @@ pub fn serve_event<L: Link>(
     let over = server.device().expired_at(now);
     let mut notes = TurnBuilder::new();
     let opened = accept_one(server, &mut notes, link, now);
-    apply_event_if_any(server, &mut notes, link, now, given.first(), source_line);
+    apply_event_if_any(server, &mut notes, link, now, given.loss_event(), source_line);
     read_clients(server, &mut notes, link, now);
     apply_event_if_any(server, &mut notes, link, now, given.event, source_line);
     scan(server, &mut notes, link, now);
@@ -140,8 +140,8 @@ pub fn serve_turn<L: Link>(
     line: Option<&str>,
 ) -> Result<Turn, ServeFault>
     ensures ok { IfOk result
-        (λ turn. Serves (Called L.does L.failures) link.old link.new (moment_at clock server.old)
-        (reported_in (turn_input_of server.old.device (text_in line.entry))) server.old server.new
+        (λ turn. Serves (CountedCall L.does L.failures) link.old link.new (moment_at clock server.old)
+        (report_in (turn_input_of server.old.device (text_in line.entry))) server.old server.new
         turn) }
     ensures right { OnOk result
         (turn_refusal clock (turn_input_of server.old.device (text_in line.entry)) server.old

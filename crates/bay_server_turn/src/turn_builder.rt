@@ -1,9 +1,9 @@
 // Collects what a turn reports.
 ghost use Rattle.std.specs.Prelude.{◌≡◌, ◌+◌, ◌<◌, ◌++◌, ◌∷◌, [], Some, true, length, IfSome};
 ghost use Rattle.bay_server_turn.specs.AssociationStates.{after_full, is_draining};
-ghost use Rattle.bay_server_turn.specs.Turns.{decides, mark_closed, start_closing, start_closing_if_closed, nothing_noted, state_in, with_state};
+ghost use Rattle.bay_server_turn.specs.Turns.{with_decisions, mark_closed, start_closing, start_closing_if_closed, nothing_noted, noted_state, with_state};
 ghost use Rattle.bay_server_turn.specs.Turns as spec;
-ghost use Rattle.bay_server_turn.specs.declared.association_state.AssociationState.TheVariants.{Gone};
+ghost use Rattle.bay_server_turn.specs.declared.association_state.AssociationState.TheVariants.{Closed};
 ghost use Rattle.bay_device.specs.Outcomes.{associations};
 
 use crate::association_state::AssociationState;
@@ -20,7 +20,7 @@ use std::net::SocketAddrV4;
 /// each association, and one command and the decisions of one read for each association read.
 #[derive(Drop)]
 pub struct TurnBuilder {
-    standings: [AssociationState; ASSOCIATIONS],
+    states: [AssociationState; ASSOCIATIONS],
     refused: Option<u8>,
     commands: BoundedList<Command>,
     decisions: [Option<Listing<ControlDecision>>; ASSOCIATIONS],
@@ -35,7 +35,7 @@ impl Model for TurnBuilder {
     ghost Value = { TurnData };
 
     ghost view = { λ n. record {
-      standings = n.standings;
+      states = n.states;
       refused = n.refused;
       commands = n.commands;
       decisions = n.decisions;
@@ -43,7 +43,7 @@ impl Model for TurnBuilder {
       memory = n.memory;
     } };
 
-    ghost invariant = { λ n. HasEntries n.standings n.closed n.memory };
+    ghost invariant = { λ n. HasEntries n.states n.closed n.memory };
 }
 
 impl TurnBuilder {
@@ -52,7 +52,7 @@ impl TurnBuilder {
         ensures { result ≡ nothing_noted }
     {
         TurnBuilder {
-            standings: [AssociationState::Steady; ASSOCIATIONS],
+            states: [AssociationState::Steady; ASSOCIATIONS],
             refused: None,
             commands: BoundedList::new(Command {
                 switch: 0,
@@ -65,82 +65,82 @@ impl TurnBuilder {
     }
 
     /// Returns the state of the association at an index.
-    pub fn association_state(&self, place: usize) -> AssociationState
-        requires { place < associations }
-        ensures { result ≡ state_in place self.now }
+    pub fn association_state(&self, slot: usize) -> AssociationState
+        requires { slot < associations }
+        ensures { result ≡ noted_state slot self.now }
     {
-        self.standings[place]
+        self.states[slot]
     }
 
     /// Returns the index of the lowest association to which a reply did not fit; `None` if there is
     /// none.
     pub fn first_full(&self) -> Option<usize>
         ensures lowest { result ≡ spec.first_full self.now }
-        ensures within { IfSome result (λ place. place < associations) }
+        ensures within { IfSome result (λ slot. slot < associations) }
     {
-        self.standings
+        self.states
             .iter()
             .position(|association_state| association_state.is_full())
     }
 
     /// Records that a reply to the association at an index did not fit its queue.
-    pub fn mark_full(&mut self, place: usize)
-        requires { place < associations }
-        ensures { self.new ≡ with_state place (after_full (state_in place self.old)) self.old }
+    pub fn mark_full(&mut self, slot: usize)
+        requires { slot < associations }
+        ensures { self.new ≡ with_state slot (after_full (noted_state slot self.old)) self.old }
     {
-        self.standings[place] = self.standings[place].with_full_queue();
+        self.states[slot] = self.states[slot].with_full_queue();
     }
 
     /// Records that the device or the client closed the association at an index, for this reason.
     /// Its queue will be offered once more.
-    pub fn start_closing(&mut self, place: usize, why: Why)
-        requires { place < associations }
-        ensures { self.new ≡ start_closing place why self.old }
+    pub fn start_closing(&mut self, slot: usize, why: Why)
+        requires { slot < associations }
+        ensures { self.new ≡ start_closing slot why self.old }
     {
-        if !self.standings[place].is_close_reported() {
+        if !self.states[slot].is_close_reported() {
             match why {
-                Why::Ended => self.closed.push((place as u16 + 1, CloseReason::Ended)),
+                Why::Ended => self.closed.push((slot as u16 + 1, CloseReason::Ended)),
                 Why::Fault(code) => self
                     .closed
-                    .push((place as u16 + 1, CloseReason::Fault(code))),
-                Why::Memory => self.memory.push(place as u16 + 1),
+                    .push((slot as u16 + 1, CloseReason::Fault(code))),
+                Why::Memory => self.memory.push(slot as u16 + 1),
             }
         }
-        self.standings[place] = AssociationState::Leaving;
+        self.states[slot] = AssociationState::Draining;
     }
 
     /// Records that the device closed the association at an index, if it closed one.
-    pub fn start_closing_if_closed(&mut self, place: usize, closed: Option<(u16, Why)>)
-        requires { place < associations }
-        ensures { self.new ≡ start_closing_if_closed place closed self.old }
+    pub fn start_closing_if_closed(&mut self, slot: usize, closed: Option<(u16, Why)>)
+        requires { slot < associations }
+        ensures { self.new ≡ start_closing_if_closed slot closed self.old }
     {
         if let Some((_, why)) = closed {
-            self.start_closing(place, why);
+            self.start_closing(slot, why);
         }
     }
 
     /// Records that the association at an index was closed with nothing left to send.
-    pub fn mark_closed(&mut self, place: usize, closing: CloseReason)
-        requires { place < associations }
-        ensures { self.new ≡ mark_closed place closing self.old }
+    pub fn mark_closed(&mut self, slot: usize, closing: CloseReason)
+        requires { slot < associations }
+        ensures { self.new ≡ mark_closed slot closing self.old }
     {
-        if !self.standings[place].is_close_reported() {
-            self.closed.push((place as u16 + 1, closing));
+        if !self.states[slot].is_close_reported() {
+            self.closed.push((slot as u16 + 1, closing));
         }
-        self.standings[place] = AssociationState::Gone;
+        self.states[slot] = AssociationState::Closed;
     }
 
     /// Records that the remaining queue of a closed association was offered to the link.
-    pub fn finish_closing(&mut self, place: usize)
-        requires place { place < associations }
-        requires leaving { is_draining (state_in place self.old) ≡ true }
-        ensures { self.new ≡ with_state place Gone self.old }
+    pub fn finish_closing(&mut self, slot: usize)
+        requires slot { slot < associations }
+        requires leaving { is_draining (noted_state slot self.old) ≡ true }
+        ensures { self.new ≡ with_state slot Closed self.old }
     {
-        self.standings[place] = AssociationState::Gone;
+        self.states[slot] = AssociationState::Closed;
     }
 
     /// Reports that the device refused the event of the process, with this number.
-    pub fn refuse(&mut self, code: u8)
+    pub fn report_refusal(&mut self, code: u8)
         ensures { self.new ≡ record self.old { refused = Some code } }
     {
         self.refused = Some(code);
@@ -156,11 +156,11 @@ impl TurnBuilder {
 
     /// Reports what was decided on the controls that the client of the association at an index
     /// requested.
-    pub fn report_decisions(&mut self, place: usize, decisions: Listing<ControlDecision>)
-        requires { place < associations }
-        ensures { self.new ≡ decides place decisions self.old }
+    pub fn report_decisions(&mut self, slot: usize, decisions: Listing<ControlDecision>)
+        requires { slot < associations }
+        ensures { self.new ≡ with_decisions slot decisions self.old }
     {
-        self.decisions[place] = Some(decisions);
+        self.decisions[slot] = Some(decisions);
     }
 
     /// Returns the report of the turn, given the association that it opened, and the switch whose
@@ -177,7 +177,7 @@ impl TurnBuilder {
         } }
     {
         let TurnBuilder {
-            standings: _,
+            states: _,
             refused,
             commands,
             decisions,

@@ -1,6 +1,6 @@
 -- A failed link is told only where a call failed.
 use Rattle.std.proofs.Common.{Bool, List, [], ap, arith, false, inl, inr, refl, true, ℕ, ◌++◌, ◌<◌, ◌||◌, ◌∷◌, ◌≡◌, ◌≤◌, ◌⊎◌}
-use Rattle.bay_server_turn.specs.Calls.{Call, Called, MakesCalls, failures_after, is_failed}
+use Rattle.bay_server_turn.specs.Calls.{Call, CountedCall, MakesCalls, failures_after, is_failed}
 use Rattle.bay_server_turn.specs.declared.turn_report.CloseReason.{CloseReason}
 use Rattle.bay_server_turn_laws.specs.Causes.{has_some}
 use Rattle.bay_server_turn_laws.specs.Faults.{is_link_failed, reports_failure}
@@ -25,7 +25,7 @@ module _ {L : Type 0} (does : L → Call → L → Type 0) (failures : L → ℕ
   rises n false h = (omega arith, omega arith)
 
   never-falls : (old : L) (calls : List Call) (new : L)
-      → MakesCalls (Called does failures) old calls new
+      → MakesCalls (CountedCall does failures) old calls new
       → failures old ≤ 18446744073709551615 → failures old ≤ failures new
   never-falls old [] new t h = let e : failures old ≡ failures new = ap failures t in omega arith
   never-falls old (call ∷ calls) new t h =
@@ -43,7 +43,7 @@ module _ {L : Type 0} (does : L → Call → L → Type 0) (failures : L → ℕ
   counts-if old mid new false rest e h f m r = let later = r (omega arith) f in omega arith
 
   pub counts : (old : L) (calls : List Call) (new : L)
-      → MakesCalls (Called does failures) old calls new
+      → MakesCalls (CountedCall does failures) old calls new
       → failures old < 18446744073709551615 → has_some is_failed calls ≡ true
       → failures old < failures new
   counts old [] new t h f = absurd (cc)

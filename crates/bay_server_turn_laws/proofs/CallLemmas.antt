@@ -3,7 +3,7 @@ use Rattle.std.proofs.Common.{Bool, List, None, Some, [], add-one, ap, append-ni
 use Rattle.std.proofs.Math.Bool.{or_assoc}
 use Rattle.std.proofs.lemmas.Bool.Decides.{nat_tests}
 use Rattle.bay_server_turn.specs.Calls.{Call, Closes, Writes, is_failed}
-use Rattle.bay_server_turn.specs.Offers.{Offered, offering_of}
+use Rattle.bay_server_turn.specs.Offers.{OfferOutcome, offer_outcome}
 use Rattle.bay_server_turn_laws.specs.Causes.{ends_for, fails_for, has_some}
 use Rattle.bay_server_turn_laws.specs.Flows.{read_by_call, read_by_calls, written_by_call, written_by_calls}
 
@@ -72,59 +72,59 @@ both-say a f g y z t u xs ys h k = record {
 }
 
 -- a closing says nothing
-pub closing-says : (a place : ℕ) (f y : Bool) (t : List ℕ) (calls : List Call) → Say a f y t calls
-    → Say a f y t (calls ++ Closes (place + 1) ∷ [])
-closing-says a place f y t calls h = record {
-  fails = some-append (fails_for a) calls (Closes (place + 1) ∷ [])
+pub closing-says : (a slot : ℕ) (f y : Bool) (t : List ℕ) (calls : List Call) → Say a f y t calls
+    → Say a f y t (calls ++ Closes (slot + 1) ∷ [])
+closing-says a slot f y t calls h = record {
+  fails = some-append (fails_for a) calls (Closes (slot + 1) ∷ [])
       ∙ or-no (has_some (fails_for a) calls) ∙ h.fails;
-  ends = some-append (ends_for a) calls (Closes (place + 1) ∷ [])
+  ends = some-append (ends_for a) calls (Closes (slot + 1) ∷ [])
       ∙ or-no (has_some (ends_for a) calls) ∙ h.ends;
-  takes = taken-append a calls (Closes (place + 1) ∷ []) ∙ append-nil (written_by_calls a calls)
+  takes = taken-append a calls (Closes (slot + 1) ∷ []) ∙ append-nil (written_by_calls a calls)
       ∙ h.takes;
 }
 
 -- What the link takes of the queue of an association, or a failure: what is left, and nothing of
 -- another.
-pub record Offering (place : ℕ) (queue left : List ℕ) (failed : Bool) (calls : List Call)
+pub record Offering (slot : ℕ) (queue left : List ℕ) (failed : Bool) (calls : List Call)
     : Type 0 where
   pub taken : List ℕ
-  pub own : Say (place + 1) failed false taken calls
+  pub own : Say (slot + 1) failed false taken calls
   pub is : taken ++ left ≡ queue
-  pub far : (p : ℕ) → place ≢ p → SayNothing (p + 1) calls
+  pub far : (p : ℕ) → slot ≢ p → SayNothing (p + 1) calls
   pub given : (a : ℕ) → read_by_calls a calls ≡ []
   pub blamed : failed ≡ true → has_some is_failed calls ≡ true
 
 -- one write that takes so much
-write : (place n : ℕ) (x : ℕ) (xs left : List ℕ) (failed : Bool) (calls : List Call)
-    → Offering place (drop n (x ∷ xs)) left failed calls
-    → Offering place (x ∷ xs) left failed (Writes (place + 1) (x ∷ xs) (Some n) ∷ calls)
-write place n x xs left failed calls o =
-    let one : Say (place + 1) false false (take n (x ∷ xs))
-    (Writes (place + 1) (x ∷ xs) (Some n) ∷ []) = record {
-      fails = ap (λ b. b || false) (and-no (place + 1 == place + 1));
+write : (slot n : ℕ) (x : ℕ) (xs left : List ℕ) (failed : Bool) (calls : List Call)
+    → Offering slot (drop n (x ∷ xs)) left failed calls
+    → Offering slot (x ∷ xs) left failed (Writes (slot + 1) (x ∷ xs) (Some n) ∷ calls)
+write slot n x xs left failed calls o =
+    let one : Say (slot + 1) false false (take n (x ∷ xs))
+    (Writes (slot + 1) (x ∷ xs) (Some n) ∷ []) = record {
+      fails = ap (λ b. b || false) (and-no (slot + 1 == slot + 1));
       ends = refl;
-      takes = rw (same-number place) (append-nil (take n (x ∷ xs)));
+      takes = rw (same-number slot) (append-nil (take n (x ∷ xs)));
     } in
     record {
       taken = take n (x ∷ xs) ++ o.taken;
-      own = both-say (place + 1) false failed false false (take n (x ∷ xs)) o.taken
-          (Writes (place + 1) (x ∷ xs) (Some n) ∷ []) calls one o.own;
+      own = both-say (slot + 1) false failed false false (take n (x ∷ xs)) o.taken
+          (Writes (slot + 1) (x ∷ xs) (Some n) ∷ []) calls one o.own;
       is = append_assoc (take n (x ∷ xs)) o.taken left
           ∙ ap (λ l. take n (x ∷ xs) ++ l) o.is ∙ take-append-drop n (x ∷ xs);
       far = λ p ne. both-say (p + 1) false false false false [] []
-          (Writes (place + 1) (x ∷ xs) (Some n) ∷ []) calls
+          (Writes (slot + 1) (x ∷ xs) (Some n) ∷ []) calls
           (record {
-            fails = ap (λ b. b || false) (and-no (place + 1 == p + 1));
+            fails = ap (λ b. b || false) (and-no (slot + 1 == p + 1));
             ends = refl;
-            takes = rw (other-number place p ne) refl;
+            takes = rw (other-number slot p ne) refl;
           }) (o.far p ne);
       given = o.given;
       blamed = o.blamed;
     }
 
 -- nothing is called
-pub no-call : (place : ℕ) (queue : List ℕ) → Offering place queue queue false []
-no-call place queue = record {
+pub no-call : (slot : ℕ) (queue : List ℕ) → Offering slot queue queue false []
+no-call slot queue = record {
   taken = [];
   own = record { fails = refl; ends = refl; takes = refl };
   is = refl;
@@ -134,21 +134,21 @@ no-call place queue = record {
 }
 
 -- one call fails for an association, and takes and brings nothing
-pub one-fails : (place : ℕ) (queue : List ℕ) (call : Call)
-    → ((a : ℕ) → fails_for a call ≡ (place + 1 == a)) → ((a : ℕ) → ends_for a call ≡ false)
+pub one-fails : (slot : ℕ) (queue : List ℕ) (call : Call)
+    → ((a : ℕ) → fails_for a call ≡ (slot + 1 == a)) → ((a : ℕ) → ends_for a call ≡ false)
     → ((a : ℕ) → written_by_call a call ≡ []) → ((a : ℕ) → read_by_call a call ≡ [])
     → is_failed call ≡ true
-    → Offering place queue queue true (call ∷ [])
-one-fails place queue call fails ends takes gives is = record {
+    → Offering slot queue queue true (call ∷ [])
+one-fails slot queue call fails ends takes gives is = record {
   taken = [];
   own = record {
-    fails = ap (λ b. b || false) (fails (place + 1) ∙ same-number place);
-    ends = ap (λ b. b || false) (ends (place + 1));
-    takes = ap (λ l. l ++ []) (takes (place + 1));
+    fails = ap (λ b. b || false) (fails (slot + 1) ∙ same-number slot);
+    ends = ap (λ b. b || false) (ends (slot + 1));
+    takes = ap (λ l. l ++ []) (takes (slot + 1));
   };
   is = refl;
   far = λ p ne. record {
-    fails = ap (λ b. b || false) (fails (p + 1) ∙ other-number place p ne);
+    fails = ap (λ b. b || false) (fails (p + 1) ∙ other-number slot p ne);
     ends = ap (λ b. b || false) (ends (p + 1));
     takes = ap (λ l. l ++ []) (takes (p + 1));
   };
@@ -157,20 +157,20 @@ one-fails place queue call fails ends takes gives is = record {
 }
 
 -- an offer
-pub offering : (place : ℕ) (queue takes : List ℕ) (fails : Bool)
-    → (let o : Offered = offering_of (place + 1) queue takes fails in
-    Offering place queue o.left o.failed o.calls)
-offering place [] takes fails = no-call place []
-offering place (x ∷ xs) [] true =
-    one-fails place (x ∷ xs) (Writes (place + 1) (x ∷ xs) None) (λ a. and-true (place + 1 == a))
+pub offering : (slot : ℕ) (queue takes : List ℕ) (fails : Bool)
+    → (let o : OfferOutcome = offer_outcome (slot + 1) queue takes fails in
+    Offering slot queue o.left o.failed o.calls)
+offering slot [] takes fails = no-call slot []
+offering slot (x ∷ xs) [] true =
+    one-fails slot (x ∷ xs) (Writes (slot + 1) (x ∷ xs) None) (λ a. and-true (slot + 1 == a))
     (λ a. refl) (λ a. refl) (λ a. refl) refl
-offering place (x ∷ xs) [] false =
-    write place 0 x xs (x ∷ xs) false [] (no-call place (x ∷ xs))
-offering place (x ∷ xs) (zero ∷ takes) fails =
-    write place 0 x xs (x ∷ xs) false [] (no-call place (x ∷ xs))
-offering place (x ∷ xs) (suc n ∷ takes) fails =
-    let o = offering_of (place + 1) (drop n xs) takes fails in
-    write place (n + 1) x xs o.left o.failed o.calls
-    (subst (λ l. Offering place l o.left o.failed o.calls)
+offering slot (x ∷ xs) [] false =
+    write slot 0 x xs (x ∷ xs) false [] (no-call slot (x ∷ xs))
+offering slot (x ∷ xs) (zero ∷ takes) fails =
+    write slot 0 x xs (x ∷ xs) false [] (no-call slot (x ∷ xs))
+offering slot (x ∷ xs) (suc n ∷ takes) fails =
+    let o = offer_outcome (slot + 1) (drop n xs) takes fails in
+    write slot (n + 1) x xs o.left o.failed o.calls
+    (subst (λ l. Offering slot l o.left o.failed o.calls)
     (ap (λ k. drop k (x ∷ xs)) (sym (add-one n)))
-    (offering place (drop n xs) takes fails))
+    (offering slot (drop n xs) takes fails))

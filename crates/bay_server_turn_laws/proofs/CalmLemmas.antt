@@ -5,7 +5,7 @@ use Rattle.bay_device.specs.Outcomes.{outcome}
 use Rattle.bay_device.specs.declared.event.Event.TheVariants.{Close}
 use Rattle.bay_server_turn.specs.AssociationStates.{is_full, is_draining}
 use Rattle.bay_server_turn.specs.Turns.{TurnState, after_event, after_closing_full, close_at_once, first_full, put_quiet, after_closing_some_full, after_closing_next_full, state_at, with_device}
-use Rattle.bay_server_turn.specs.declared.association_state.AssociationState.TheVariants.{Full, Gone, Steady}
+use Rattle.bay_server_turn.specs.declared.association_state.AssociationState.TheVariants.{Full, Closed, Steady}
 use Rattle.bay_server_turn.specs.declared.turn_report.CloseReason.{CloseReason}
 use Rattle.bay_server_turn.specs.declared.turn_report.CloseReason.TheVariants as closing
 use Rattle.bay_server_turn_laws.proofs.PutLemmas.{Puts, put_quiet-puts, told-standings}
@@ -13,63 +13,63 @@ use Rattle.bay_server_turn_laws.proofs.SameLemmas.{Same, put_quiet-same}
 use Rattle.bay_server_turn_laws.proofs.StandingLemmas.{AreCalm, full-is, goes-kept, goes-remaining, none-full, none-remains, remaining, remaining-le}
 
 -- the standings behind the closing of one
-pub gone-standings : (now place : ℕ) (why : CloseReason) (s : TurnState)
-    → (close_at_once now why place s).noted.standings
-    ≡ set (after_event now (Close (place + 1)) s).noted.standings place Gone
+pub gone-standings : (now slot : ℕ) (why : CloseReason) (s : TurnState)
+    → (close_at_once now why slot s).noted.states
+    ≡ set (after_event now (Close (slot + 1)) s).noted.states slot Closed
 unfolding close_at_once
-gone-standings now place why s = let t : TurnState = after_event now (Close (place + 1)) s in
-    ap (λ l. set l place Gone) (told-standings place why t.noted)
+gone-standings now slot why s = let t : TurnState = after_event now (Close (slot + 1)) s in
+    ap (λ l. set l slot Closed) (told-standings slot why t.noted)
 
-pub closing-puts : (now place : ℕ) (s : TurnState) → Puts s (after_event now (Close (place + 1)) s)
-closing-puts now place s =
-    let o = outcome None now (Close (place + 1)) s.server.device in
-    let puts : Puts (with_device o.after s) (after_event now (Close (place + 1)) s) =
+pub closing-puts : (now slot : ℕ) (s : TurnState) → Puts s (after_event now (Close (slot + 1)) s)
+closing-puts now slot s =
+    let o = outcome None now (Close (slot + 1)) s.server.device in
+    let puts : Puts (with_device o.after s) (after_event now (Close (slot + 1)) s) =
     put_quiet-puts o.answer (with_device o.after s) in
     record { queues = puts.queues; fills = puts.fills }
 
-cut-remaining : (now place : ℕ) (why : CloseReason) (s : TurnState) → state_at place s ≡ Full
-    → suc (remaining (close_at_once now why place s).noted.standings) ≡ remaining s.noted.standings
-cut-remaining now place why s e =
-    let t : TurnState = after_event now (Close (place + 1)) s in
-    let puts : Puts s t = closing-puts now place s in
-    ap (λ l. suc (remaining l)) (gone-standings now place why s)
-    ∙ goes-remaining t.noted.standings place (puts.fills.full place e) ∙ puts.fills.remain
+cut-remaining : (now slot : ℕ) (why : CloseReason) (s : TurnState) → state_at slot s ≡ Full
+    → suc (remaining (close_at_once now why slot s).noted.states) ≡ remaining s.noted.states
+cut-remaining now slot why s e =
+    let t : TurnState = after_event now (Close (slot + 1)) s in
+    let puts : Puts s t = closing-puts now slot s in
+    ap (λ l. suc (remaining l)) (gone-standings now slot why s)
+    ∙ goes-remaining t.noted.states slot (puts.fills.full slot e) ∙ puts.fills.remain
 
-pub cut-kept : (now place i : ℕ) (why : CloseReason) (s : TurnState)
+pub cut-kept : (now slot i : ℕ) (why : CloseReason) (s : TurnState)
     → is_draining (state_at i s) ≡ false
-    → is_draining (state_at i (close_at_once now why place s)) ≡ false
-cut-kept now place i why s e =
-    let t : TurnState = after_event now (Close (place + 1)) s in
-    let puts : Puts s t = closing-puts now place s in
-    ap (λ l. is_draining (get_or l i Steady)) (gone-standings now place why s)
-    ∙ goes-kept t.noted.standings place i (puts.fills.kept i e)
+    → is_draining (state_at i (close_at_once now why slot s)) ≡ false
+cut-kept now slot i why s e =
+    let t : TurnState = after_event now (Close (slot + 1)) s in
+    let puts : Puts s t = closing-puts now slot s in
+    ap (λ l. is_draining (get_or l i Steady)) (gone-standings now slot why s)
+    ∙ goes-kept t.noted.states slot i (puts.fills.kept i e)
 
 -- ---- all that did not fit is dealt with
 
 calm-next : (now count : ℕ) (o : Option ℕ) (s : TurnState) → first_full s.noted ≡ o
-    → remaining s.noted.standings ≤ suc count
-    → ((t : TurnState) → remaining t.noted.standings ≤ count
-    → AreCalm (after_closing_some_full now count t).noted.standings)
-    → AreCalm (after_closing_next_full now o s (after_closing_some_full now count)).noted.standings
-calm-next now count None s e h later = none-full s.noted.standings e
-calm-next now count (Some place) s e h later =
-    let found = position-Some is_full s.noted.standings place Steady e in
-    let full : state_at place s ≡ Full = full-is (state_at place s) found.1 in
-    let fewer = cut-remaining now place closing.QueueFull s full in
-    later (close_at_once now closing.QueueFull place s) (omega (arith, fewer))
+    → remaining s.noted.states ≤ suc count
+    → ((t : TurnState) → remaining t.noted.states ≤ count
+    → AreCalm (after_closing_some_full now count t).noted.states)
+    → AreCalm (after_closing_next_full now o s (after_closing_some_full now count)).noted.states
+calm-next now count None s e h later = none-full s.noted.states e
+calm-next now count (Some slot) s e h later =
+    let found = position-Some is_full s.noted.states slot Steady e in
+    let full : state_at slot s ≡ Full = full-is (state_at slot s) found.1 in
+    let fewer = cut-remaining now slot closing.QueueFull s full in
+    later (close_at_once now closing.QueueFull slot s) (omega (arith, fewer))
 
-calm-in : (now count : ℕ) (s : TurnState) → remaining s.noted.standings ≤ count
-    → AreCalm (after_closing_some_full now count s).noted.standings
-calm-in now zero s h = none-remains s.noted.standings h
+calm-in : (now count : ℕ) (s : TurnState) → remaining s.noted.states ≤ count
+    → AreCalm (after_closing_some_full now count s).noted.states
+calm-in now zero s h = none-remains s.noted.states h
 calm-in now (suc count) s h =
     calm-next now count (first_full s.noted) s refl h (λ t g. calm-in now count t g)
 
 -- no association is left to which a reply did not fit
-pub settled-calm : (now : ℕ) (s : TurnState) → length s.noted.standings ≡ 8
-    → AreCalm (after_closing_full now s).noted.standings
+pub settled-calm : (now : ℕ) (s : TurnState) → length s.noted.states ≡ 8
+    → AreCalm (after_closing_full now s).noted.states
 unfolding after_closing_full
 settled-calm now s e = let most =
-    remaining-le s.noted.standings in calm-in now 8 s (omega (arith, most, e))
+    remaining-le s.noted.states in calm-in now 8 s (omega (arith, most, e))
 
 kept-next : (now count i : ℕ) (o : Option ℕ) (s : TurnState) → is_draining (state_at i s) ≡ false
     → ((t : TurnState) → is_draining (state_at i t) ≡ false
@@ -77,8 +77,8 @@ kept-next : (now count i : ℕ) (o : Option ℕ) (s : TurnState) → is_draining
     → is_draining (state_at i (after_closing_next_full now o s (after_closing_some_full now count)))
     ≡ false
 kept-next now count i None s e later = e
-kept-next now count i (Some place) s e later =
-    later (close_at_once now closing.QueueFull place s) (cut-kept now place i closing.QueueFull s e)
+kept-next now count i (Some slot) s e later =
+    later (close_at_once now closing.QueueFull slot s) (cut-kept now slot i closing.QueueFull s e)
 
 kept-in : (now count i : ℕ) (s : TurnState) → is_draining (state_at i s) ≡ false
     → is_draining (state_at i (after_closing_some_full now count s)) ≡ false

@@ -8,11 +8,11 @@ use Rattle.bay_device.specs.declared.event.Sent.{Sent}
 use Rattle.bay_device.specs.declared.event.Step.{Step}
 use Rattle.bay_device.specs.declared.fault.StepFault.{StepFault}
 use Rattle.bay_server_turn.specs.AssociationStates.{after_full, accepts_replies}
-use Rattle.bay_server_turn.specs.Turns.{TurnState, has_room, is_up, put_all, put_at, put_ended, put_quiet, put_sent, record_refusal, put_whole, queue_of, state_at, with_state, with_device, with_noted, with_queue}
+use Rattle.bay_server_turn.specs.Turns.{TurnState, has_room, is_open_at, put_all, put_at, put_ended, put_quiet, put_sent, record_refusal, put_whole, turn_queue, state_at, with_state, with_device, with_noted, with_queue}
 use Rattle.bay_server_turn.specs.declared.association_state.AssociationState.{AssociationState}
-use Rattle.bay_server_turn.specs.declared.association_state.AssociationState.TheVariants.{Steady, Full, Leaving, LeavingFull, Gone}
+use Rattle.bay_server_turn.specs.declared.association_state.AssociationState.TheVariants.{Steady, Full, Draining, DrainingFull, Closed}
 use Rattle.bay_server_turn_laws.specs.Causes.{is_queue_full, reports_close}
-use Rattle.bay_server_turn_laws.specs.Flows.{all_to, answer_to, end_to, octets_to}
+use Rattle.bay_server_turn_laws.specs.Flows.{sends_to, answer_to, end_to, octets_to}
 use Rattle.bay_server_turn_laws.proofs.QuietLemmas.{IsQuiet}
 use Rattle.bay_server_turn_laws.proofs.UpLemmas.{number-of, place-of, up_at}
 
@@ -21,9 +21,9 @@ abbrev pub MayLose : AssociationState → Bool → List ℕ → List ℕ → Typ
 MayLose Steady true queue lost = lost ≡ []
 MayLose Steady false queue lost = queue ≡ []
 MayLose Full up queue lost = 262144 < length queue + length lost
-MayLose Leaving up queue lost = (lost ≡ []) × (up ≡ false)
-MayLose LeavingFull up queue lost = up ≡ false
-MayLose Gone up queue lost = (queue ≡ []) × (up ≡ false)
+MayLose Draining up queue lost = (lost ≡ []) × (up ≡ false)
+MayLose DrainingFull up queue lost = up ≡ false
+MayLose Closed up queue lost = (queue ≡ []) × (up ≡ false)
 
 -- what was taken, what the queue holds, and what is lost are what it held at first and what was
 -- sent
@@ -37,12 +37,12 @@ pub record Carries (taken held sent : List ℕ) (standing : AssociationState) (u
 -- there is a queue and a standing for each association, and the last moment is not after this one
 pub record IsSound (now : ℕ) (s : TurnState) : Type 0 where
   pub queues : length s.server.queues ≡ 8
-  pub standings : length s.noted.standings ≡ 8
+  pub states : length s.noted.states ≡ 8
   pub moment : s.server.device.moment ≤ now
 
 pub record Carried (now p : ℕ) (held taken sent : List ℕ) (s : TurnState) : Type 0 where
   pub sound : IsSound now s
-  pub carries : Carries taken held sent (state_at p s) (is_up p s) (queue_of p s)
+  pub carries : Carries taken held sent (state_at p s) (is_open_at p s) (turn_queue p s)
   -- where its queue is told to be full, more is lost than there is room for
   pub full : reports_close is_queue_full (p + 1) s.noted.closed ≡ true
       → 262144 < length carries.lost
@@ -82,9 +82,9 @@ may-take : (x : AssociationState) (u : Bool) (q lost : List ℕ) → accepts_rep
 may-take Steady true q lost e m = (m, λ r. refl)
 may-take Steady false q lost e m = absurd (cc)
 may-take Full u q lost e m = absurd (cc)
-may-take Leaving u q lost e m = (m.0, λ r. (refl, m.1))
-may-take LeavingFull u q lost e m = absurd (cc)
-may-take Gone u q lost e m = absurd (cc)
+may-take Draining u q lost e m = (m.0, λ r. (refl, m.1))
+may-take DrainingFull u q lost e m = absurd (cc)
+may-take Closed u q lost e m = absurd (cc)
 
 may-fill : (x : AssociationState) (u : Bool) (q lost : List ℕ) → accepts_replies x u ≡ true
     → MayLose x u q lost → (more : List ℕ) → 262144 < length q + length more
@@ -92,18 +92,18 @@ may-fill : (x : AssociationState) (u : Bool) (q lost : List ℕ) → accepts_rep
 may-fill Steady true q lost e m more over = over
 may-fill Steady false q lost e m more over = absurd (cc)
 may-fill Full u q lost e m more over = absurd (cc)
-may-fill Leaving u q lost e m more over = m.1
-may-fill LeavingFull u q lost e m more over = absurd (cc)
-may-fill Gone u q lost e m more over = absurd (cc)
+may-fill Draining u q lost e m more over = m.1
+may-fill DrainingFull u q lost e m more over = absurd (cc)
+may-fill Closed u q lost e m more over = absurd (cc)
 
 may-drop : (x : AssociationState) (u : Bool) (q lost : List ℕ) → accepts_replies x u ≡ false
     → MayLose x u q lost → (more : List ℕ) → length lost ≤ length more → MayLose x u q more
 may-drop Steady true q lost e m more le = absurd (cc)
 may-drop Steady false q lost e m more le = m
 may-drop Full u q lost e m more le = omega (arith, m, le)
-may-drop Leaving u q lost e m more le = absurd (cc)
-may-drop LeavingFull u q lost e m more le = m
-may-drop Gone u q lost e m more le = m
+may-drop Draining u q lost e m more le = absurd (cc)
+may-drop DrainingFull u q lost e m more le = m
+may-drop Closed u q lost e m more le = m
 
 -- more was sent, and is lost
 pub also-lost : (taken held sent q lost more : List ℕ) → taken ++ (q ++ lost) ≡ held ++ sent
@@ -121,18 +121,18 @@ also-held taken held sent q lost more n e =
     ∙ also-lost taken held sent q lost more e
 
 put-here_if : (b r : Bool) (now p : ℕ) (held taken sent octets : List ℕ) (s : TurnState) → p < 8
-    → accepts_replies (state_at p s) (is_up p s) ≡ b → has_room (queue_of p s) octets ≡ r
+    → accepts_replies (state_at p s) (is_open_at p s) ≡ b → has_room (turn_queue p s) octets ≡ r
     → Carried now p held taken sent s
     → Carried now p held taken (sent ++ octets)
-    (if b then (if r then with_queue p (queue_of p s ++ octets) s
+    (if b then (if r then with_queue p (turn_queue p s ++ octets) s
     else with_noted (with_state p (after_full (state_at p s)) s.noted) s) else s)
 put-here_if true true now p held taken sent octets s h e room c =
-    let q = queue_of p s in
+    let q = turn_queue p s in
     let f = c.carries in
-    let take = may-take (state_at p s) (is_up p s) q f.lost e f.may in
+    let take = may-take (state_at p s) (is_open_at p s) q f.lost e f.may in
     let here : get_or (set s.server.queues p (q ++ octets)) p [] ≡ q ++ octets =
     get_or-set_same s.server.queues p (q ++ octets) [] (omega (arith, c.sound.queues)) in
-    let put : Carries taken held (sent ++ octets) (state_at p s) (is_up p s) (q ++ octets) =
+    let put : Carries taken held (sent ++ octets) (state_at p s) (is_open_at p s) (q ++ octets) =
     record {
       lost = [];
       is = also-held taken held sent q f.lost octets take.0 f.is;
@@ -141,23 +141,23 @@ put-here_if true true now p held taken sent octets s h e room c =
     record {
       sound = record {
         queues = length-set s.server.queues p (q ++ octets) ∙ c.sound.queues;
-        standings = c.sound.standings;
+        states = c.sound.states;
         moment = c.sound.moment;
       };
       carries = Carries-as taken held (sent ++ octets) _ _ _ _ _ _ put refl refl here;
       full = λ t. absurd (omega (arith, c.full t, ap length take.0));
     }
 put-here_if true false now p held taken sent octets s h e room c =
-    let q = queue_of p s in
+    let q = turn_queue p s in
     let x = state_at p s in
     let f = c.carries in
-    let here : get_or (set s.noted.standings p (after_full x)) p Steady ≡ after_full x =
-    get_or-set_same s.noted.standings p (after_full x) Steady (omega (arith, c.sound.standings)) in
-    let put : Carries taken held (sent ++ octets) (after_full x) (is_up p s) q =
+    let here : get_or (set s.noted.states p (after_full x)) p Steady ≡ after_full x =
+    get_or-set_same s.noted.states p (after_full x) Steady (omega (arith, c.sound.states)) in
+    let put : Carries taken held (sent ++ octets) (after_full x) (is_open_at p s) q =
     record {
       lost = f.lost ++ octets;
       is = also-lost taken held sent q f.lost octets f.is;
-      may = may-fill x (is_up p s) q f.lost e f.may (f.lost ++ octets)
+      may = may-fill x (is_open_at p s) q f.lost e f.may (f.lost ++ octets)
           (omega (
             arith,
             leb-false (length q + length octets) 262144 room,
@@ -167,21 +167,21 @@ put-here_if true false now p held taken sent octets s h e room c =
     record {
       sound = record {
         queues = c.sound.queues;
-        standings = length-set s.noted.standings p (after_full x) ∙ c.sound.standings;
+        states = length-set s.noted.states p (after_full x) ∙ c.sound.states;
         moment = c.sound.moment;
       };
       carries = Carries-as taken held (sent ++ octets) _ _ _ _ _ _ put here refl refl;
       full = λ t. longer 262144 f.lost octets (c.full t);
     }
 put-here_if false r now p held taken sent octets s h e room c =
-    let q = queue_of p s in
+    let q = turn_queue p s in
     let f = c.carries in
     record {
       sound = c.sound;
       carries = record {
         lost = f.lost ++ octets;
         is = also-lost taken held sent q f.lost octets f.is;
-        may = may-drop (state_at p s) (is_up p s) q f.lost e f.may (f.lost ++ octets)
+        may = may-drop (state_at p s) (is_open_at p s) q f.lost e f.may (f.lost ++ octets)
             (omega (arith, length-append f.lost octets));
       };
       full = λ t. longer 262144 f.lost octets (c.full t);
@@ -191,7 +191,7 @@ put-here : (now p : ℕ) (held taken sent octets : List ℕ) (s : TurnState) →
     → Carried now p held taken sent s
     → Carried now p held taken (sent ++ octets) (put_at (Some p) octets s)
 put-here now p held taken sent octets s h c =
-    put-here_if (accepts_replies (state_at p s) (is_up p s)) (has_room (queue_of p s) octets) now p
+    put-here_if (accepts_replies (state_at p s) (is_open_at p s)) (has_room (turn_queue p s) octets) now p
     held taken sent octets s h refl refl c
 
 -- ---- what is done at another place
@@ -199,12 +199,12 @@ put-here now p held taken sent octets s h c =
 pub other-queue : (now p i : ℕ) (held taken sent q : List ℕ) (s : TurnState) → i ≢ p
     → Carried now p held taken sent s → Carried now p held taken sent (with_queue i q s)
 other-queue now p i held taken sent q s n c =
-    let there : get_or (set s.server.queues i q) p [] ≡ queue_of p s =
+    let there : get_or (set s.server.queues i q) p [] ≡ turn_queue p s =
     get_or-set_other s.server.queues i p q [] (λ e. n (sym e)) in
     record {
       sound = record {
         queues = length-set s.server.queues i q ∙ c.sound.queues;
-        standings = c.sound.standings;
+        states = c.sound.states;
         moment = c.sound.moment;
       };
       carries = Carries-as taken held sent _ _ _ _ _ _ c.carries refl refl there;
@@ -216,12 +216,12 @@ pub other-standing : (now p i : ℕ) (held taken sent : List ℕ) (x : Associati
     → Carried now p held taken sent s
     → Carried now p held taken sent (with_noted (with_state i x s.noted) s)
 other-standing now p i held taken sent x s n c =
-    let there : get_or (set s.noted.standings i x) p Steady ≡ state_at p s =
-    get_or-set_other s.noted.standings i p x Steady (λ e. n (sym e)) in
+    let there : get_or (set s.noted.states i x) p Steady ≡ state_at p s =
+    get_or-set_other s.noted.states i p x Steady (λ e. n (sym e)) in
     record {
       sound = record {
         queues = c.sound.queues;
-        standings = length-set s.noted.standings i x ∙ c.sound.standings;
+        states = length-set s.noted.states i x ∙ c.sound.states;
         moment = c.sound.moment;
       };
       carries = Carries-as taken held sent _ _ _ _ _ _ c.carries there refl refl;
@@ -233,12 +233,12 @@ put-there : (now p : ℕ) (held taken sent octets : List ℕ) (o : Option ℕ) (
     → Carried now p held taken sent (put_at o octets s)
 put-there now p held taken sent octets None s n c = c
 put-there now p held taken sent octets (Some i) s n c =
-    let q = queue_of i s ++ octets in
+    let q = turn_queue i s ++ octets in
     let x = after_full (state_at i s) in
     let far : i ≢ p = λ e. n (ap (λ k. Some k) e) in
-    Carried-if now p held taken sent (accepts_replies (state_at i s) (is_up i s))
+    Carried-if now p held taken sent (accepts_replies (state_at i s) (is_open_at i s))
     (put_whole i octets s) s
-    (Carried-if now p held taken sent (has_room (queue_of i s) octets) (with_queue i q s)
+    (Carried-if now p held taken sent (has_room (turn_queue i s) octets) (with_queue i q s)
     (with_noted (with_state i x s.noted) s)
     (other-queue now p i held taken sent q s far c)
     (other-standing now p i held taken sent x s far c)) c
@@ -249,8 +249,8 @@ sent-if : (b : Bool) (now p a : ℕ) (held taken sent octets : List ℕ) (s : Tu
     → (a == p + 1) ≡ b → Carried now p held taken sent s
     → Carried now p held taken (sent ++ (if b then octets else [])) (put_at (slot_of a) octets s)
 sent-if true now p a held taken sent octets s h e c =
-    let place : slot_of a ≡ Some p = ap slot_of (eqb-true a (p + 1) e) ∙ place-of p h in
-    subst (λ o. Carried now p held taken (sent ++ octets) (put_at o octets s)) (sym place)
+    let slot : slot_of a ≡ Some p = ap slot_of (eqb-true a (p + 1) e) ∙ place-of p h in
+    subst (λ o. Carried now p held taken (sent ++ octets) (put_at o octets s)) (sym slot)
     (put-here now p held taken sent octets s h c)
 sent-if false now p a held taken sent octets s h e c =
     let other : slot_of a ≡ Some p → ⊥ = λ q. let same : (a == p + 1) ≡ true =
@@ -267,14 +267,14 @@ put_sent-carried now p held taken sent x s h c =
 pub put_all-carried : (now p : ℕ) (held taken sent : List ℕ) (xs : List Sent) (s : TurnState)
     → p < 8
     → Carried now p held taken sent s
-    → Carried now p held taken (sent ++ all_to (p + 1) xs) (put_all xs s)
+    → Carried now p held taken (sent ++ sends_to (p + 1) xs) (put_all xs s)
 put_all-carried now p held taken sent [] s h c =
     Carried-sent now p held taken sent (sent ++ []) s c (sym (append-nil sent))
 put_all-carried now p held taken sent (x ∷ xs) s h c =
-    Carried-sent now p held taken _ (sent ++ (octets_to (p + 1) x ++ all_to (p + 1) xs)) _
+    Carried-sent now p held taken _ (sent ++ (octets_to (p + 1) x ++ sends_to (p + 1) xs)) _
     (put_all-carried now p held taken (sent ++ octets_to (p + 1) x) xs (put_sent x s) h
     (put_sent-carried now p held taken sent x s h c))
-    (append_assoc sent (octets_to (p + 1) x) (all_to (p + 1) xs))
+    (append_assoc sent (octets_to (p + 1) x) (sends_to (p + 1) xs))
 
 pub put_ended-carried : (now p : ℕ) (held taken sent : List ℕ) (x : Option Sent) (s : TurnState)
     → p < 8 → Carried now p held taken sent s
@@ -286,9 +286,9 @@ put_ended-carried now p held taken sent (Some x) s h c =
 
 -- nothing is sent but what tells of an end
 only-end : (a : ℕ) (step : Step) → step.sent ≡ []
-    → end_to a step.ended ≡ end_to a step.ended ++ all_to a step.sent
+    → end_to a step.ended ≡ end_to a step.ended ++ sends_to a step.sent
 only-end a step e =
-    sym (append-nil (end_to a step.ended)) ∙ ap (λ l. end_to a step.ended ++ all_to a l) (sym e)
+    sym (append-nil (end_to a step.ended)) ∙ ap (λ l. end_to a step.ended ++ sends_to a l) (sym e)
 
 pub put_quiet-carried : (now p : ℕ) (held taken sent : List ℕ) (answer : Result Step StepFault)
     (s : TurnState) → p < 8 → IsQuiet answer → Carried now p held taken sent s
@@ -297,7 +297,7 @@ put_quiet-carried now p held taken sent (Err fault) s h q c =
     Carried-sent now p held taken sent (sent ++ []) s c (sym (append-nil sent))
 put_quiet-carried now p held taken sent (Ok step) s h q c =
     Carried-sent now p held taken _
-    (sent ++ (end_to (p + 1) step.ended ++ all_to (p + 1) step.sent)) _
+    (sent ++ (end_to (p + 1) step.ended ++ sends_to (p + 1) step.sent)) _
     (put_ended-carried now p held taken sent step.ended s h c)
     (ap (λ l. sent ++ l) (only-end (p + 1) step q.sent))
 
@@ -308,7 +308,7 @@ put_told-carried now p held taken sent (Err fault) s h q c =
     Carried-sent now p held taken sent (sent ++ []) (record_refusal (Err fault) s)
     (record {
       sound = record
-          { queues = c.sound.queues; standings = c.sound.standings; moment = c.sound.moment };
+          { queues = c.sound.queues; states = c.sound.states; moment = c.sound.moment };
       carries = c.carries;
       full = c.full;
     }) (sym (append-nil sent))
@@ -317,11 +317,11 @@ put_told-carried now p held taken sent (Ok step) s h q c =
 
 -- the device goes on, and the association stays as open as it was
 pub device-carried : (now p : ℕ) (held taken sent : List ℕ) (d : State) (s : TurnState)
-    → d.moment ≤ now → up_at p d ≡ is_up p s → Carried now p held taken sent s
+    → d.moment ≤ now → up_at p d ≡ is_open_at p s → Carried now p held taken sent s
     → Carried now p held taken sent (with_device d s)
 device-carried now p held taken sent d s h e c =
     record {
-      sound = record { queues = c.sound.queues; standings = c.sound.standings; moment = h };
+      sound = record { queues = c.sound.queues; states = c.sound.states; moment = h };
       carries = Carries-as taken held sent _ _ _ _ _ _ c.carries refl e refl;
       full = c.full;
     }

@@ -9,14 +9,14 @@ use Rattle.bay_device.specs.declared.event.Step.{Step}
 use Rattle.bay_device.specs.declared.event.Why.{Why}
 use Rattle.bay_device.specs.declared.event.Why.TheVariants.{Ended}
 use Rattle.bay_device.specs.declared.fault.StepFault.{StepFault}
-use Rattle.bay_trace.specs.Resolving.{borrowed}
+use Rattle.bay_trace.specs.Resolving.{borrow_of}
 use Rattle.bay_server_turn.specs.Calls.{Call, Closes}
 use Rattle.bay_server_turn.specs.AssociationStates.{is_close_reported}
-use Rattle.bay_server_turn.specs.Turns.{ServerData, TurnData, Script, TurnState, after_event, after_opening, after_closing, after_turn, close_at_once, event_of, after_end, is_up, start_closing, after_device_close, nothing_noted, put_answer, queue_at, queue_of, state_at, after_octets, turn_begin, turn_calls, with_device, with_noted}
+use Rattle.bay_server_turn.specs.Turns.{ServerData, TurnData, Script, TurnState, after_event, after_opening, after_closing, after_turn, close_at_once, event_of, after_end, is_open_at, start_closing, after_device_close, nothing_noted, put_answer, server_queue, turn_queue, state_at, after_octets, turn_begin, turn_calls, with_device, with_noted}
 use Rattle.bay_server_turn.specs.declared.process_input.ProcessReport.{ProcessReport}
 use Rattle.bay_server_turn.specs.declared.turn_report.CloseReason.TheVariants as closing
 use Rattle.bay_server_turn_laws.specs.Causes.{HasItsCause, ends_for, fails_for, has_some, reason_in, reasons_of}
-use Rattle.bay_server_turn_laws.specs.Events.{ChosenEvent, done_at, surely, turn_events}
+use Rattle.bay_server_turn_laws.specs.Events.{ChosenEvent, outcomes_at, with_memory, turn_events}
 use Rattle.bay_server_turn_laws.specs.Flows.{IsInTime, IsTidy}
 use Rattle.bay_server_turn_laws.specs.CloseReports.{closed_in}
 use Rattle.bay_server_turn_laws.proofs.Acts.{Act, Asks, Breaks, Can, Fills, HangsUp, Hears, Offers, Parts, Scans, Tells, after, calls_by, events_by}
@@ -34,7 +34,7 @@ use Rattle.bay_server_turn_laws.proofs.WalkLemmas.{Begins, Opening, Quietly, tur
 
 module _ (now p : ℕ) (low : p < 8) where
   abbrev pub Others : ℕ → Type 0
-  Others place = place ≢ p
+  Others slot = slot ≢ p
 
   -- what is known behind it
   abbrev Learns : TurnState → Act → Type 0
@@ -45,14 +45,14 @@ module _ (now p : ℕ) (low : p < 8) where
 
   -- an event without octets closes nothing
   no-reason : (event : Event) (s : TurnState) → IsWithoutOctets event
-      → reasons_of (p + 1) (answers_to now (surely event ∷ []) s) ≡ []
+      → reasons_of (p + 1) (answers_to now (with_memory event ∷ []) s) ≡ []
   no-reason event s q =
       let o = outcome None now event s.server.device in
       ap (λ l. l ++ [])
       (quiet-closes (p + 1) o.answer (outcome-quiet None now event s.server.device q))
 
   -- an act that does not concern it
-  still-learns : (a : Act) (s : TurnState) → length s.noted.standings ≡ 8 → Can 8 a s
+  still-learns : (a : Act) (s : TurnState) → length s.noted.states ≡ 8 → Can 8 a s
       → Concerns Others a → has_some (fails_for (p + 1)) (calls_by a) ≡ false
       → has_some (ends_for (p + 1)) (calls_by a) ≡ false
       → reasons_of (p + 1) (answers_to now (events_by a) s) ≡ [] → Learns s a
@@ -63,7 +63,7 @@ module _ (now p : ℕ) (low : p < 8) where
       (record { sized = sized; holds = Still-refl p s.noted sized })).holds k)
 
   pub filled-still : (n : TurnData) → IsFilled (Still p n)
-  filled-still n place m s = (still-kept p low n).fills place m s.sized s
+  filled-still n slot m s = (still-kept p low n).fills slot m s.sized s
 
   answer-knows : (x y : Bool) (z : List Why) (answer : Result Step StepFault) (s : TurnState)
       → IsOwn (p + 1) (closed_in answer) → Ready p low x y z s.noted
@@ -96,8 +96,8 @@ module _ (now p : ℕ) (low : p < 8) where
       (keep-stepped (Still p left.noted) (filled-still left.noted) now (Close (p + 1)) left
       (Still-refl p left.noted k.sized)) k
 
-  module _ (s : TurnState) (sized : length s.noted.standings ≡ 8)
-      (untold : is_up p s ≡ true → is_close_reported (state_at p s) ≡ false) where
+  module _ (s : TurnState) (sized : length s.noted.states ≡ 8)
+      (untold : is_open_at p s ≡ true → is_close_reported (state_at p s) ≡ false) where
     same-place : (F : ℕ → Act) (i : ℕ) → (Can 8 (F p) s → Learns s (F p))
         → (i ≢ p → Can 8 (F i) s → Learns s (F i)) → Can 8 (F i) s → Learns s (F i)
     same-place F i here far = elim (cases_eq i p) [
@@ -111,7 +111,7 @@ module _ (now p : ℕ) (low : p < 8) where
         still-learns (Asks call) s sized can tt says.fails says.ends refl
     act-learns (Hears i choice octets) = same-place (λ q. Hears q choice octets) i
         (λ can x y z k.
-        let o = outcome choice now (Recv (p + 1) (borrowed octets)) s.server.device in
+        let o = outcome choice now (Recv (p + 1) (borrow_of octets)) s.server.device in
         let b = reason_in (p + 1) (closed_in o.answer) in
         let none = ap (λ v. v || false) (and-no (p + 1 == p + 1)) in
         knows-as p x y (z ++ b) _ _ _ (after_octets now p choice octets s).noted (or-none x _ none)
@@ -120,7 +120,7 @@ module _ (now p : ℕ) (low : p < 8) where
         (outcome-own choice now (p + 1) octets s.server.device)
         (record { untold = untold can.up; knows = k })))
         (λ ne can.
-        let o = outcome choice now (Recv (i + 1) (borrowed octets)) s.server.device in
+        let o = outcome choice now (Recv (i + 1) (borrow_of octets)) s.server.device in
         let none = λ (b : Bool). ap (λ v. (v && b) || false) (other-number i p ne) in
         still-learns (Hears i choice octets) s sized can ne (none false) (none false)
         (ap (λ l. l ++ []) (other-named p i (closed_in o.answer) ne
@@ -140,8 +140,8 @@ module _ (now p : ℕ) (low : p < 8) where
         still-learns (Tells event) s sized can tt refl refl
         (no-reason (event_of event) s (process-quiet event))
     act-learns Scans = λ can. still-learns Scans s sized can tt refl refl (no-reason Scan s tt)
-    act-learns (Fills place) = λ can.
-        still-learns (Fills place) s sized can tt refl refl (no-reason (Close (place + 1)) s tt)
+    act-learns (Fills slot) = λ can.
+        still-learns (Fills slot) s sized can tt refl refl (no-reason (Close (slot + 1)) s tt)
     act-learns (Breaks i calls) = same-place (λ q. Breaks q calls) i
         (λ can x y z k.
         let says = closing-says (p + 1) p _ _ _ calls can.1.offered.own in
@@ -193,32 +193,32 @@ module _ (now p : ℕ) (low : p < 8) (past : now ≤ last_moment) where
             (sym (some-append (ends_for (p + 1)) c (calls_by a)))
             (sym (reasons-append (p + 1) r (answers_to now (events_by a) s)))
             (act-learns now p low s sized
-            (up-untold (state_at p s) (is_up p s) (queue_of p s) f.lost f.may) a can _ _ _
+            (up-untold (state_at p s) (is_open_at p s) (turn_queue p s) f.lost f.may) a can _ _ _
             i.known);
       }
 
   begins-learned : (h : ServerData) (s : TurnState) (c : List Call) (e : List ChosenEvent)
       → IsTidy h
       → h.device.moment ≤ now → (b : Begins now 8 h s c e)
-      → Known p c (done_at now e h.device).answers s.noted
+      → Known p c (outcomes_at now e h.device).answers s.noted
   begins-learned h s c e tidy before Quietly = nothing-known p low
-  begins-learned h s c e tidy before (Opening place from free) =
-      knows-as p false false [] _ _ _ (after_opening now place (turn_begin h)).noted refl refl
-      (sym (no-reason now p low (Open (place + 1)) (turn_begin h) tt))
-      (still-knows p false false [] nothing_noted (after_opening now place (turn_begin h)).noted
+  begins-learned h s c e tidy before (Opening slot from free) =
+      knows-as p false false [] _ _ _ (after_opening now slot (turn_begin h)).noted refl refl
+      (sym (no-reason now p low (Open (slot + 1)) (turn_begin h) tt))
+      (still-knows p false false [] nothing_noted (after_opening now slot (turn_begin h)).noted
       (keep-stepped (Still p nothing_noted) (filled-still now p low nothing_noted) now
-      (Open (place + 1)) (turn_begin h) (Still-refl p nothing_noted refl)) (nothing-known p low))
+      (Open (slot + 1)) (turn_begin h) (Still-refl p nothing_noted refl)) (nothing-known p low))
 
 pub knows-turn : (now : ℕ) (given : ProcessReport) (script : Script) (h : ServerData) → IsTidy h
     → IsInTime now h → length script.readings ≡ 8 → length script.offers ≡ 8
     → (p : ℕ) → p < 8
     → Known p (turn_calls now given script h)
-    (done_at now (turn_events now given script h) h.device).answers
+    (outcomes_at now (turn_events now given script h) h.device).answers
     (after_turn now given script h).noted
 knows-turn now given script h tidy time readings offers p low =
     let past = time.not_past in
     let m = turn-is-acts now 8 given script h (omega (arith, readings)) (omega (arith, offers)) in
-    (turned-keeps now 8 (Learned now p (queue_at p h)) (act-learned now p low past (queue_at p h)) h
+    (turned-keeps now 8 (Learned now p (server_queue p h)) (act-learned now p low past (server_queue p h)) h
     script.accepted (after_turn now given script h) (turn_calls now given script h)
     (turn_events now given script h) m (record {
       flowing = begins-flowing 8 now p low past h m.start m.calls m.events tidy time.not_before

@@ -8,11 +8,11 @@ use Rattle.bay_device.specs.declared.event.Step.{Step}
 use Rattle.bay_device.specs.declared.event.Why.{Why}
 use Rattle.bay_device.specs.declared.event.Why.TheVariants.{Ended, Fault, Memory}
 use Rattle.bay_device.specs.declared.fault.StepFault.{StepFault}
-use Rattle.bay_trace.specs.Resolving.{borrowed}
+use Rattle.bay_trace.specs.Resolving.{borrow_of}
 use Rattle.bay_server_turn.specs.AssociationStates.{is_close_reported}
-use Rattle.bay_server_turn.specs.Turns.{TurnData, state_in, close_reported, with_closing}
+use Rattle.bay_server_turn.specs.Turns.{TurnData, noted_state, close_reported, with_closing}
 use Rattle.bay_server_turn.specs.declared.association_state.AssociationState.{AssociationState}
-use Rattle.bay_server_turn.specs.declared.association_state.AssociationState.TheVariants.{Full, Gone, Leaving, LeavingFull, Steady}
+use Rattle.bay_server_turn.specs.declared.association_state.AssociationState.TheVariants.{Full, Closed, Draining, DrainingFull, Steady}
 use Rattle.bay_server_turn.specs.declared.turn_report.CloseReason.{CloseReason}
 use Rattle.bay_server_turn.specs.declared.turn_report.CloseReason.TheVariants as closing
 use Rattle.bay_server_turn_laws.specs.Causes.{reason_in, reasons_of}
@@ -43,35 +43,35 @@ Grown-trans l m n a b = record {
       ∙ append_assoc l.closed a.closings b.closings;
 }
 
-told-grown : (l n : TurnData) (place : ℕ) (why : CloseReason) → Grown l n
-    → Grown l (with_closing place why n)
-told-grown l n place why g = if-told (is_close_reported (state_in place n))
+told-grown : (l n : TurnData) (slot : ℕ) (why : CloseReason) → Grown l n
+    → Grown l (with_closing slot why n)
+told-grown l n slot why g = if-told (is_close_reported (noted_state slot n))
   where
     if-told : (b : Bool)
-        → Grown l (cond b n (record n { closed = n.closed ++ (place + 1, why) ∷ [] }))
+        → Grown l (cond b n (record n { closed = n.closed ++ (slot + 1, why) ∷ [] }))
     if-told true = g
     if-told false =
-        Grown-trans l n (record n { closed = n.closed ++ (place + 1, why) ∷ [] }) g
-        (record { closings = (place + 1, why) ∷ []; closed = refl })
+        Grown-trans l n (record n { closed = n.closed ++ (slot + 1, why) ∷ [] }) g
+        (record { closings = (slot + 1, why) ∷ []; closed = refl })
 
-why-grown : (l n : TurnData) (place : ℕ) (why : Why) → Grown l n
-    → Grown l (close_reported place why n)
-why-grown l n place Ended g = told-grown l n place closing.Ended g
-why-grown l n place (Fault code) g = told-grown l n place (closing.Fault code) g
-why-grown l n place Memory g = if-told (is_close_reported (state_in place n))
+why-grown : (l n : TurnData) (slot : ℕ) (why : Why) → Grown l n
+    → Grown l (close_reported slot why n)
+why-grown l n slot Ended g = told-grown l n slot closing.Ended g
+why-grown l n slot (Fault code) g = told-grown l n slot (closing.Fault code) g
+why-grown l n slot Memory g = if-told (is_close_reported (noted_state slot n))
   where
     if-told : (b : Bool)
-        → Grown l (cond b n (record n { memory = n.memory ++ (place + 1) ∷ [] }))
+        → Grown l (cond b n (record n { memory = n.memory ++ (slot + 1) ∷ [] }))
     if-told true = g
     if-told false = g
 
 pub grown-kept : (most : ℕ) (l : TurnData) → IsNoted most Each (Grown l)
 grown-kept most l = record {
-  fills = λ place n sized g. g;
-  leaving = λ place why n sized low may g. why-grown l n place why g;
-  going = λ place why n sized low may g. told-grown l n place why g;
-  overflows = λ place n sized low g. told-grown l n place closing.QueueFull g;
-  parts = λ place n sized e g. g;
+  fills = λ slot n sized g. g;
+  leaving = λ slot why n sized low may g. why-grown l n slot why g;
+  going = λ slot why n sized low may g. told-grown l n slot why g;
+  overflows = λ slot n sized low g. told-grown l n slot closing.QueueFull g;
+  parts = λ slot n sized e g. g;
   orders = λ commands decisions n g. g;
   refuses = λ code n g. g;
 }
@@ -99,9 +99,9 @@ recv-own choice now a octets s None = tt
 recv-own choice now a octets s (Some talk) = octets-own choice now a s talk octets
 
 pub outcome-own : (choice : Option ℕ) (now a : ℕ) (octets : List ℕ) (s : State)
-    → IsOwn a (closed_in (outcome choice now (Recv a (borrowed octets)) s).answer)
+    → IsOwn a (closed_in (outcome choice now (Recv a (borrow_of octets)) s).answer)
 outcome-own choice now a octets s =
-    at_any_moment (λ o. IsOwn a (closed_in o.answer)) choice now (Recv a (borrowed octets)) s
+    at_any_moment (λ o. IsOwn a (closed_in o.answer)) choice now (Recv a (borrow_of octets)) s
     (λ f. tt)
     (recv-own choice now a octets s (connection_at (slot_of a) s))
 
@@ -111,9 +111,9 @@ pub up-untold : (x : AssociationState) (up : Bool) (q lost : List ℕ) → MayLo
     → is_close_reported x ≡ false
 up-untold Steady up q lost m e = refl
 up-untold Full up q lost m e = refl
-up-untold Leaving up q lost m e = absurd (let f : true ≡ false = sym e ∙ m.1 in cc)
-up-untold LeavingFull up q lost m e = absurd (let f : true ≡ false = sym e ∙ m in cc)
-up-untold Gone up q lost m e = absurd (let f : true ≡ false = sym e ∙ m.1 in cc)
+up-untold Draining up q lost m e = absurd (let f : true ≡ false = sym e ∙ m.1 in cc)
+up-untold DrainingFull up q lost m e = absurd (let f : true ≡ false = sym e ∙ m in cc)
+up-untold Closed up q lost m e = absurd (let f : true ≡ false = sym e ∙ m.1 in cc)
 
 -- ---- answers that say nothing of it
 
@@ -133,8 +133,8 @@ pub quiet-closes : (a : ℕ) (answer : Result Step StepFault) → IsQuiet answer
 quiet-closes a (Err fault) q = refl
 quiet-closes a (Ok step) q = ap (reason_in a) q.closed
 
-pub other-named : (p place : ℕ) (o : Option (ℕ × Why)) → place ≢ p → IsOwn (place + 1) o
+pub other-named : (p slot : ℕ) (o : Option (ℕ × Why)) → slot ≢ p → IsOwn (slot + 1) o
     → reason_in (p + 1) o ≡ []
-other-named p place None ne own = refl
-other-named p place (Some c) ne own =
-    ap (λ b. cond b (c.1 ∷ []) []) (ap (λ a. a == p + 1) own ∙ other-number place p ne)
+other-named p slot None ne own = refl
+other-named p slot (Some c) ne own =
+    ap (λ b. cond b (c.1 ∷ []) []) (ap (λ a. a == p + 1) own ∙ other-number slot p ne)

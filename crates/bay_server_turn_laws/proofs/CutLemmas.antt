@@ -5,9 +5,9 @@ use Rattle.std.proofs.lemmas.List.{get_or-set_same, length-set}
 use Rattle.bay_device.specs.Device.{State}
 use Rattle.bay_device.specs.Outcomes.{last_moment, outcome}
 use Rattle.bay_device.specs.declared.event.Event.TheVariants.{Close}
-use Rattle.bay_server_turn.specs.Turns.{TurnData, TurnState, close_at_once, is_up, put_quiet, queue_of, state_at, with_closing, with_device, with_noted, with_queue}
+use Rattle.bay_server_turn.specs.Turns.{TurnData, TurnState, close_at_once, is_open_at, put_quiet, turn_queue, state_at, with_closing, with_device, with_noted, with_queue}
 use Rattle.bay_server_turn.specs.declared.association_state.AssociationState.{AssociationState}
-use Rattle.bay_server_turn.specs.declared.association_state.AssociationState.TheVariants.{Full, Gone, Leaving, LeavingFull, Steady}
+use Rattle.bay_server_turn.specs.declared.association_state.AssociationState.TheVariants.{Full, Closed, Draining, DrainingFull, Steady}
 use Rattle.bay_server_turn.specs.declared.turn_report.CloseReason.{CloseReason}
 use Rattle.bay_server_turn_laws.specs.Causes.{is_queue_full, reports_close}
 use Rattle.bay_server_turn_laws.specs.Flows.{answer_to}
@@ -23,14 +23,14 @@ use Rattle.bay_server_turn_laws.proofs.UpLemmas.{close-outcome-far, close-outcom
 
 -- notes with the same standings, in which it is told no more that the queue was full
 pub noted-carried : (now p : ℕ) (held taken sent : List ℕ) (n : TurnData) (s : TurnState)
-    → n.standings ≡ s.noted.standings
+    → n.states ≡ s.noted.states
     → reports_close is_queue_full (p + 1) n.closed
     ≡ reports_close is_queue_full (p + 1) s.noted.closed
     → Carried now p held taken sent s → Carried now p held taken sent (with_noted n s)
 noted-carried now p held taken sent n s e same c = record {
   sound = record {
     queues = c.sound.queues;
-    standings = ap length e ∙ c.sound.standings;
+    states = ap length e ∙ c.sound.states;
     moment = c.sound.moment;
   };
   carries =
@@ -58,7 +58,7 @@ cut-far now p i held taken sent why s h n c =
     (outcome-quiet None now (Close (i + 1)) s.server.device tt) moved in
     let x : TurnState = with_queue i [] t in
     let y : TurnState = with_noted (with_closing i why t.noted) x in
-    other-standing now p i held taken more Gone y n
+    other-standing now p i held taken more Closed y n
     (noted-carried now p held taken more (with_closing i why t.noted) x
     (told-standings i why t.noted)
     (told-other p i why t.noted n) (other-queue now p i held taken more [] t n put))
@@ -80,19 +80,19 @@ cut-lost now p held taken sent rest why s h past sound is over =
     let puts : Puts s t = closing-puts now p s in
     let same : Same (with_device o.after s) t = put_quiet-same o.answer (with_device o.after s) in
     let queues : length t.server.queues ≡ 8 = puts.queues ∙ sound.queues in
-    let standings : length n.standings ≡ 8 =
-    ap length (told-standings p why t.noted) ∙ puts.fills.sized ∙ sound.standings in
-    let up : is_up p t ≡ false =
+    let states : length n.states ≡ 8 =
+    ap length (told-standings p why t.noted) ∙ puts.fills.sized ∙ sound.states in
+    let up : is_open_at p t ≡ false =
     ap (up_at p) same.device
     ∙ close-outcome-here None now p s.server.device h past sound.moment in
     let empty : get_or (set t.server.queues p []) p [] ≡ [] =
     get_or-set_same t.server.queues p [] [] (omega (arith, queues)) in
-    let gone : get_or (set n.standings p Gone) p Steady ≡ Gone =
-    get_or-set_same n.standings p Gone Steady (omega (arith, standings)) in
+    let gone : get_or (set n.states p Closed) p Steady ≡ Closed =
+    get_or-set_same n.states p Closed Steady (omega (arith, states)) in
     let before : o.after.moment ≤ now =
     outcome-moment None now (Close (p + 1)) s.server.device sound.moment in
     let more = answer_to (p + 1) o.answer in
-    let lost : Carries taken held (sent ++ more) Gone false [] =
+    let lost : Carries taken held (sent ++ more) Closed false [] =
     record {
       lost = rest ++ more;
       is = also-lost taken held sent [] rest more is;
@@ -101,7 +101,7 @@ cut-lost now p held taken sent rest why s h past sound is over =
     record {
       sound = record {
         queues = length-set t.server.queues p [] ∙ queues;
-        standings = length-set n.standings p Gone ∙ standings;
+        states = length-set n.states p Closed ∙ states;
         moment = subst (λ (d : State). d.moment ≤ now) (sym same.device) before;
       };
       carries = Carries-as taken held (sent ++ more) _ _ _ _ _ _ lost gone up empty;
@@ -118,9 +118,9 @@ full-lost : (x : AssociationState) (u : Bool) (q lost : List ℕ) → x ≡ Full
     → 262144 < length (q ++ lost)
 full-lost Steady u q lost e m = absurd (cc)
 full-lost Full u q lost e m = omega (arith, m, length-append q lost)
-full-lost Leaving u q lost e m = absurd (cc)
-full-lost LeavingFull u q lost e m = absurd (cc)
-full-lost Gone u q lost e m = absurd (cc)
+full-lost Draining u q lost e m = absurd (cc)
+full-lost DrainingFull u q lost e m = absurd (cc)
+full-lost Closed u q lost e m = absurd (cc)
 
 cut-if : (b : Bool) (now p i : ℕ) (held taken sent : List ℕ) (why : CloseReason) (s : TurnState)
     → p < 8
@@ -134,11 +134,11 @@ cut-if true now p i held taken sent why s h past full e c =
     subst (λ j. Carried now p held taken
     (sent ++ answer_to (p + 1) (outcome None now (Close (j + 1)) s.server.device).answer)
     (close_at_once now why j s)) (sym (eqb-true i p e))
-    (cut-lost now p held taken sent (queue_of p s ++ f.lost) why s h past c.sound f.is
+    (cut-lost now p held taken sent (turn_queue p s ++ f.lost) why s h past c.sound f.is
     (λ v. elim v [
-      | inl q ↦ full-lost (state_at p s) (is_up p s) (queue_of p s) f.lost
+      | inl q ↦ full-lost (state_at p s) (is_open_at p s) (turn_queue p s) f.lost
           (ap (λ j. state_at j s) (sym (eqb-true i p e)) ∙ full q) f.may
-      | inr t ↦ longer-behind 262144 (queue_of p s) f.lost (c.full t)
+      | inr t ↦ longer-behind 262144 (turn_queue p s) f.lost (c.full t)
     ]))
 cut-if false now p i held taken sent why s h past full e c =
     cut-far now p i held taken sent why s h (λ q. let same : (i == p) ≡ true = eq-eqb i p q in cc) c

@@ -6,7 +6,7 @@ use Rattle.bay_server_turn.specs.declared.process_input.ProcessEvent.{ProcessEve
 use Rattle.bay_server_turn.specs.declared.process_input.ProcessEvent.TheVariants.{BadMeasure, Contact, Input, Lost, Measure}
 use Rattle.bay_server_turn.specs.declared.process_input.ProcessReport.{ProcessReport}
 use Rattle.bay_server_turn_laws.specs.Events.{ChosenEvent, turn_events}
-use Rattle.bay_server_turn_laws.specs.Flows.{brought_by, read_by_calls, received_of}
+use Rattle.bay_server_turn_laws.specs.Flows.{event_octets, read_by_calls, received_of}
 use Rattle.bay_server_turn_laws.proofs.Acts.{Act, Asks, Breaks, Can, Fills, HangsUp, Hears, Offers, Parts, Scans, Tells, calls_by, events_by, none-if}
 use Rattle.bay_server_turn_laws.proofs.CallLemmas.{given-append}
 use Rattle.bay_server_turn_laws.proofs.KeptLemmas.{turned-keeps}
@@ -17,10 +17,10 @@ module _ (a : ℕ) where
       → received_of a (xs ++ ys) ≡ received_of a xs ++ received_of a ys
   received-append [] ys = refl
   received-append (x ∷ xs) ys =
-      ap (λ l. brought_by a x.1 ++ l) (received-append xs ys)
-      ∙ sym (append_assoc (brought_by a x.1) (received_of a xs) (received_of a ys))
+      ap (λ l. event_octets a x.1 ++ l) (received-append xs ys)
+      ∙ sym (append_assoc (event_octets a x.1) (received_of a xs) (received_of a ys))
 
-  told-brings : (event : ProcessEvent) → brought_by a (event_of event) ≡ []
+  told-brings : (event : ProcessEvent) → event_octets a (event_of event) ≡ []
   told-brings (Contact k position) = refl
   told-brings (Input k value) = refl
   told-brings (Measure k field value) = refl
@@ -28,28 +28,28 @@ module _ (a : ℕ) where
   told-brings Lost = refl
 
   -- a call that closes gives nothing
-  closed-gives : (place : ℕ) (calls : List Call) → read_by_calls a calls ≡ []
-      → read_by_calls a (calls ++ Closes (place + 1) ∷ []) ≡ []
-  closed-gives place calls e = given-append a calls (Closes (place + 1) ∷ []) ∙ ap (λ l. l ++ []) e
+  closed-gives : (slot : ℕ) (calls : List Call) → read_by_calls a calls ≡ []
+      → read_by_calls a (calls ++ Closes (slot + 1) ∷ []) ≡ []
+  closed-gives slot calls e = given-append a calls (Closes (slot + 1) ∷ []) ∙ ap (λ l. l ++ []) e
 
   act-brings : (most : ℕ) (x : Act) (s : TurnState) → Can most x s
       → read_by_calls a (calls_by x) ≡ received_of a (events_by x)
   act-brings most (Asks call) s can = can.gives a
-  act-brings most (Hears place choice octets) s can = refl
-  act-brings most (HangsUp place) s can = ap (λ l. l ++ []) (none-if (place + 1 == a))
+  act-brings most (Hears slot choice octets) s can = refl
+  act-brings most (HangsUp slot) s can = ap (λ l. l ++ []) (none-if (slot + 1 == a))
   act-brings most (Tells event) s can = ap (λ l. l ++ []) (sym (told-brings event))
   act-brings most Scans s can = refl
-  act-brings most (Fills place) s can = refl
-  act-brings most (Breaks place calls) s can =
-      closed-gives place calls (can.1.offered.given a)
-  act-brings most (Offers place calls left) s can = can.offered.given a
-  act-brings most (Parts place calls) s can = closed-gives place calls (can.offered.given a)
+  act-brings most (Fills slot) s can = refl
+  act-brings most (Breaks slot calls) s can =
+      closed-gives slot calls (can.1.offered.given a)
+  act-brings most (Offers slot calls left) s can = can.offered.given a
+  act-brings most (Parts slot calls) s can = closed-gives slot calls (can.offered.given a)
 
   begins-brings : (now most : ℕ) (h : ServerData) (s : TurnState) (c : List Call)
       (e : List ChosenEvent)
       → Begins now most h s c e → read_by_calls a c ≡ received_of a e
   begins-brings now most h s c e Quietly = refl
-  begins-brings now most h s c e (Opening place from free) = refl
+  begins-brings now most h s c e (Opening slot from free) = refl
 
   pub turn-brings : (now : ℕ) (given : ProcessReport) (script : Script) (h : ServerData)
       → read_by_calls a (turn_calls now given script h)

@@ -12,10 +12,10 @@ use Rattle.bay_device.specs.declared.event.Step.{Step}
 use Rattle.bay_device.specs.declared.event.Why.{Why}
 use Rattle.bay_device.specs.declared.event.Why.TheVariants.{Ended}
 use Rattle.bay_device.specs.declared.fault.StepFault.{StepFault}
-use Rattle.bay_trace.specs.Resolving.{borrowed}
+use Rattle.bay_trace.specs.Resolving.{borrow_of}
 use Rattle.bay_server_turn.specs.AssociationStates.{after_full, is_draining}
-use Rattle.bay_server_turn.specs.Turns.{TurnData, TurnState, after_event, close_at_once, event_of, mark_closed, start_closing, after_device_close, put_all, put_answer, put_ended, record_refusal, state_in, with_state, close_reported, with_closing, with_device, with_noted}
-use Rattle.bay_server_turn.specs.declared.association_state.AssociationState.TheVariants.{Gone, Leaving}
+use Rattle.bay_server_turn.specs.Turns.{TurnData, TurnState, after_event, close_at_once, event_of, mark_closed, start_closing, after_device_close, put_all, put_answer, put_ended, record_refusal, noted_state, with_state, close_reported, with_closing, with_device, with_noted}
+use Rattle.bay_server_turn.specs.declared.association_state.AssociationState.TheVariants.{Closed, Draining}
 use Rattle.bay_server_turn.specs.declared.turn_report.CloseReason.{CloseReason}
 use Rattle.bay_server_turn.specs.declared.turn_report.CloseReason.TheVariants as closing
 use Rattle.bay_server_turn_laws.proofs.Acts.{Act, Asks, Breaks, Can, Fills, HangsUp, Hears, Offers, Parts, Scans, Tells, after}
@@ -24,21 +24,21 @@ use Rattle.bay_server_turn_laws.proofs.PutLemmas.{IsPut, puts-all, puts-ended, p
 -- What a reply that does not fit keeps.
 abbrev pub IsFilled : (TurnData → Type 0) → Type 0
 IsFilled P =
-    (place : ℕ) (n : TurnData) → P n → P (with_state place (after_full (state_in place n)) n)
+    (slot : ℕ) (n : TurnData) → P n → P (with_state slot (after_full (noted_state slot n)) n)
 
 -- What holds of a turn's notes, and each change of them keeps: each association may be closed for a
 -- full queue, and these for whatever reason.
 pub record IsNoted (most : ℕ) (Ends : ℕ → Type 0) (P : TurnData → Type 0) : Type 0 where
-  pub fills : (place : ℕ) (n : TurnData) → length n.standings ≡ 8 → P n
-      → P (with_state place (after_full (state_in place n)) n)
-  pub leaving : (place : ℕ) (why : Why) (n : TurnData) → length n.standings ≡ 8 → place < most
-      → Ends place → P n → P (start_closing place why n)
-  pub going : (place : ℕ) (why : CloseReason) (n : TurnData) → length n.standings ≡ 8 → place < most
-      → Ends place → P n → P (mark_closed place why n)
-  pub overflows : (place : ℕ) (n : TurnData) → length n.standings ≡ 8 → place < 8 → P n
-      → P (mark_closed place closing.QueueFull n)
-  pub parts : (place : ℕ) (n : TurnData) → length n.standings ≡ 8
-      → is_draining (state_in place n) ≡ true → P n → P (with_state place Gone n)
+  pub fills : (slot : ℕ) (n : TurnData) → length n.states ≡ 8 → P n
+      → P (with_state slot (after_full (noted_state slot n)) n)
+  pub leaving : (slot : ℕ) (why : Why) (n : TurnData) → length n.states ≡ 8 → slot < most
+      → Ends slot → P n → P (start_closing slot why n)
+  pub going : (slot : ℕ) (why : CloseReason) (n : TurnData) → length n.states ≡ 8 → slot < most
+      → Ends slot → P n → P (mark_closed slot why n)
+  pub overflows : (slot : ℕ) (n : TurnData) → length n.states ≡ 8 → slot < 8 → P n
+      → P (mark_closed slot closing.QueueFull n)
+  pub parts : (slot : ℕ) (n : TurnData) → length n.states ≡ 8
+      → is_draining (noted_state slot n) ≡ true → P n → P (with_state slot Closed n)
   pub orders : (commands : List Command) (decisions : List (Option (List ControlDecision)))
       (n : TurnData)
       → P n → P (record n { commands = n.commands ++ commands; decisions = decisions })
@@ -46,41 +46,41 @@ pub record IsNoted (most : ℕ) (Ends : ℕ → Type 0) (P : TurnData → Type 0
 
 -- it holds, and each association has its standing
 pub record Kept (P : TurnData → Type 0) (n : TurnData) : Type 0 where
-  pub sized : length n.standings ≡ 8
+  pub sized : length n.states ≡ 8
   pub holds : P n
 
 -- those of which an act tells the end concern it
 abbrev pub Concerns : (ℕ → Type 0) → Act → Type 0
 Concerns E (Asks call) = Unit {0}
-Concerns E (Hears place choice octets) = E place
-Concerns E (HangsUp place) = E place
+Concerns E (Hears slot choice octets) = E slot
+Concerns E (HangsUp slot) = E slot
 Concerns E (Tells event) = Unit {0}
 Concerns E Scans = Unit {0}
-Concerns E (Fills place) = Unit {0}
-Concerns E (Breaks place calls) = E place
-Concerns E (Offers place calls left) = Unit {0}
-Concerns E (Parts place calls) = Unit {0}
+Concerns E (Fills slot) = Unit {0}
+Concerns E (Breaks slot calls) = E slot
+Concerns E (Offers slot calls left) = Unit {0}
+Concerns E (Parts slot calls) = Unit {0}
 
-pub all-concern : (E : ℕ → Type 0) → ((place : ℕ) → E place) → (a : Act) → Concerns E a
+pub all-concern : (E : ℕ → Type 0) → ((slot : ℕ) → E slot) → (a : Act) → Concerns E a
 all-concern E all (Asks call) = tt
-all-concern E all (Hears place choice octets) = all place
-all-concern E all (HangsUp place) = all place
+all-concern E all (Hears slot choice octets) = all slot
+all-concern E all (HangsUp slot) = all slot
 all-concern E all (Tells event) = tt
 all-concern E all Scans = tt
-all-concern E all (Fills place) = tt
-all-concern E all (Breaks place calls) = all place
-all-concern E all (Offers place calls left) = tt
-all-concern E all (Parts place calls) = tt
+all-concern E all (Fills slot) = tt
+all-concern E all (Breaks slot calls) = all slot
+all-concern E all (Offers slot calls left) = tt
+all-concern E all (Parts slot calls) = tt
 
 -- each association
 abbrev pub Each : ℕ → Type 0
-Each place = Unit {0}
+Each slot = Unit {0}
 
 module _ (P : TurnData → Type 0) (fills : IsFilled P) (now : ℕ) where
   noted-put : IsPut (λ s. P s.noted)
   noted-put = record {
-    fits = λ place octets s room p. p;
-    fills = λ place s p. fills place s.noted p;
+    fits = λ slot octets s room p. p;
+    fills = λ slot s p. fills slot s.noted p;
   }
 
   pub keep-ended : (sent : Option Sent) (s : TurnState) → P s.noted → P (put_ended sent s).noted
@@ -93,51 +93,51 @@ module _ (P : TurnData → Type 0) (fills : IsFilled P) (now : ℕ) where
 
   -- what is sent once it is noted whether the association was closed, the commands, and what was
   -- decided
-  pub keep-rest : (place : ℕ) (step : Step) (s : TurnState)
+  pub keep-rest : (slot : ℕ) (step : Step) (s : TurnState)
       → ((commands : List Command) (decisions : List (Option (List ControlDecision))) (n : TurnData)
       → P n → P (record n { commands = n.commands ++ commands; decisions = decisions }))
-      → P (after_device_close place step.closed s).noted → P (put_answer place (Ok step) s).noted
-  keep-rest place step s orders p =
-      let left : TurnState = after_device_close place step.closed s in
+      → P (after_device_close slot step.closed s).noted → P (put_answer slot (Ok step) s).noted
+  keep-rest slot step s orders p =
+      let left : TurnState = after_device_close slot step.closed s in
       let t : TurnState = put_all step.sent (put_ended step.ended left) in
-      orders step.commands (slice_set t.noted.decisions place (Some step.decisions)) t.noted
+      orders step.commands (slice_set t.noted.decisions slot (Some step.decisions)) t.noted
       (puts-all (λ u. P u.noted) noted-put step.sent (put_ended step.ended left)
       (keep-ended step.ended left p))
 
 module _ (most : ℕ) (Ends : ℕ → Type 0) (P : TurnData → Type 0) (k : IsNoted most Ends P) (now : ℕ)
   where
     pub fills-kept : IsFilled (Kept P)
-    fills-kept place n q = record {
-      sized = length-set n.standings place (after_full (state_in place n)) ∙ q.sized;
-      holds = k.fills place n q.sized q.holds;
+    fills-kept slot n q = record {
+      sized = length-set n.states slot (after_full (noted_state slot n)) ∙ q.sized;
+      holds = k.fills slot n q.sized q.holds;
     }
 
-    pub cut-kept : (why : CloseReason) (place : ℕ) (s : TurnState)
-        → ((n : TurnData) → length n.standings ≡ 8 → P n → P (mark_closed place why n))
+    pub cut-kept : (why : CloseReason) (slot : ℕ) (s : TurnState)
+        → ((n : TurnData) → length n.states ≡ 8 → P n → P (mark_closed slot why n))
         → Kept P s.noted
-        → Kept P (close_at_once now why place s).noted
+        → Kept P (close_at_once now why slot s).noted
     unfolding close_at_once
-    cut-kept why place s mark_closed q =
-        let n : TurnData = (after_event now (Close (place + 1)) s).noted in
-        let r = keep-stepped (Kept P) fills-kept now (Close (place + 1)) s q in
+    cut-kept why slot s mark_closed q =
+        let n : TurnData = (after_event now (Close (slot + 1)) s).noted in
+        let r = keep-stepped (Kept P) fills-kept now (Close (slot + 1)) s q in
         record {
-          sized = length-set (with_closing place why n).standings place Gone
-              ∙ ap length (told-standings place why n) ∙ r.sized;
+          sized = length-set (with_closing slot why n).states slot Closed
+              ∙ ap length (told-standings slot why n) ∙ r.sized;
           holds = mark_closed n r.sized r.holds;
         }
 
-    leaves-kept : (place : ℕ) (why : Why) (n : TurnData) → place < most → Ends place → Kept P n
-        → Kept P (start_closing place why n)
-    leaves-kept place why n low may q = record {
-      sized = length-set (close_reported place why n).standings place Leaving
-          ∙ ap length (told_why-standings place why n) ∙ q.sized;
-      holds = k.leaving place why n q.sized low may q.holds;
+    leaves-kept : (slot : ℕ) (why : Why) (n : TurnData) → slot < most → Ends slot → Kept P n
+        → Kept P (start_closing slot why n)
+    leaves-kept slot why n low may q = record {
+      sized = length-set (close_reported slot why n).states slot Draining
+          ∙ ap length (told_why-standings slot why n) ∙ q.sized;
+      holds = k.leaving slot why n q.sized low may q.holds;
     }
 
-    left-kept : (place : ℕ) (left : Option (ℕ × Why)) (s : TurnState) → place < most → Ends place
-        → Kept P s.noted → Kept P (after_device_close place left s).noted
-    left-kept place None s low may q = q
-    left-kept place (Some x) s low may q = leaves-kept place x.1 s.noted low may q
+    left-kept : (slot : ℕ) (left : Option (ℕ × Why)) (s : TurnState) → slot < most → Ends slot
+        → Kept P s.noted → Kept P (after_device_close slot left s).noted
+    left-kept slot None s low may q = q
+    left-kept slot (Some x) s low may q = leaves-kept slot x.1 s.noted low may q
 
     orders-kept : (commands : List Command) (decisions : List (Option (List ControlDecision)))
         (n : TurnData)
@@ -145,12 +145,12 @@ module _ (most : ℕ) (Ends : ℕ → Type 0) (P : TurnData → Type 0) (k : IsN
     orders-kept commands decisions n q =
         record { sized = q.sized; holds = k.orders commands decisions n q.holds }
 
-    answer-kept : (place : ℕ) (answer : Result Step StepFault) (s : TurnState) → place < most
-        → Ends place → Kept P s.noted → Kept P (put_answer place answer s).noted
-    answer-kept place (Err fault) s low may q = q
-    answer-kept place (Ok step) s low may q =
-        keep-rest (Kept P) fills-kept now place step s orders-kept
-        (left-kept place step.closed s low may q)
+    answer-kept : (slot : ℕ) (answer : Result Step StepFault) (s : TurnState) → slot < most
+        → Ends slot → Kept P s.noted → Kept P (put_answer slot answer s).noted
+    answer-kept slot (Err fault) s low may q = q
+    answer-kept slot (Ok step) s low may q =
+        keep-rest (Kept P) fills-kept now slot step s orders-kept
+        (left-kept slot step.closed s low may q)
 
     told-kept : (answer : Result Step StepFault) (s : TurnState) → Kept P s.noted
         → Kept P (record_refusal answer s).noted
@@ -163,24 +163,24 @@ module _ (most : ℕ) (Ends : ℕ → Type 0) (P : TurnData → Type 0) (k : IsN
     pub keep-act : (a : Act) (s : TurnState) → Can most a s → Concerns Ends a → Kept P s.noted
         → Kept P (after now a s).noted
     keep-act (Asks call) s can may q = q
-    keep-act (Hears place choice octets) s can may q =
-        let o = outcome choice now (Recv (place + 1) (borrowed octets)) s.server.device in
-        answer-kept place o.answer (with_device o.after s) can.low may q
-    keep-act (HangsUp place) s can may q =
-        keep-stepped (Kept P) fills-kept now (Close (place + 1))
-        (with_noted (start_closing place Ended s.noted) s)
-        (leaves-kept place Ended s.noted can.low may q)
+    keep-act (Hears slot choice octets) s can may q =
+        let o = outcome choice now (Recv (slot + 1) (borrow_of octets)) s.server.device in
+        answer-kept slot o.answer (with_device o.after s) can.low may q
+    keep-act (HangsUp slot) s can may q =
+        keep-stepped (Kept P) fills-kept now (Close (slot + 1))
+        (with_noted (start_closing slot Ended s.noted) s)
+        (leaves-kept slot Ended s.noted can.low may q)
     keep-act (Tells event) s can may q =
         let o = outcome None now (event_of event) s.server.device in
         told-kept o.answer (with_device o.after s) q
     keep-act Scans s can may q = keep-stepped (Kept P) fills-kept now Scan s q
-    keep-act (Fills place) s can may q =
-        cut-kept closing.QueueFull place s (λ n sized. k.overflows place n sized can.0) q
-    keep-act (Breaks place calls) s can may q =
-        cut-kept closing.LinkFailed place s
-        (λ n sized. k.going place closing.LinkFailed n sized can.1.is_open.low may) q
-    keep-act (Offers place calls left) s can may q = q
-    keep-act (Parts place calls) s can may q = record {
-      sized = length-set s.noted.standings place Gone ∙ q.sized;
-      holds = k.parts place s.noted q.sized can.leaves q.holds;
+    keep-act (Fills slot) s can may q =
+        cut-kept closing.QueueFull slot s (λ n sized. k.overflows slot n sized can.0) q
+    keep-act (Breaks slot calls) s can may q =
+        cut-kept closing.LinkFailed slot s
+        (λ n sized. k.going slot closing.LinkFailed n sized can.1.is_open.low may) q
+    keep-act (Offers slot calls left) s can may q = q
+    keep-act (Parts slot calls) s can may q = record {
+      sized = length-set s.noted.states slot Closed ∙ q.sized;
+      holds = k.parts slot s.noted q.sized can.leaves q.holds;
     }

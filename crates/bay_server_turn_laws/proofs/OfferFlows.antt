@@ -4,11 +4,11 @@ use Rattle.std.proofs.lemmas.List.{get_or-set_same, length-set}
 use Rattle.bay_device.specs.Outcomes.{last_moment, outcome}
 use Rattle.bay_device.specs.declared.event.Event.TheVariants.{Close}
 use Rattle.bay_server_turn.specs.Calls.{Call}
-use Rattle.bay_server_turn.specs.Offers.{Offer, Offered}
+use Rattle.bay_server_turn.specs.Offers.{Offer, OfferOutcome}
 use Rattle.bay_server_turn.specs.AssociationStates.{is_draining}
-use Rattle.bay_server_turn.specs.Turns.{TurnState, after_each, after_offer, after_closing, after_closing_full, close_at_once, is_up, offer_of, offer_one, queue_of, state_at, with_queue}
+use Rattle.bay_server_turn.specs.Turns.{TurnState, after_each, after_offer, after_closing, after_closing_full, close_at_once, is_open_at, queue_offer, offer_one, turn_queue, state_at, with_queue}
 use Rattle.bay_server_turn.specs.declared.association_state.AssociationState.{AssociationState}
-use Rattle.bay_server_turn.specs.declared.association_state.AssociationState.TheVariants.{Full, Gone, Leaving, LeavingFull, Steady}
+use Rattle.bay_server_turn.specs.declared.association_state.AssociationState.TheVariants.{Full, Closed, Draining, DrainingFull, Steady}
 use Rattle.bay_server_turn.specs.declared.turn_report.CloseReason.TheVariants as closing
 use Rattle.bay_server_turn_laws.specs.Flows.{answer_to}
 use Rattle.bay_server_turn_laws.proofs.Acts.{IsOpenAt}
@@ -33,27 +33,27 @@ may-leave : (x : AssociationState) (u : Bool) (q lost : List ℕ) → MayLose x 
     → u ≡ false
 may-leave Steady u q lost m e = absurd (cc)
 may-leave Full u q lost m e = absurd (cc)
-may-leave Leaving u q lost m e = m.1
-may-leave LeavingFull u q lost m e = m
-may-leave Gone u q lost m e = absurd (cc)
+may-leave Draining u q lost m e = m.1
+may-leave DrainingFull u q lost m e = m
+may-leave Closed u q lost m e = absurd (cc)
 
 -- ---- the offer of the association's own queue
 
 module _ (now p : ℕ) (held taken sent : List ℕ) (s : TurnState) (left : List ℕ) (failed : Bool)
     (calls : List Call) (low : p < 8) (c : Carried now p held taken sent s)
-    (o : Offering p (queue_of p s) left failed calls) where
+    (o : Offering p (turn_queue p s) left failed calls) where
   pub parted-here : is_draining (state_at p s) ≡ true
       → Carried now p held (taken ++ o.taken) sent (after_closing p s)
   parted-here leaving =
       let f = c.carries in
-      let q = queue_of p s in
-      let down : is_up p s ≡ false =
-      may-leave (state_at p s) (is_up p s) q f.lost f.may leaving in
+      let q = turn_queue p s in
+      let down : is_open_at p s ≡ false =
+      may-leave (state_at p s) (is_open_at p s) q f.lost f.may leaving in
       let empty : get_or (set s.server.queues p []) p [] ≡ [] =
       get_or-set_same s.server.queues p [] [] (omega (arith, c.sound.queues)) in
-      let gone : get_or (set s.noted.standings p Gone) p Steady ≡ Gone =
-      get_or-set_same s.noted.standings p Gone Steady (omega (arith, c.sound.standings)) in
-      let lost : Carries (taken ++ o.taken) held sent Gone false [] = record {
+      let gone : get_or (set s.noted.states p Closed) p Steady ≡ Closed =
+      get_or-set_same s.noted.states p Closed Steady (omega (arith, c.sound.states)) in
+      let lost : Carries (taken ++ o.taken) held sent Closed false [] = record {
         lost = left ++ f.lost;
         is = taken-more taken o.taken left q f.lost (held ++ sent) o.is f.is;
         may = (refl, refl);
@@ -61,7 +61,7 @@ module _ (now p : ℕ) (held taken sent : List ℕ) (s : TurnState) (left : List
       record {
         sound = record {
           queues = length-set s.server.queues p [] ∙ c.sound.queues;
-          standings = length-set s.noted.standings p Gone ∙ c.sound.standings;
+          states = length-set s.noted.states p Closed ∙ c.sound.states;
           moment = c.sound.moment;
         };
         carries = Carries-as (taken ++ o.taken) held sent _ _ _ _ _ _ lost gone down empty;
@@ -72,11 +72,11 @@ module _ (now p : ℕ) (held taken sent : List ℕ) (s : TurnState) (left : List
       → Carried now p held (taken ++ o.taken) sent (with_queue p left s)
   kept-here most is_open =
       let f = c.carries in
-      let q = queue_of p s in
+      let q = turn_queue p s in
       let whole = open-carries most now p held taken sent s c is_open in
       let here : get_or (set s.server.queues p left) p [] ≡ left =
       get_or-set_same s.server.queues p left [] (omega (arith, c.sound.queues)) in
-      let kept : Carries (taken ++ o.taken) held sent (state_at p s) (is_up p s) left = record {
+      let kept : Carries (taken ++ o.taken) held sent (state_at p s) (is_open_at p s) left = record {
         lost = [];
         is = ap (λ l. (taken ++ o.taken) ++ (left ++ l)) (sym whole.0)
             ∙ taken-more taken o.taken left q f.lost (held ++ sent) o.is f.is;
@@ -85,7 +85,7 @@ module _ (now p : ℕ) (held taken sent : List ℕ) (s : TurnState) (left : List
       record {
         sound = record {
           queues = length-set s.server.queues p left ∙ c.sound.queues;
-          standings = c.sound.standings;
+          states = c.sound.states;
           moment = c.sound.moment;
         };
         carries = Carries-as (taken ++ o.taken) held sent _ _ _ _ _ _ kept refl refl here;
@@ -100,7 +100,7 @@ module _ (now p : ℕ) (held taken sent : List ℕ) (s : TurnState) (left : List
       let f = c.carries in
       cut-lost now p held (taken ++ o.taken) sent (left ++ f.lost) closing.LinkFailed s low past
       c.sound
-      (taken-more taken o.taken left (queue_of p s) f.lost (held ++ sent) o.is f.is)
+      (taken-more taken o.taken left (turn_queue p s) f.lost (held ++ sent) o.is f.is)
       (λ v. elim v [
         | inl e ↦ absurd (cc)
         | inr e ↦ longer-behind 262144 left f.lost (c.full e)
@@ -108,7 +108,7 @@ module _ (now p : ℕ) (held taken sent : List ℕ) (s : TurnState) (left : List
 
 -- ---- none is left that was to be offered once more
 
-failed-kept : (failed : Bool) (now i p : ℕ) (o : Offered) (s : TurnState)
+failed-kept : (failed : Bool) (now i p : ℕ) (o : OfferOutcome) (s : TurnState)
     → is_draining (state_at p s) ≡ false
     → is_draining (state_at p
     (if failed then after_closing_full now (close_at_once now closing.LinkFailed i s)
@@ -129,21 +129,21 @@ offer-left : (leaving up : Bool) (now i p : ℕ) (o : Offer) (s : TurnState)
     → (i ≡ p) ⊎ (is_draining (state_at p s) ≡ false)
     → is_draining (state_at p
     (if leaving then after_closing i s
-    else (if up then after_offer now i (offer_of i o s) s else s)))
+    else (if up then after_offer now i (queue_offer i o s) s else s)))
     ≡ false
 offer-left true up now i p o s e (inl same) =
     ap (λ j. is_draining (state_at j (after_closing i s))) (sym same)
-    ∙ goes-left s.noted.standings i
-offer-left true up now i p o s e (inr f) = goes-kept s.noted.standings i p f
+    ∙ goes-left s.noted.states i
+offer-left true up now i p o s e (inr f) = goes-kept s.noted.states i p f
 offer-left false true now i p o s e v =
-    failed-kept (offer_of i o s).failed now i p (offer_of i o s) s (neither-leaves i p s e v)
+    failed-kept (queue_offer i o s).failed now i p (queue_offer i o s) s (neither-leaves i p s e v)
 offer-left false false now i p o s e v = neither-leaves i p s e v
 
 offer-kept : (now i p : ℕ) (o : Offer) (s : TurnState)
     → (i ≡ p) ⊎ (is_draining (state_at p s) ≡ false)
     → is_draining (state_at p (offer_one now i o s)) ≡ false
 offer-kept now i p o s v =
-    offer-left (is_draining (state_at i s)) (is_up i s) now i p o s refl v
+    offer-left (is_draining (state_at i s)) (is_open_at i s) now i p o s refl v
 
 each-kept : (now i p : ℕ) (os : List Offer) (s : TurnState) → is_draining (state_at p s) ≡ false
     → is_draining (state_at p (after_each (offer_one now) i os s)) ≡ false

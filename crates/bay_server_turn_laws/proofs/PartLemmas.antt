@@ -9,14 +9,14 @@ use Rattle.bay_device.specs.declared.event.Event.TheVariants.{Close, Open, Recv,
 use Rattle.bay_device.specs.declared.event.Step.{Step}
 use Rattle.bay_device.specs.declared.event.Why.TheVariants.{Ended}
 use Rattle.bay_device.specs.declared.fault.StepFault.{StepFault}
-use Rattle.bay_trace.specs.Resolving.{borrowed}
+use Rattle.bay_trace.specs.Resolving.{borrow_of}
 use Rattle.bay_server_turn.specs.Calls.{Call, Closes, is_failed}
 use Rattle.bay_server_turn.specs.Turns.{ServerData, TurnData, Script, TurnState, after_event, after_opening, after_closing, after_turn, close_at_once, event_of, after_end, start_closing, after_process_event, turn_begin, turn_calls, with_device, with_noted, with_queue}
 use Rattle.bay_server_turn.specs.declared.process_input.ProcessReport.{ProcessReport}
 use Rattle.bay_server_turn.specs.declared.turn_report.CloseReason.{CloseReason}
 use Rattle.bay_server_turn.specs.declared.turn_report.CloseReason.TheVariants as closing
 use Rattle.bay_server_turn_laws.specs.Causes.{has_some}
-use Rattle.bay_server_turn_laws.specs.Events.{ChosenEvent, closing_of, commands_in, commands_of, done_at, surely, turn_events}
+use Rattle.bay_server_turn_laws.specs.Events.{ChosenEvent, closing_of, answer_commands, commands_of, outcomes_at, with_memory, turn_events}
 use Rattle.bay_server_turn_laws.specs.Faults.{is_link_failed, reports_failure}
 use Rattle.bay_server_turn_laws.proofs.Acts.{Act, Asks, Breaks, Can, Fills, HangsUp, Hears, Offers, Parts, Scans, Tells, after, calls_by, events_by}
 use Rattle.bay_server_turn_laws.proofs.CallLemmas.{some-append}
@@ -30,9 +30,9 @@ use Rattle.bay_server_turn_laws.proofs.WalkLemmas.{Begins, Opening, Quietly, tur
 pub record Part (now : ℕ) (s : TurnState) (calls : List Call) (events : List ChosenEvent)
     (t : TurnState)
     : Type 0 where
-  pub device : t.server.device ≡ (done_at now events s.server.device).after
+  pub device : t.server.device ≡ (outcomes_at now events s.server.device).after
   pub commands : t.noted.commands
-      ≡ s.noted.commands ++ commands_of (done_at now events s.server.device).answers
+      ≡ s.noted.commands ++ commands_of (outcomes_at now events s.server.device).answers
   pub blames : reports_failure t.noted.closed ≡ true
       → (reports_failure s.noted.closed ≡ true) ⊎ (has_some is_failed calls ≡ true)
 
@@ -54,7 +54,7 @@ module _ (now : ℕ) where
   quiet-part : (s u t : TurnState) (calls : List Call) (event : Event) → IsWithoutOctets event
       → Same s u
       → (let o = outcome None now event s.server.device in Same (with_device o.after u) t)
-      → Part now s calls (surely event ∷ []) t
+      → Part now s calls (with_memory event ∷ []) t
   quiet-part s u t calls event h first same =
       let o = outcome None now event s.server.device in
       record {
@@ -72,21 +72,21 @@ module _ (now : ℕ) where
     blames = λ e. inl (sym same.failures ∙ e);
   }
 
-  cut-part : (why : CloseReason) (place : ℕ) (s : TurnState) (calls : List Call)
+  cut-part : (why : CloseReason) (slot : ℕ) (s : TurnState) (calls : List Call)
       → (is_link_failed why ≡ false) ⊎ (has_some is_failed calls ≡ true)
-      → Part now s calls (closing_of place ∷ []) (close_at_once now why place s)
+      → Part now s calls (closing_of slot ∷ []) (close_at_once now why slot s)
   unfolding close_at_once
-  cut-part why place s calls h =
-      let t : TurnState = after_event now (Close (place + 1)) s in
-      let o = outcome None now (Close (place + 1)) s.server.device in
-      let part : Part now s calls (closing_of place ∷ []) t =
-      quiet-part s s t calls (Close (place + 1)) tt (Same-refl s)
+  cut-part why slot s calls h =
+      let t : TurnState = after_event now (Close (slot + 1)) s in
+      let o = outcome None now (Close (slot + 1)) s.server.device in
+      let part : Part now s calls (closing_of slot ∷ []) t =
+      quiet-part s s t calls (Close (slot + 1)) tt (Same-refl s)
       (put_quiet-same o.answer (with_device o.after s)) in
       record {
         device = part.device;
-        commands = goes-commands place why t.noted ∙ part.commands;
+        commands = goes-commands slot why t.noted ∙ part.commands;
         blames = λ e. elim h [
-          | inl f ↦ part.blames (sym (goes-same place why t.noted f).failures ∙ e)
+          | inl f ↦ part.blames (sym (goes-same slot why t.noted f).failures ∙ e)
           | inr f ↦ inr f
         ];
       }
@@ -94,20 +94,20 @@ module _ (now : ℕ) where
   act-part : (most : ℕ) (a : Act) (s : TurnState) → Can most a s
       → Part now s (calls_by a) (events_by a) (after now a s)
   act-part most (Asks call) s can = still-part s s (call ∷ []) (Same-refl s)
-  act-part most (Hears place choice octets) s can =
-      let o = outcome choice now (Recv (place + 1) (borrowed octets)) s.server.device in
-      let told = put_answer-commands place o.answer (with_device o.after s) in
+  act-part most (Hears slot choice octets) s can =
+      let o = outcome choice now (Recv (slot + 1) (borrow_of octets)) s.server.device in
+      let reported = put_answer-commands slot o.answer (with_device o.after s) in
       record {
-        device = told.device;
-        commands = told.commands
-            ∙ ap (λ l. s.noted.commands ++ l) (sym (append-nil (commands_in o.answer)));
-        blames = λ e. inl (sym told.failures ∙ e);
+        device = reported.device;
+        commands = reported.commands
+            ∙ ap (λ l. s.noted.commands ++ l) (sym (append-nil (answer_commands o.answer)));
+        blames = λ e. inl (sym reported.failures ∙ e);
       }
-  act-part most (HangsUp place) s can =
-      let o = outcome None now (Close (place + 1)) s.server.device in
-      let left : TurnState = with_noted (start_closing place Ended s.noted) s in
-      quiet-part s left (after_end now place s) (calls_by (HangsUp place)) (Close (place + 1)) tt
-      (leaves-same place Ended s) (put_quiet-same o.answer (with_device o.after left))
+  act-part most (HangsUp slot) s can =
+      let o = outcome None now (Close (slot + 1)) s.server.device in
+      let left : TurnState = with_noted (start_closing slot Ended s.noted) s in
+      quiet-part s left (after_end now slot s) (calls_by (HangsUp slot)) (Close (slot + 1)) tt
+      (leaves-same slot Ended s) (put_quiet-same o.answer (with_device o.after left))
   act-part most (Tells event) s can =
       let o = outcome None now (event_of event) s.server.device in
       quiet-part s s (after_process_event now event s) [] (event_of event) (process-quiet event)
@@ -117,18 +117,18 @@ module _ (now : ℕ) where
       let o = outcome None now Scan s.server.device in
       quiet-part s s (after_event now Scan s) [] Scan tt (Same-refl s)
       (put_quiet-same o.answer (with_device o.after s))
-  act-part most (Fills place) s can =
-      cut-part closing.QueueFull place s (Closes (place + 1) ∷ []) (inl refl)
-  act-part most (Breaks place calls) s can =
-      cut-part closing.LinkFailed place s (calls ++ Closes (place + 1) ∷ [])
-      (inr (some-append is_failed calls (Closes (place + 1) ∷ [])
+  act-part most (Fills slot) s can =
+      cut-part closing.QueueFull slot s (Closes (slot + 1) ∷ []) (inl refl)
+  act-part most (Breaks slot calls) s can =
+      cut-part closing.LinkFailed slot s (calls ++ Closes (slot + 1) ∷ [])
+      (inr (some-append is_failed calls (Closes (slot + 1) ∷ [])
       ∙ or_left _ _ (can.1.offered.blamed refl)))
-  act-part most (Offers place calls left) s can =
-      still-part s (with_queue place left s) calls
+  act-part most (Offers slot calls left) s can =
+      still-part s (with_queue slot left s) calls
       (record { device = refl; commands = refl; failures = refl })
-  act-part most (Parts place calls) s can =
-      still-part s (after_closing place s) (calls ++ Closes (place + 1) ∷ [])
-      (parted-same place s)
+  act-part most (Parts slot calls) s can =
+      still-part s (after_closing slot s) (calls ++ Closes (slot + 1) ∷ [])
+      (parted-same slot s)
 
   -- ---- a whole turn
 
@@ -139,25 +139,25 @@ module _ (now : ℕ) where
       record {
         commands = part.commands ∙ ap (λ l. l ++ commands_of answers) i.commands
             ∙ sym (commands-append r answers);
-        blames = λ told. some-append is_failed c (calls_by a) ∙ elim (part.blames told) [
+        blames = λ reported. some-append is_failed c (calls_by a) ∙ elim (part.blames reported) [
           | inl f ↦ or_left _ _ (i.blames f)
           | inr f ↦ or_right _ _ f
         ];
       }
 
   begins-tells : (most : ℕ) (h : ServerData) (s : TurnState) (c : List Call) (e : List ChosenEvent)
-      → Begins now most h s c e → Tells_of c (done_at now e h.device).answers s.noted
+      → Begins now most h s c e → Tells_of c (outcomes_at now e h.device).answers s.noted
   begins-tells most h s c e Quietly =
-      record { commands = refl; blames = λ told. absurd (cc) }
-  begins-tells most h s c e (Opening place from free) =
+      record { commands = refl; blames = λ reported. absurd (cc) }
+  begins-tells most h s c e (Opening slot from free) =
       let t : TurnState = turn_begin h in
-      let o = outcome None now (Open (place + 1)) h.device in
-      let part : Part now t c (surely (Open (place + 1)) ∷ []) (after_opening now place t) =
-      quiet-part t t (after_opening now place t) c (Open (place + 1)) tt (Same-refl t)
+      let o = outcome None now (Open (slot + 1)) h.device in
+      let part : Part now t c (with_memory (Open (slot + 1)) ∷ []) (after_opening now slot t) =
+      quiet-part t t (after_opening now slot t) c (Open (slot + 1)) tt (Same-refl t)
       (put_quiet-same o.answer (with_device o.after t)) in
       record {
         commands = part.commands;
-        blames = λ told. elim (part.blames told) [ inl f ↦ absurd (cc) | inr f ↦ f ];
+        blames = λ reported. elim (part.blames reported) [ inl f ↦ absurd (cc) | inr f ↦ f ];
       }
 
   pub Part-turn : (given : ProcessReport) (script : Script) (h : ServerData)
@@ -175,5 +175,5 @@ module _ (now : ℕ) where
         device = turned-device now most h script.accepted t (turn_calls now given script h)
             (turn_events now given script h) m;
         commands = tells.commands;
-        blames = λ told. inr (tells.blames told);
+        blames = λ reported. inr (tells.blames reported);
       }

@@ -8,7 +8,7 @@ use Rattle.bay_device.specs.declared.event.Why.{Why}
 use Rattle.bay_device.specs.declared.event.Why.TheVariants.{Ended, Fault, Memory}
 use Rattle.bay_device.specs.declared.fault.StepFault.{StepFault}
 use Rattle.bay_server_turn.specs.AssociationStates.{after_full, is_close_reported, accepts_replies}
-use Rattle.bay_server_turn.specs.Turns.{TurnData, TurnState, has_room, is_up, put_all, put_at, put_ended, put_quiet, put_sent, put_whole, queue_of, state_in, state_at, with_state, close_reported, with_closing, with_noted, with_queue}
+use Rattle.bay_server_turn.specs.Turns.{TurnData, TurnState, has_room, is_open_at, put_all, put_at, put_ended, put_quiet, put_sent, put_whole, turn_queue, noted_state, state_at, with_state, close_reported, with_closing, with_noted, with_queue}
 use Rattle.bay_server_turn.specs.declared.turn_report.CloseReason.{CloseReason}
 use Rattle.bay_server_turn.specs.declared.turn_report.CloseReason.TheVariants as closing
 use Rattle.bay_server_turn_laws.proofs.StandingLemmas.{Fills, Fills-one, Fills-refl, Fills-trans}
@@ -17,26 +17,26 @@ use Rattle.bay_server_turn_laws.proofs.StandingLemmas.{Fills, Fills-one, Fills-r
 
 -- What a reply that fits keeps, and one that does not.
 pub record IsPut (P : TurnState → Type 0) : Type 0 where
-  pub fits : (place : ℕ) (octets : List ℕ) (s : TurnState)
-      → has_room (queue_of place s) octets ≡ true → P s
-      → P (with_queue place (queue_of place s ++ octets) s)
-  pub fills : (place : ℕ) (s : TurnState) → P s
-      → P (with_noted (with_state place (after_full (state_at place s)) s.noted) s)
+  pub fits : (slot : ℕ) (octets : List ℕ) (s : TurnState)
+      → has_room (turn_queue slot s) octets ≡ true → P s
+      → P (with_queue slot (turn_queue slot s ++ octets) s)
+  pub fills : (slot : ℕ) (s : TurnState) → P s
+      → P (with_noted (with_state slot (after_full (state_at slot s)) s.noted) s)
 
 module _ (P : TurnState → Type 0) (k : IsPut P) where
-  at : (place : Option ℕ) (octets : List ℕ) (s : TurnState) → P s → P (put_at place octets s)
+  at : (slot : Option ℕ) (octets : List ℕ) (s : TurnState) → P s → P (put_at slot octets s)
   at None octets s p = p
-  at (Some place) octets s p =
-      takes (accepts_replies (state_at place s) (is_up place s))
+  at (Some slot) octets s p =
+      takes (accepts_replies (state_at slot s) (is_open_at slot s))
     where
-      fitting : (room : Bool) → has_room (queue_of place s) octets ≡ room
-          → P (cond room (with_queue place (queue_of place s ++ octets) s)
-          (with_noted (with_state place (after_full (state_at place s)) s.noted) s))
-      fitting true is = k.fits place octets s is p
-      fitting false is = k.fills place s p
+      fitting : (room : Bool) → has_room (turn_queue slot s) octets ≡ room
+          → P (cond room (with_queue slot (turn_queue slot s ++ octets) s)
+          (with_noted (with_state slot (after_full (state_at slot s)) s.noted) s))
+      fitting true is = k.fits slot octets s is p
+      fitting false is = k.fills slot s p
 
-      takes : (b : Bool) → P (cond b (put_whole place octets s) s)
-      takes true = fitting (has_room (queue_of place s) octets) refl
+      takes : (b : Bool) → P (cond b (put_whole slot octets s) s)
+      takes true = fitting (has_room (turn_queue slot s) octets) refl
       takes false = p
 
   pub puts-all : (sent : List Sent) (s : TurnState) → P s → P (put_all sent s)
@@ -55,40 +55,40 @@ module _ (P : TurnState → Type 0) (k : IsPut P) where
 
 pub record Puts (s t : TurnState) : Type 0 where
   pub queues : length t.server.queues ≡ length s.server.queues
-  pub fills : Fills s.noted.standings t.noted.standings
+  pub fills : Fills s.noted.states t.noted.states
 
 pub put_quiet-puts : (answer : Result Step StepFault) (s : TurnState) → Puts s (put_quiet answer s)
 put_quiet-puts answer s =
     puts-quiet (Puts s) (record {
-      fits = λ place octets t room p. record {
-        queues = length-set t.server.queues place (queue_of place t ++ octets) ∙ p.queues;
+      fits = λ slot octets t room p. record {
+        queues = length-set t.server.queues slot (turn_queue slot t ++ octets) ∙ p.queues;
         fills = p.fills;
       };
-      fills = λ place t p. record {
+      fills = λ slot t p. record {
         queues = p.queues;
-        fills = Fills-trans s.noted.standings t.noted.standings _ p.fills
-            (Fills-one t.noted.standings place);
+        fills = Fills-trans s.noted.states t.noted.states _ p.fills
+            (Fills-one t.noted.states slot);
       };
-    }) answer s (record { queues = refl; fills = Fills-refl s.noted.standings })
+    }) answer s (record { queues = refl; fills = Fills-refl s.noted.states })
 
 -- ---- telling changes no standing
 
-told-if : (b : Bool) (n m : TurnData) → m.standings ≡ n.standings
-    → (let o : TurnData = if b then n else m in o).standings ≡ n.standings
-told-if true n m e = refl
-told-if false n m e = e
+told-if : (b : Bool) (n m : TurnData) → m.states ≡ n.states
+    → (let o : TurnData = if b then n else m in o).states ≡ n.states
+reported-if true n m e = refl
+reported-if false n m e = e
 
-pub told-standings : (place : ℕ) (why : CloseReason) (n : TurnData)
-    → (with_closing place why n).standings ≡ n.standings
-told-standings place why n =
-    told-if (is_close_reported (state_in place n)) n
-    (record n { closed = n.closed ++ (place + 1, why) ∷ [] }) refl
+pub told-standings : (slot : ℕ) (why : CloseReason) (n : TurnData)
+    → (with_closing slot why n).states ≡ n.states
+reported-standings slot why n =
+    told-if (is_close_reported (noted_state slot n)) n
+    (record n { closed = n.closed ++ (slot + 1, why) ∷ [] }) refl
 
-pub told_why-standings : (place : ℕ) (why : Why) (n : TurnData)
-    → (close_reported place why n).standings ≡ n.standings
-told_why-standings place Ended n = told-standings place closing.Ended n
-told_why-standings place (Fault code) n = told-standings place (closing.Fault code) n
-told_why-standings place Memory n =
-    told-if (is_close_reported (state_in place n)) n
-    (record n { memory = n.memory ++ (place + 1) ∷ [] })
+pub told_why-standings : (slot : ℕ) (why : Why) (n : TurnData)
+    → (close_reported slot why n).states ≡ n.states
+told_why-standings slot Ended n = told-standings slot closing.Ended n
+told_why-standings slot (Fault code) n = told-standings slot (closing.Fault code) n
+told_why-standings slot Memory n =
+    told-if (is_close_reported (noted_state slot n)) n
+    (record n { memory = n.memory ++ (slot + 1) ∷ [] })
     refl

@@ -49,11 +49,11 @@ bad-measure-quiet now k field s None = tt
 bad-measure-quiet now k field s (Some id) =
     record { sent = refl; commands = refl; closed = refl }
 
-open-quiet : (now a : ℕ) (s : State) (place : Option ℕ) (talk : Option ConnectionState)
-    → IsQuiet (open_outcome now a s place talk).answer
+open-quiet : (now a : ℕ) (s : State) (slot : Option ℕ) (talk : Option ConnectionState)
+    → IsQuiet (open_outcome now a s slot talk).answer
 open-quiet now a s None talk = tt
-open-quiet now a s (Some place) None = record { sent = refl; commands = refl; closed = refl }
-open-quiet now a s (Some place) (Some talk) = tt
+open-quiet now a s (Some slot) None = record { sent = refl; commands = refl; closed = refl }
+open-quiet now a s (Some slot) (Some talk) = tt
 
 close-quiet : (now a : ℕ) (s : State) (talk : Option ConnectionState)
     → IsQuiet (close_outcome now a s talk).answer

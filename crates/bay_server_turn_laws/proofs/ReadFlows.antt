@@ -6,10 +6,10 @@ use Rattle.bay_device.specs.declared.event.Step.{Step}
 use Rattle.bay_device.specs.declared.event.Why.{Why}
 use Rattle.bay_device.specs.declared.fault.StepFault.{StepFault}
 use Rattle.bay_server_turn.specs.AssociationStates.{is_full}
-use Rattle.bay_server_turn.specs.Turns.{ServerData, TurnData, TurnState, decides, is_up, is_up_in, start_closing, after_device_close, put_all, put_answer, put_ended, queue_at, queue_of, state_at, close_reported, turn_begin, with_device, with_noted}
+use Rattle.bay_server_turn.specs.Turns.{ServerData, TurnData, TurnState, with_decisions, is_open_at, has_open, start_closing, after_device_close, put_all, put_answer, put_ended, server_queue, turn_queue, state_at, close_reported, turn_begin, with_device, with_noted}
 use Rattle.bay_server_turn.specs.declared.association_state.AssociationState.{AssociationState}
-use Rattle.bay_server_turn.specs.declared.association_state.AssociationState.TheVariants.{Full, Gone, Leaving, LeavingFull, Steady}
-use Rattle.bay_server_turn_laws.specs.Flows.{IsTidy, all_to, answer_to, end_to}
+use Rattle.bay_server_turn.specs.declared.association_state.AssociationState.TheVariants.{Full, Closed, Draining, DrainingFull, Steady}
+use Rattle.bay_server_turn_laws.specs.Flows.{IsTidy, sends_to, answer_to, end_to}
 use Rattle.bay_server_turn_laws.proofs.Acts.{IsOpenAt}
 use Rattle.bay_server_turn_laws.proofs.CarryLemmas.{Carried, Carried-sent, Carries, Carries-as, MayLose, device-carried, other-standing, put_all-carried, put_ended-carried}
 use Rattle.bay_server_turn_laws.proofs.CutLemmas.{noted-carried}
@@ -27,17 +27,17 @@ may-begin false q e = e refl
 -- Nothing was lost yet, and an association that is not open has an empty queue; the device may have
 -- opened one.
 pub begun-carried : (now p : ℕ) (h : ServerData) (d : State) → p < 8 → IsTidy h → d.moment ≤ now
-    → (up_at p d ≡ false → is_up_in p h ≡ false)
-    → Carried now p (queue_at p h) [] [] (with_device d (turn_begin h))
+    → (up_at p d ≡ false → has_open p h ≡ false)
+    → Carried now p (server_queue p h) [] [] (with_device d (turn_begin h))
 begun-carried now p h d low tidy before up =
-    let q = queue_at p h in
+    let q = server_queue p h in
     let start : Carries [] q [] Steady (up_at p d) q = record {
       lost = [];
       is = refl;
       may = may-begin (up_at p d) q (λ e. tidy.empty p low (up e));
     } in
     record {
-      sound = record { queues = tidy.sized; standings = refl; moment = before };
+      sound = record { queues = tidy.sized; states = refl; moment = before };
       carries = Carries-as [] q [] _ _ _ _ _ _ start (all-steady p) refl refl;
       full = λ t. absurd (cc);
     }
@@ -49,15 +49,15 @@ may-open : (x : AssociationState) (u : Bool) (q lost : List ℕ) → MayLose x u
 may-open Steady true q lost m e n = (m, λ r. refl)
 may-open Steady false q lost m e n = absurd (cc)
 may-open Full u q lost m e n = absurd (cc)
-may-open Leaving u q lost m e n = let down = m.1 in absurd (cc)
-may-open LeavingFull u q lost m e n = absurd (cc)
-may-open Gone u q lost m e n = let down = m.1 in absurd (cc)
+may-open Draining u q lost m e n = let down = m.1 in absurd (cc)
+may-open DrainingFull u q lost m e n = absurd (cc)
+may-open Closed u q lost m e n = let down = m.1 in absurd (cc)
 
 pub open-carries : (most now p : ℕ) (held taken sent : List ℕ) (s : TurnState)
     (c : Carried now p held taken sent s) → IsOpenAt most p s
-    → (c.carries.lost ≡ []) × ((r : List ℕ) → MayLose (state_at p s) (is_up p s) r [])
+    → (c.carries.lost ≡ []) × ((r : List ℕ) → MayLose (state_at p s) (is_open_at p s) r [])
 open-carries most now p held taken sent s c o =
-    may-open (state_at p s) (is_up p s) (queue_of p s) c.carries.lost c.carries.may o.up o.calm
+    may-open (state_at p s) (is_open_at p s) (turn_queue p s) c.carries.lost c.carries.may o.up o.calm
 
 pub left-carried : (most now p : ℕ) (held taken sent : List ℕ) (why : Why) (d : State)
     (s : TurnState)
@@ -66,11 +66,11 @@ pub left-carried : (most now p : ℕ) (held taken sent : List ℕ) (why : Why) (
     → Carried now p held taken sent (with_noted (start_closing p why s.noted) (with_device d s))
 left-carried most now p held taken sent why d s h c before o down =
     let n : TurnData = close_reported p why s.noted in
-    let standings : length n.standings ≡ 8 =
-    ap length (told_why-standings p why s.noted) ∙ c.sound.standings in
-    let marked : get_or (set n.standings p Leaving) p Steady ≡ Leaving =
-    get_or-set_same n.standings p Leaving Steady (omega (arith, standings)) in
-    let leaving : Carries taken held sent Leaving false (queue_of p s) =
+    let states : length n.states ≡ 8 =
+    ap length (told_why-standings p why s.noted) ∙ c.sound.states in
+    let marked : get_or (set n.states p Draining) p Steady ≡ Draining =
+    get_or-set_same n.states p Draining Steady (omega (arith, states)) in
+    let leaving : Carries taken held sent Draining false (turn_queue p s) =
     record {
       lost = c.carries.lost;
       is = c.carries.is;
@@ -79,7 +79,7 @@ left-carried most now p held taken sent why d s h c before o down =
     record {
       sound = record {
         queues = c.sound.queues;
-        standings = length-set n.standings p Leaving ∙ standings;
+        states = length-set n.states p Draining ∙ states;
         moment = before;
       };
       carries = Carries-as taken held sent _ _ _ _ _ _ leaving marked down refl;
@@ -93,7 +93,7 @@ pub left_by-far : (now p i : ℕ) (held taken sent : List ℕ) (closed : Option 
 left_by-far now p i held taken sent None s n c = c
 left_by-far now p i held taken sent (Some closed) s n c =
     let m : TurnData = close_reported i closed.1 s.noted in
-    other-standing now p i held taken sent Leaving (with_noted m s) n
+    other-standing now p i held taken sent Draining (with_noted m s) n
     (noted-carried now p held taken sent m s (told_why-standings i closed.1 s.noted)
     (why-not_full p i closed.1 s.noted) c)
 
@@ -120,11 +120,11 @@ answer-carried now p i held taken sent (Ok step) s h r =
     put_all-carried now p held taken (sent ++ end_to (p + 1) step.ended) step.sent ended h first
     in
     let whole : Carried now p held taken
-    (sent ++ (end_to (p + 1) step.ended ++ all_to (p + 1) step.sent)) all =
+    (sent ++ (end_to (p + 1) step.ended ++ sends_to (p + 1) step.sent)) all =
     Carried-sent now p held taken _ _ all both
-    (append_assoc sent (end_to (p + 1) step.ended) (all_to (p + 1) step.sent)) in
+    (append_assoc sent (end_to (p + 1) step.ended) (sends_to (p + 1) step.sent)) in
     noted-carried now p held taken _
-    (decides i step.decisions (record all.noted
+    (with_decisions i step.decisions (record all.noted
     { commands = all.noted.commands ++ step.commands })) all refl refl whole
 
 pub ready-far : (now p i : ℕ) (held taken sent : List ℕ) (answer : Result Step StepFault)

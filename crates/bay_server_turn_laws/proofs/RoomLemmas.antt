@@ -12,9 +12,9 @@ use Rattle.bay_device.specs.declared.event.Event.TheVariants.{Close, Open, Recv,
 use Rattle.bay_device.specs.declared.event.Step.{Step}
 use Rattle.bay_device.specs.declared.event.Why.TheVariants.{Ended}
 use Rattle.bay_device.specs.declared.fault.StepFault.{StepFault}
-use Rattle.bay_trace.specs.Resolving.{borrowed}
+use Rattle.bay_trace.specs.Resolving.{borrow_of}
 use Rattle.bay_server_turn.specs.Calls.{Call}
-use Rattle.bay_server_turn.specs.Turns.{ServerData, Script, TurnState, after_event, after_turn, close_at_once, event_of, start_closing, after_device_close, put_answer, put_ended, record_refusal, queue_at, queue_of, turn_begin, turn_calls, with_device, with_noted, with_queue}
+use Rattle.bay_server_turn.specs.Turns.{ServerData, Script, TurnState, after_event, after_turn, close_at_once, event_of, start_closing, after_device_close, put_answer, put_ended, record_refusal, server_queue, turn_queue, turn_begin, turn_calls, with_device, with_noted, with_queue}
 use Rattle.bay_server_turn.specs.declared.process_input.ProcessReport.{ProcessReport}
 use Rattle.bay_server_turn.specs.declared.turn_report.CloseReason.{CloseReason}
 use Rattle.bay_server_turn.specs.declared.turn_report.CloseReason.TheVariants as closing
@@ -32,33 +32,33 @@ Fits queue = length queue ≤ 262144
 abbrev Holds : TurnState → Type 0
 Holds s = All Fits s.server.queues
 
-holds-queue : (place : ℕ) (queue : List ℕ) (s : TurnState) → Fits queue → Holds s
-    → Holds (with_queue place queue s)
-holds-queue place queue s fits p = All-set Fits s.server.queues place queue fits p
+holds-queue : (slot : ℕ) (queue : List ℕ) (s : TurnState) → Fits queue → Holds s
+    → Holds (with_queue slot queue s)
+holds-queue slot queue s fits p = All-set Fits s.server.queues slot queue fits p
 
 holds-put : IsPut Holds
 holds-put = record {
-  fits = λ place octets s room p.
-      holds-queue place (queue_of place s ++ octets) s
+  fits = λ slot octets s room p.
+      holds-queue slot (turn_queue slot s ++ octets) s
       (omega (
         arith,
-        leb-true (length (queue_of place s) + length octets) 262144 room,
-        length-append (queue_of place s) octets,
+        leb-true (length (turn_queue slot s) + length octets) 262144 room,
+        length-append (turn_queue slot s) octets,
       )) p;
-  fills = λ place s p. p;
+  fills = λ slot s p. p;
 }
 
 -- ---- what is offered
 
-fits-at : (queues : List (List ℕ)) (place : ℕ)
-    → ((leb (length queues) place ≡ true) × (length queues ≤ place))
-    ⊎ ((leb (length queues) place ≡ false) × (place < length queues))
-    → All Fits queues → Fits (get_or queues place [])
-fits-at queues place (inl x) p = subst Fits (sym (get_or-eq_default queues [] x.1)) (omega arith)
-fits-at queues place (inr x) p = All-get_or Fits queues place [] x.1 p
+fits-at : (queues : List (List ℕ)) (slot : ℕ)
+    → ((leb (length queues) slot ≡ true) × (length queues ≤ slot))
+    ⊎ ((leb (length queues) slot ≡ false) × (slot < length queues))
+    → All Fits queues → Fits (get_or queues slot [])
+fits-at queues slot (inl x) p = subst Fits (sym (get_or-eq_default queues [] x.1)) (omega arith)
+fits-at queues slot (inr x) p = All-get_or Fits queues slot [] x.1 p
 
-pub in-room : (h : ServerData) (place : ℕ) → AreInRoom h → length (queue_at place h) ≤ 262144
-in-room h place p = fits-at h.queues place (leb_tells (length h.queues) place) p
+pub in-room : (h : ServerData) (slot : ℕ) → AreInRoom h → length (server_queue slot h) ≤ 262144
+in-room h slot p = fits-at h.queues slot (leb_tells (length h.queues) slot) p
 
 -- ---- events
 
@@ -68,20 +68,20 @@ module _ (now : ℕ) where
       let o = outcome None now event s.server.device in
       puts-quiet Holds holds-put o.answer (with_device o.after s) p
 
-  holds-cut : (why : CloseReason) (place : ℕ) (s : TurnState) → Holds s
-      → Holds (close_at_once now why place s)
+  holds-cut : (why : CloseReason) (slot : ℕ) (s : TurnState) → Holds s
+      → Holds (close_at_once now why slot s)
   unfolding close_at_once
-  holds-cut why place s p =
-      holds-queue place [] (after_event now (Close (place + 1)) s) (omega arith)
-      (holds-stepped (Close (place + 1)) s p)
+  holds-cut why slot s p =
+      holds-queue slot [] (after_event now (Close (slot + 1)) s) (omega arith)
+      (holds-stepped (Close (slot + 1)) s p)
 
-  holds-answer : (place : ℕ) (answer : Result Step StepFault) (s : TurnState) → Holds s
-      → Holds (put_answer place answer s)
-  holds-answer place (Err fault) s p = p
-  holds-answer place (Ok step) s p =
+  holds-answer : (slot : ℕ) (answer : Result Step StepFault) (s : TurnState) → Holds s
+      → Holds (put_answer slot answer s)
+  holds-answer slot (Err fault) s p = p
+  holds-answer slot (Ok step) s p =
       puts-all Holds holds-put step.sent
-      (put_ended step.ended (after_device_close place step.closed s))
-      (puts-ended Holds holds-put step.ended (after_device_close place step.closed s) p)
+      (put_ended step.ended (after_device_close slot step.closed s))
+      (puts-ended Holds holds-put step.ended (after_device_close slot step.closed s) p)
 
   holds-told : (answer : Result Step StepFault) (s : TurnState) → Holds s
       → Holds (record_refusal answer s)
@@ -90,33 +90,33 @@ module _ (now : ℕ) where
 
   holds-act : (most : ℕ) (a : Act) (s : TurnState) → Can most a s → Holds s → Holds (after now a s)
   holds-act most (Asks call) s can p = p
-  holds-act most (Hears place choice octets) s can p =
-      let o = outcome choice now (Recv (place + 1) (borrowed octets)) s.server.device in
-      holds-answer place o.answer (with_device o.after s) p
-  holds-act most (HangsUp place) s can p =
-      holds-stepped (Close (place + 1)) (with_noted (start_closing place Ended s.noted) s) p
+  holds-act most (Hears slot choice octets) s can p =
+      let o = outcome choice now (Recv (slot + 1) (borrow_of octets)) s.server.device in
+      holds-answer slot o.answer (with_device o.after s) p
+  holds-act most (HangsUp slot) s can p =
+      holds-stepped (Close (slot + 1)) (with_noted (start_closing slot Ended s.noted) s) p
   holds-act most (Tells event) s can p =
       let o = outcome None now (event_of event) s.server.device in
       holds-told o.answer (with_device o.after s) p
   holds-act most Scans s can p = holds-stepped Scan s p
-  holds-act most (Fills place) s can p = holds-cut closing.QueueFull place s p
-  holds-act most (Breaks place calls) s can p = holds-cut closing.LinkFailed place s p
-  holds-act most (Offers place calls left) s can p =
+  holds-act most (Fills slot) s can p = holds-cut closing.QueueFull slot s p
+  holds-act most (Breaks slot calls) s can p = holds-cut closing.LinkFailed slot s p
+  holds-act most (Offers slot calls left) s can p =
       let o = can.offered in
-      holds-queue place left s
+      holds-queue slot left s
       (omega (
         arith,
         length-append o.taken left,
         ap length o.is,
-        fits-at s.server.queues place (leb_tells (length s.server.queues) place) p,
+        fits-at s.server.queues slot (leb_tells (length s.server.queues) slot) p,
       )) p
-  holds-act most (Parts place calls) s can p = holds-queue place [] s (omega arith) p
+  holds-act most (Parts slot calls) s can p = holds-queue slot [] s (omega arith) p
 
   holds-begins : (most : ℕ) (h : ServerData) (s : TurnState) (c : List Call) (e : List ChosenEvent)
       → Begins now most h s c e → AreInRoom h → Holds s
   holds-begins most h s c e Quietly p = p
-  holds-begins most h s c e (Opening place from free) p =
-      holds-stepped (Open (place + 1)) (turn_begin h) p
+  holds-begins most h s c e (Opening slot from free) p =
+      holds-stepped (Open (slot + 1)) (turn_begin h) p
 
   pub holds-turn : (given : ProcessReport) (script : Script) (h : ServerData) → AreInRoom h
       → AreInRoom (after_turn now given script h).server
@@ -138,4 +138,4 @@ made-in-room device = All-replicate Fits 8 [] (omega arith)
 
 pub made-tidy : (device : State) → IsTidy (made device)
 made-tidy device =
-    record { sized = refl; empty = λ place low up. get_or-replicate 8 place [] [] low }
+    record { sized = refl; empty = λ slot low up. get_or-replicate 8 slot [] [] low }

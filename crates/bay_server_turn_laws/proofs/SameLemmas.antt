@@ -6,10 +6,10 @@ use Rattle.bay_device.specs.declared.event.Why.{Why}
 use Rattle.bay_device.specs.declared.event.Why.TheVariants.{Ended, Fault, Memory}
 use Rattle.bay_device.specs.declared.fault.StepFault.{StepFault}
 use Rattle.bay_server_turn.specs.AssociationStates.{is_close_reported}
-use Rattle.bay_server_turn.specs.Turns.{TurnData, TurnState, after_closing, mark_closed, start_closing, after_device_close, put_all, put_answer, put_ended, put_quiet, record_refusal, state_in, memory_reported, close_reported, with_closing, with_noted}
+use Rattle.bay_server_turn.specs.Turns.{TurnData, TurnState, after_closing, mark_closed, start_closing, after_device_close, put_all, put_answer, put_ended, put_quiet, record_refusal, noted_state, memory_reported, close_reported, with_closing, with_noted}
 use Rattle.bay_server_turn.specs.declared.turn_report.CloseReason.{CloseReason}
 use Rattle.bay_server_turn.specs.declared.turn_report.CloseReason.TheVariants as closing
-use Rattle.bay_server_turn_laws.specs.Events.{commands_in}
+use Rattle.bay_server_turn_laws.specs.Events.{answer_commands}
 use Rattle.bay_server_turn_laws.specs.Faults.{is_link_failed, reports_failure}
 use Rattle.bay_server_turn_laws.proofs.BlameLemmas.{tells-append}
 use Rattle.bay_server_turn_laws.proofs.PutLemmas.{IsPut, puts-all, puts-ended, puts-quiet}
@@ -24,9 +24,9 @@ Same-refl s = record { device = refl; commands = refl; failures = refl }
 
 same-put : (s : TurnState) → IsPut (Same s)
 same-put s = record {
-  fits = λ place octets t room p. record
+  fits = λ slot octets t room p. record
       { device = p.device; commands = p.commands; failures = p.failures };
-  fills = λ place t p. record
+  fills = λ slot t p. record
       { device = p.device; commands = p.commands; failures = p.failures };
 }
 
@@ -48,35 +48,35 @@ notes-if : (n m : TurnData) (b : Bool) → SameNotes n m → SameNotes n (if b t
 notes-if n m true h = record { commands = refl; failures = refl }
 notes-if n m false h = h
 
-told-same : (place : ℕ) (closing : CloseReason) (n : TurnData) → is_link_failed closing ≡ false
-    → SameNotes n (with_closing place closing n)
-told-same place closing n e =
-    notes-if n (record n { closed = n.closed ++ (place + 1, closing) ∷ [] })
-    (is_close_reported (state_in place n))
-    (record { commands = refl; failures = tells-append n.closed (place + 1) closing e })
+told-same : (slot : ℕ) (closing : CloseReason) (n : TurnData) → is_link_failed closing ≡ false
+    → SameNotes n (with_closing slot closing n)
+told-same slot closing n e =
+    notes-if n (record n { closed = n.closed ++ (slot + 1, closing) ∷ [] })
+    (is_close_reported (noted_state slot n))
+    (record { commands = refl; failures = tells-append n.closed (slot + 1) closing e })
 
-told_memory-same : (place : ℕ) (n : TurnData) → SameNotes n (memory_reported place n)
-told_memory-same place n =
-    notes-if n (record n { memory = n.memory ++ (place + 1) ∷ [] })
-    (is_close_reported (state_in place n))
+told_memory-same : (slot : ℕ) (n : TurnData) → SameNotes n (memory_reported slot n)
+told_memory-same slot n =
+    notes-if n (record n { memory = n.memory ++ (slot + 1) ∷ [] })
+    (is_close_reported (noted_state slot n))
     (record { commands = refl; failures = refl })
 
-told_why-same : (place : ℕ) (why : Why) (n : TurnData) → SameNotes n (close_reported place why n)
-told_why-same place Ended n = told-same place closing.Ended n refl
-told_why-same place (Fault code) n = told-same place (closing.Fault code) n refl
-told_why-same place Memory n = told_memory-same place n
+told_why-same : (slot : ℕ) (why : Why) (n : TurnData) → SameNotes n (close_reported slot why n)
+told_why-same slot Ended n = told-same slot closing.Ended n refl
+told_why-same slot (Fault code) n = told-same slot (closing.Fault code) n refl
+told_why-same slot Memory n = told_memory-same slot n
 
-pub leaves-same : (place : ℕ) (why : Why) (s : TurnState)
-    → Same s (with_noted (start_closing place why s.noted) s)
-leaves-same place why s =
-    let with_closing : SameNotes s.noted (close_reported place why s.noted) =
-    told_why-same place why s.noted in
+pub leaves-same : (slot : ℕ) (why : Why) (s : TurnState)
+    → Same s (with_noted (start_closing slot why s.noted) s)
+leaves-same slot why s =
+    let with_closing : SameNotes s.noted (close_reported slot why s.noted) =
+    told_why-same slot why s.noted in
     record { device = refl; commands = with_closing.commands; failures = with_closing.failures }
 
-pub goes-same : (place : ℕ) (closing : CloseReason) (n : TurnData) → is_link_failed closing ≡ false
-    → SameNotes n (mark_closed place closing n)
-goes-same place closing n e =
-    let with_closing : SameNotes n (with_closing place closing n) = told-same place closing n e in
+pub goes-same : (slot : ℕ) (closing : CloseReason) (n : TurnData) → is_link_failed closing ≡ false
+    → SameNotes n (mark_closed slot closing n)
+goes-same slot closing n e =
+    let with_closing : SameNotes n (with_closing slot closing n) = told-same slot closing n e in
     record { commands = with_closing.commands; failures = with_closing.failures }
 
 commands-if : (n m : TurnData) (b : Bool) → m.commands ≡ n.commands
@@ -85,21 +85,21 @@ commands-if n m true e = refl
 commands-if n m false e = e
 
 -- whatever the reason
-pub goes-commands : (place : ℕ) (closing : CloseReason) (n : TurnData)
-    → (mark_closed place closing n).commands ≡ n.commands
-goes-commands place closing n =
-    commands-if n (record n { closed = n.closed ++ (place + 1, closing) ∷ [] })
-    (is_close_reported (state_in place n)) refl
+pub goes-commands : (slot : ℕ) (closing : CloseReason) (n : TurnData)
+    → (mark_closed slot closing n).commands ≡ n.commands
+goes-commands slot closing n =
+    commands-if n (record n { closed = n.closed ++ (slot + 1, closing) ∷ [] })
+    (is_close_reported (noted_state slot n)) refl
 
-pub parted-same : (place : ℕ) (s : TurnState) → Same s (after_closing place s)
-parted-same place s = record { device = refl; commands = refl; failures = refl }
+pub parted-same : (slot : ℕ) (s : TurnState) → Same s (after_closing slot s)
+parted-same slot s = record { device = refl; commands = refl; failures = refl }
 
 -- ---- the device's answer to octets
 
-left_by-same : (place : ℕ) (closed : Option (ℕ × Why)) (s : TurnState)
-    → Same s (after_device_close place closed s)
-left_by-same place None s = Same-refl s
-left_by-same place (Some closed) s = leaves-same place closed.1 s
+left_by-same : (slot : ℕ) (closed : Option (ℕ × Why)) (s : TurnState)
+    → Same s (after_device_close slot closed s)
+left_by-same slot None s = Same-refl s
+left_by-same slot (Some closed) s = leaves-same slot closed.1 s
 
 -- its commands are told besides
 pub record Commands (added : List Command) (s t : TurnState) : Type 0 where
@@ -107,15 +107,15 @@ pub record Commands (added : List Command) (s t : TurnState) : Type 0 where
   pub commands : t.noted.commands ≡ s.noted.commands ++ added
   pub failures : reports_failure t.noted.closed ≡ reports_failure s.noted.closed
 
-pub put_answer-commands : (place : ℕ) (answer : Result Step StepFault) (s : TurnState)
-    → Commands (commands_in answer) s (put_answer place answer s)
-put_answer-commands place (Err fault) s =
+pub put_answer-commands : (slot : ℕ) (answer : Result Step StepFault) (s : TurnState)
+    → Commands (answer_commands answer) s (put_answer slot answer s)
+put_answer-commands slot (Err fault) s =
     record { device = refl; commands = sym (append-nil s.noted.commands); failures = refl }
-put_answer-commands place (Ok step) s =
-    let left : TurnState = after_device_close place step.closed s in
+put_answer-commands slot (Ok step) s =
+    let left : TurnState = after_device_close slot step.closed s in
     let all : Same s (put_all step.sent (put_ended step.ended left)) =
     puts-all (Same s) (same-put s) step.sent (put_ended step.ended left)
-    (puts-ended (Same s) (same-put s) step.ended left (left_by-same place step.closed s)) in
+    (puts-ended (Same s) (same-put s) step.ended left (left_by-same slot step.closed s)) in
     record {
       device = all.device;
       commands = ap (λ l. l ++ step.commands) all.commands;

@@ -5,15 +5,15 @@ use Rattle.std.proofs.lemmas.List.{length-set}
 use Rattle.std.specs.List.{position_or_len}
 use Rattle.bay_server_turn.specs.AssociationStates.{after_full, is_full, is_draining}
 use Rattle.bay_server_turn.specs.declared.association_state.AssociationState.{AssociationState}
-use Rattle.bay_server_turn.specs.declared.association_state.AssociationState.TheVariants.{Full, Gone, Leaving, LeavingFull, Steady}
+use Rattle.bay_server_turn.specs.declared.association_state.AssociationState.TheVariants.{Full, Closed, Draining, DrainingFull, Steady}
 
 -- so many more, if this one is not gone
 abbrev pub and_one : AssociationState → ℕ → ℕ
 and_one Steady n = suc n
 and_one Full n = suc n
-and_one Leaving n = suc n
-and_one LeavingFull n = suc n
-and_one Gone n = n
+and_one Draining n = suc n
+and_one DrainingFull n = suc n
+and_one Closed n = n
 
 -- how many are not gone
 abbrev pub remaining : List AssociationState → ℕ
@@ -23,16 +23,16 @@ remaining (x ∷ xs) = and_one x (remaining xs)
 and_one-filled : (x : AssociationState) (n : ℕ) → and_one (after_full x) n ≡ and_one x n
 and_one-filled Steady n = refl
 and_one-filled Full n = refl
-and_one-filled Leaving n = refl
-and_one-filled LeavingFull n = refl
-and_one-filled Gone n = refl
+and_one-filled Draining n = refl
+and_one-filled DrainingFull n = refl
+and_one-filled Closed n = refl
 
 filled-leaving : (x : AssociationState) → is_draining x ≡ false → is_draining (after_full x) ≡ false
 filled-leaving Steady e = refl
 filled-leaving Full e = refl
-filled-leaving Leaving e = e
-filled-leaving LeavingFull e = e
-filled-leaving Gone e = refl
+filled-leaving Draining e = e
+filled-leaving DrainingFull e = e
+filled-leaving Closed e = refl
 
 filled-remaining : (l : List AssociationState) (j : ℕ)
     → remaining (set l j (after_full (get_or l j Steady))) ≡ remaining l
@@ -88,20 +88,20 @@ Fills-one l j = record {
 and_one-suc : (x : AssociationState) (n m : ℕ) → suc n ≡ m → suc (and_one x n) ≡ and_one x m
 and_one-suc Steady n m e = ap suc e
 and_one-suc Full n m e = ap suc e
-and_one-suc Leaving n m e = ap suc e
-and_one-suc LeavingFull n m e = ap suc e
-and_one-suc Gone n m e = e
+and_one-suc Draining n m e = ap suc e
+and_one-suc DrainingFull n m e = ap suc e
+and_one-suc Closed n m e = e
 
 -- one more is gone
 pub goes-remaining : (l : List AssociationState) (i : ℕ) → get_or l i Steady ≡ Full
-    → suc (remaining (set l i Gone)) ≡ remaining l
+    → suc (remaining (set l i Closed)) ≡ remaining l
 goes-remaining [] i e = absurd (cc)
 goes-remaining (x ∷ l) zero e = ap (λ y. remaining (y ∷ l)) (sym e)
 goes-remaining (x ∷ l) (suc i) e =
-    and_one-suc x (remaining (set l i Gone)) (remaining l) (goes-remaining l i e)
+    and_one-suc x (remaining (set l i Closed)) (remaining l) (goes-remaining l i e)
 
 pub goes-kept : (l : List AssociationState) (j i : ℕ) → is_draining (get_or l i Steady) ≡ false
-    → is_draining (get_or (set l j Gone) i Steady) ≡ false
+    → is_draining (get_or (set l j Closed) i Steady) ≡ false
 goes-kept [] j i e = e
 goes-kept (x ∷ l) zero zero e = refl
 goes-kept (x ∷ l) zero (suc i) e = e
@@ -109,7 +109,7 @@ goes-kept (x ∷ l) (suc j) zero e = e
 goes-kept (x ∷ l) (suc j) (suc i) e = goes-kept l j i e
 
 pub goes-left : (l : List AssociationState) (i : ℕ)
-    → is_draining (get_or (set l i Gone) i Steady) ≡ false
+    → is_draining (get_or (set l i Closed) i Steady) ≡ false
 goes-left [] i = refl
 goes-left (x ∷ l) zero = refl
 goes-left (x ∷ l) (suc i) = goes-left l i
@@ -117,9 +117,9 @@ goes-left (x ∷ l) (suc i) = goes-left l i
 and_one-le : (x : AssociationState) (n m : ℕ) → n ≤ m → and_one x n ≤ suc m
 and_one-le Steady n m h = omega arith
 and_one-le Full n m h = omega arith
-and_one-le Leaving n m h = omega arith
-and_one-le LeavingFull n m h = omega arith
-and_one-le Gone n m h = omega arith
+and_one-le Draining n m h = omega arith
+and_one-le DrainingFull n m h = omega arith
+and_one-le Closed n m h = omega arith
 
 pub remaining-le : (l : List AssociationState) → remaining l ≤ length l
 remaining-le [] = omega arith
@@ -129,7 +129,7 @@ remaining-le (x ∷ l) = and_one-le x (remaining l) (length l) (remaining-le l)
 abbrev pub AreCalm : List AssociationState → Type 0
 AreCalm l = (i : ℕ) → is_full (get_or l i Steady) ≡ false
 
-pub goes-calm : (l : List AssociationState) (j : ℕ) → AreCalm l → AreCalm (set l j Gone)
+pub goes-calm : (l : List AssociationState) (j : ℕ) → AreCalm l → AreCalm (set l j Closed)
 goes-calm [] j h i = h i
 goes-calm (x ∷ l) zero h zero = refl
 goes-calm (x ∷ l) zero h (suc i) = h (suc i)
@@ -147,9 +147,9 @@ all-steady i = steady-at 8 i
 all-gone : (x : AssociationState) (n : ℕ) → and_one x n ≤ 0 → (is_full x ≡ false) × (n ≤ 0)
 all-gone Steady n h = absurd (omega arith)
 all-gone Full n h = absurd (omega arith)
-all-gone Leaving n h = absurd (omega arith)
-all-gone LeavingFull n h = absurd (omega arith)
-all-gone Gone n h = (refl, h)
+all-gone Draining n h = absurd (omega arith)
+all-gone DrainingFull n h = absurd (omega arith)
+all-gone Closed n h = (refl, h)
 
 pub none-remains : (l : List AssociationState) → remaining l ≤ 0 → AreCalm l
 none-remains [] h i = refl
@@ -178,6 +178,6 @@ none-full l e =
 pub full-is : (x : AssociationState) → is_full x ≡ true → x ≡ Full
 full-is Steady e = absurd (cc)
 full-is Full e = refl
-full-is Leaving e = absurd (cc)
-full-is LeavingFull e = absurd (cc)
-full-is Gone e = absurd (cc)
+full-is Draining e = absurd (cc)
+full-is DrainingFull e = absurd (cc)
+full-is Closed e = absurd (cc)

@@ -6,7 +6,7 @@ use Rattle.bay_device.specs.declared.event.Event.{Event}
 use Rattle.bay_device.specs.declared.event.Why.{Why}
 use Rattle.bay_device.specs.declared.event.Why.TheVariants.{Ended, Fault, Memory}
 use Rattle.bay_server_turn.specs.AssociationStates.{is_close_reported}
-use Rattle.bay_server_turn.specs.Turns.{TurnData, TurnState, after_event, state_in, close_reported, with_closing}
+use Rattle.bay_server_turn.specs.Turns.{TurnData, TurnState, after_event, noted_state, close_reported, with_closing}
 use Rattle.bay_server_turn.specs.declared.turn_report.CloseReason.{CloseReason}
 use Rattle.bay_server_turn.specs.declared.turn_report.CloseReason.TheVariants as closing
 use Rattle.bay_server_turn_laws.specs.Causes.{has_some, is_queue_full, reports_close}
@@ -33,12 +33,12 @@ or-true false = refl
 -- ---- one entry more
 
 module _ (is : CloseReason → Bool) (p : ℕ) where
-  pub tells-other : (place : ℕ) (why : CloseReason) (l : List (ℕ × CloseReason)) → place ≢ p
-      → reports_close is (p + 1) (l ++ (place + 1, why) ∷ []) ≡ reports_close is (p + 1) l
-  tells-other place why l ne =
-      some-append _ l ((place + 1, why) ∷ [])
+  pub tells-other : (slot : ℕ) (why : CloseReason) (l : List (ℕ × CloseReason)) → slot ≢ p
+      → reports_close is (p + 1) (l ++ (slot + 1, why) ∷ []) ≡ reports_close is (p + 1) l
+  tells-other slot why l ne =
+      some-append _ l ((slot + 1, why) ∷ [])
       ∙ sym (or-none (reports_close is (p + 1) l) _
-      (ap (λ b. (b && is why) || false) (other-number place p ne)))
+      (ap (λ b. (b && is why) || false) (other-number slot p ne)))
 
   pub tells-own : (why : CloseReason) (l : List (ℕ × CloseReason))
       → reports_close is (p + 1) (l ++ (p + 1, why) ∷ []) ≡ (reports_close is (p + 1) l || is why)
@@ -63,40 +63,40 @@ module _ (p : ℕ) where
   abbrev FullIn : TurnData → Bool
   FullIn n = reports_close is_queue_full (p + 1) n.closed
 
-  entry-other : (b : Bool) (place : ℕ) (why : CloseReason) (n : TurnData) → place ≢ p
-      → FullIn (cond b n (record n { closed = n.closed ++ (place + 1, why) ∷ [] })) ≡ FullIn n
-  entry-other true place why n ne = refl
-  entry-other false place why n ne = tells-other is_queue_full p place why n.closed ne
+  entry-other : (b : Bool) (slot : ℕ) (why : CloseReason) (n : TurnData) → slot ≢ p
+      → FullIn (cond b n (record n { closed = n.closed ++ (slot + 1, why) ∷ [] })) ≡ FullIn n
+  entry-other true slot why n ne = refl
+  entry-other false slot why n ne = tells-other is_queue_full p slot why n.closed ne
 
   -- of another it is told
-  pub told-other : (place : ℕ) (why : CloseReason) (n : TurnData) → place ≢ p
-      → FullIn (with_closing place why n) ≡ FullIn n
-  told-other place why n ne = entry-other (is_close_reported (state_in place n)) place why n ne
+  pub told-other : (slot : ℕ) (why : CloseReason) (n : TurnData) → slot ≢ p
+      → FullIn (with_closing slot why n) ≡ FullIn n
+  told-other slot why n ne = entry-other (is_close_reported (noted_state slot n)) slot why n ne
 
   entry-own : (b : Bool) (why : CloseReason) (n : TurnData) → is_queue_full why ≡ false
       → FullIn (cond b n (record n { closed = n.closed ++ (p + 1, why) ∷ [] })) ≡ FullIn n
   entry-own true why n e = refl
   entry-own false why n e = tells-not is_queue_full p why n.closed e
 
-  entry-at : (place : ℕ) (why : CloseReason) (n : TurnData) → is_queue_full why ≡ false
-      → FullIn (with_closing place why n) ≡ FullIn n
-  entry-at place why n e = elim (cases_eq place p) [
+  entry-at : (slot : ℕ) (why : CloseReason) (n : TurnData) → is_queue_full why ≡ false
+      → FullIn (with_closing slot why n) ≡ FullIn n
+  entry-at slot why n e = elim (cases_eq slot p) [
     | inl same ↦ subst (λ q. FullIn (with_closing q why n) ≡ FullIn n) (sym same)
-        (entry-own (is_close_reported (state_in p n)) why n e)
-    | inr ne ↦ told-other place why n ne
+        (entry-own (is_close_reported (noted_state p n)) why n e)
+    | inr ne ↦ told-other slot why n ne
   ]
 
-  memory-at : (b : Bool) (place : ℕ) (n : TurnData)
-      → FullIn (cond b n (record n { memory = n.memory ++ (place + 1) ∷ [] })) ≡ FullIn n
-  memory-at true place n = refl
-  memory-at false place n = refl
+  memory-at : (b : Bool) (slot : ℕ) (n : TurnData)
+      → FullIn (cond b n (record n { memory = n.memory ++ (slot + 1) ∷ [] })) ≡ FullIn n
+  memory-at true slot n = refl
+  memory-at false slot n = refl
 
   -- the device closed one
-  pub why-not_full : (place : ℕ) (why : Why) (n : TurnData)
-      → FullIn (close_reported place why n) ≡ FullIn n
-  why-not_full place Ended n = entry-at place closing.Ended n refl
-  why-not_full place (Fault code) n = entry-at place (closing.Fault code) n refl
-  why-not_full place Memory n = memory-at (is_close_reported (state_in place n)) place n
+  pub why-not_full : (slot : ℕ) (why : Why) (n : TurnData)
+      → FullIn (close_reported slot why n) ≡ FullIn n
+  why-not_full slot Ended n = entry-at slot closing.Ended n refl
+  why-not_full slot (Fault code) n = entry-at slot (closing.Fault code) n refl
+  why-not_full slot Memory n = memory-at (is_close_reported (noted_state slot n)) slot n
 
   -- it was told before, or this is the reason
   pub full-by : (why : CloseReason) (n : TurnData) → FullIn (with_closing p why n) ≡ true
@@ -111,4 +111,4 @@ module _ (p : ℕ) where
 pub stepped-closed : (now : ℕ) (event : Event) (s : TurnState)
     → (after_event now event s).noted.closed ≡ s.noted.closed
 stepped-closed now event s =
-    keep-stepped (λ (n : TurnData). n.closed ≡ s.noted.closed) (λ place n e. e) now event s refl
+    keep-stepped (λ (n : TurnData). n.closed ≡ s.noted.closed) (λ slot n e. e) now event s refl

@@ -7,16 +7,16 @@ use Rattle.bay_device.specs.declared.event.Event.TheVariants.{Close, Open, Recv,
 use Rattle.bay_device.specs.declared.event.Step.{Step}
 use Rattle.bay_device.specs.declared.event.Why.TheVariants.{Ended}
 use Rattle.bay_device.specs.declared.fault.StepFault.{StepFault}
-use Rattle.bay_trace.specs.Resolving.{borrowed}
+use Rattle.bay_trace.specs.Resolving.{borrow_of}
 use Rattle.bay_server_turn.specs.Calls.{Call, Closes}
 use Rattle.bay_server_turn.specs.AssociationStates.{is_full, is_draining}
-use Rattle.bay_server_turn.specs.Turns.{ServerData, Script, TurnState, after_event, after_opening, after_closing, after_scan, after_turn, close_at_once, event_of, after_end, is_up, start_closing, put_answer, queue_at, queue_of, state_at, after_process_event, turn_begin, turn_calls, with_device, with_noted, with_queue}
+use Rattle.bay_server_turn.specs.Turns.{ServerData, Script, TurnState, after_event, after_opening, after_closing, after_scan, after_turn, close_at_once, event_of, after_end, is_open_at, start_closing, put_answer, server_queue, turn_queue, state_at, after_process_event, turn_begin, turn_calls, with_device, with_noted, with_queue}
 use Rattle.bay_server_turn.specs.declared.process_input.ProcessReport.{ProcessReport}
 use Rattle.bay_server_turn.specs.declared.association_state.AssociationState.{AssociationState}
-use Rattle.bay_server_turn.specs.declared.association_state.AssociationState.TheVariants.{Full, Gone, Leaving, LeavingFull, Steady}
+use Rattle.bay_server_turn.specs.declared.association_state.AssociationState.TheVariants.{Full, Closed, Draining, DrainingFull, Steady}
 use Rattle.bay_server_turn.specs.declared.turn_report.CloseReason.TheVariants as closing
-use Rattle.bay_server_turn_laws.specs.Events.{ChosenEvent, closing_of, done_at, turn_events}
-use Rattle.bay_server_turn_laws.specs.Flows.{IsInTime, IsTidy, LosesNothing, answer_to, sent_to, written_by_calls}
+use Rattle.bay_server_turn_laws.specs.Events.{ChosenEvent, closing_of, outcomes_at, turn_events}
+use Rattle.bay_server_turn_laws.specs.Flows.{IsInTime, IsTidy, LosesNothing, answer_to, replies_to, written_by_calls}
 use Rattle.bay_server_turn_laws.proofs.Acts.{Act, Asks, Breaks, Can, Fills, HangsUp, Hears, Offers, Parts, Scans, Tells, after, calls_by, events_by}
 use Rattle.bay_server_turn_laws.proofs.CallLemmas.{closing-says, taken-append}
 use Rattle.bay_server_turn_laws.proofs.CarryLemmas.{Carried, MayLose, device-carried, longer-behind, other-queue, other-standing, put_quiet-carried, put_told-carried}
@@ -31,7 +31,7 @@ use Rattle.bay_server_turn_laws.proofs.WalkLemmas.{Begins, Opening, Quietly, bef
 
 -- what is carried, by the calls and the answers up to here
 abbrev pub Flowing : ℕ → ℕ → List ℕ → Invariant
-Flowing now p held c e r s = Carried now p held (written_by_calls (p + 1) c) (sent_to (p + 1) r) s
+Flowing now p held c e r s = Carried now p held (written_by_calls (p + 1) c) (replies_to (p + 1) r) s
 
 module _ (most now p : ℕ) (held : List ℕ) (low : p < 8) (past : now ≤ last_moment) (t u : List ℕ)
   where
@@ -39,7 +39,7 @@ module _ (most now p : ℕ) (held : List ℕ) (low : p < 8) (past : now ≤ last
     abbrev Carrying : TurnState → Act → Type 0
     Carrying s a = Can most a s
         → Carried now p held (t ++ written_by_calls (p + 1) (calls_by a))
-        (u ++ sent_to (p + 1) (answers_to now (events_by a) s)) (after now a s)
+        (u ++ replies_to (p + 1) (answers_to now (events_by a) s)) (after now a s)
 
     carried-as : (taken sent : List ℕ) (s : TurnState) → Carried now p held taken sent s
         → (more further : List ℕ) → taken ≡ more → sent ≡ further
@@ -52,7 +52,7 @@ module _ (most now p : ℕ) (held : List ℕ) (low : p < 8) (past : now ≤ last
         → written_by_calls (p + 1) calls ≡ []
         → Carried now p held t (u ++ answer_to (p + 1) answer) s
         → Carried now p held (t ++ written_by_calls (p + 1) calls)
-        (u ++ sent_to (p + 1) (answer ∷ [])) s
+        (u ++ replies_to (p + 1) (answer ∷ [])) s
     event-carried calls answer s none c =
         carried-as t (u ++ answer_to (p + 1) answer) s c _ _
         (sym (append-nil t) ∙ ap (λ l. t ++ l) (sym none))
@@ -78,7 +78,7 @@ module _ (most now p : ℕ) (held : List ℕ) (low : p < 8) (past : now ≤ last
       ]
 
       -- events that leave the association as open as it is
-      stepped : (event : Event) → up_at p (outcome None now event s.server.device).after ≡ is_up p s
+      stepped : (event : Event) → up_at p (outcome None now event s.server.device).after ≡ is_open_at p s
           → Carried now p held t u (with_device (outcome None now event s.server.device).after s)
       stepped event up = device-carried now p held t u _ s (moment None event) up c
 
@@ -88,14 +88,14 @@ module _ (most now p : ℕ) (held : List ℕ) (low : p < 8) (past : now ≤ last
           (carried-as t u s c _ _ (sym (append-nil t)) refl)
       act-carried (Hears i choice octets) = same-place (λ q. Hears q choice octets) i
           (λ can.
-          let o = outcome choice now (Recv (p + 1) (borrowed octets)) s.server.device in
+          let o = outcome choice now (Recv (p + 1) (borrow_of octets)) s.server.device in
           answered p o (ready-here most now p held t u o.answer o.after s low c
-          (moment choice (Recv (p + 1) (borrowed octets))) can
+          (moment choice (Recv (p + 1) (borrow_of octets))) can
           (recv-outcome-here choice now p octets s.server.device low can.up)))
           (λ ne can.
-          let o = outcome choice now (Recv (i + 1) (borrowed octets)) s.server.device in
+          let o = outcome choice now (Recv (i + 1) (borrow_of octets)) s.server.device in
           answered i o (ready-far now p i held t u o.answer (with_device o.after s) ne
-          (device-carried now p held t u o.after s (moment choice (Recv (i + 1) (borrowed octets)))
+          (device-carried now p held t u o.after s (moment choice (Recv (i + 1) (borrow_of octets)))
           (recv-outcome-far choice now i p octets s.server.device ne) c)))
         where
           answered : (q : ℕ) (o : Outcome)
@@ -121,7 +121,7 @@ module _ (most now p : ℕ) (held : List ℕ) (low : p < 8) (past : now ≤ last
               Carried now p held t u
               (with_device o.after (with_noted (start_closing q Ended s.noted) s)))
               → Carried now p held (t ++ written_by_calls (p + 1) (calls_by (HangsUp q)))
-              (u ++ sent_to (p + 1) (answers_to now (closing_of q ∷ []) s)) (after_end now q s)
+              (u ++ replies_to (p + 1) (answers_to now (closing_of q ∷ []) s)) (after_end now q s)
           closed q d =
               let o = outcome None now (Close (q + 1)) s.server.device in
               event-carried (calls_by (HangsUp q)) o.answer (after_end now q s) refl
@@ -172,7 +172,7 @@ module _ (most now p : ℕ) (held : List ℕ) (low : p < 8) (past : now ≤ last
           (parted-here now p held t u s can.left can.failed calls low c o can.leaves))
           (λ ne can. call-carried (calls ++ Closes (i + 1) ∷ []) [] (after_closing i s)
           (closing-says (p + 1) i _ _ [] calls (can.offered.far p ne)).takes
-          (carried-as t u _ (other-standing now p i held t u Gone (with_queue i [] s) ne
+          (carried-as t u _ (other-standing now p i held t u Closed (with_queue i [] s) ne
           (other-queue now p i held t u [] s ne c)) _ _ (sym (append-nil t)) refl))
 
 -- ---- a whole turn
@@ -181,7 +181,7 @@ module _ (most now p : ℕ) (low : p < 8) (past : now ≤ last_moment) where
   pub act-flows : (held : List ℕ) → IsKept now most (Flowing now p held)
   act-flows held a c e r s sized can i =
       carried-as most now p held low past [] [] _ _ (after now a s)
-      (act-carried most now p held low past (written_by_calls (p + 1) c) (sent_to (p + 1) r) s i a
+      (act-carried most now p held low past (written_by_calls (p + 1) c) (replies_to (p + 1) r) s i a
       can) _ _
       (sym (taken-append (p + 1) c (calls_by a)))
       (sym (sent-append (p + 1) r (answers_to now (events_by a) s)))
@@ -189,19 +189,19 @@ module _ (most now p : ℕ) (low : p < 8) (past : now ≤ last_moment) where
   pub begins-flowing : (h : ServerData) (s : TurnState) (c : List Call) (e : List ChosenEvent)
       → IsTidy h
       → h.device.moment ≤ now → Begins now most h s c e
-      → Flowing now p (queue_at p h) c e (done_at now e h.device).answers s
+      → Flowing now p (server_queue p h) c e (outcomes_at now e h.device).answers s
   begins-flowing h s c e tidy before Quietly =
       begun-carried now p h h.device low tidy before (λ f. f)
-  begins-flowing h s c e tidy before (Opening place from free) =
-      let o = outcome None now (Open (place + 1)) h.device in
-      event-carried most now p (queue_at p h) low past [] [] c o.answer
-      (after_opening now place (turn_begin h)) refl
-      (put_quiet-carried now p (queue_at p h) [] [] o.answer (with_device o.after (turn_begin h))
+  begins-flowing h s c e tidy before (Opening slot from free) =
+      let o = outcome None now (Open (slot + 1)) h.device in
+      event-carried most now p (server_queue p h) low past [] [] c o.answer
+      (after_opening now slot (turn_begin h)) refl
+      (put_quiet-carried now p (server_queue p h) [] [] o.answer (with_device o.after (turn_begin h))
       low
-      (outcome-quiet None now (Open (place + 1)) h.device tt)
+      (outcome-quiet None now (Open (slot + 1)) h.device tt)
       (begun-carried now p h o.after low tidy
-      (outcome-moment None now (Open (place + 1)) h.device before)
-      (open-outcome-up None now (place + 1) p h.device)))
+      (outcome-moment None now (Open (slot + 1)) h.device before)
+      (open-outcome-up None now (slot + 1) p h.device)))
 
 kept-at : (x : AssociationState) (u : Bool) (q lost : List ℕ) → MayLose x u q lost
     → is_full x ≡ false
@@ -209,9 +209,9 @@ kept-at : (x : AssociationState) (u : Bool) (q lost : List ℕ) → MayLose x u 
 kept-at Steady true q lost m e f = inl (sym (append-nil q) ∙ ap (λ l. q ++ l) (sym m))
 kept-at Steady false q lost m e f = inr (m, refl)
 kept-at Full u q lost m e f = absurd (cc)
-kept-at Leaving u q lost m e f = absurd (cc)
-kept-at LeavingFull u q lost m e f = absurd (cc)
-kept-at Gone u q lost m e f = inr m
+kept-at Draining u q lost m e f = absurd (cc)
+kept-at DrainingFull u q lost m e f = absurd (cc)
+kept-at Closed u q lost m e f = inr m
 
 empty-at : (x : AssociationState) (u : Bool) (q lost : List ℕ) → MayLose x u q lost
     → is_full x ≡ false
@@ -219,9 +219,9 @@ empty-at : (x : AssociationState) (u : Bool) (q lost : List ℕ) → MayLose x u
 empty-at Steady true q lost m e f g = absurd (cc)
 empty-at Steady false q lost m e f g = m
 empty-at Full u q lost m e f g = absurd (cc)
-empty-at Leaving u q lost m e f g = absurd (cc)
-empty-at LeavingFull u q lost m e f g = absurd (cc)
-empty-at Gone u q lost m e f g = m.0
+empty-at Draining u q lost m e f g = absurd (cc)
+empty-at DrainingFull u q lost m e f g = absurd (cc)
+empty-at Closed u q lost m e f g = m.0
 
 pub loses-nothing : (now : ℕ) (given : ProcessReport) (script : Script) (h : ServerData) → IsTidy h
     → IsInTime now h → length script.offers ≡ 8 → LosesNothing now given script h
@@ -232,9 +232,9 @@ loses-nothing now given script h tidy time offers =
     let events = turn_events now given script h in
     let m = turn-is-acts now most given script h (omega arith) (omega arith) in
     let flowing : (p : ℕ) → p < 8
-    → Flowing now p (queue_at p h) calls events (done_at now events h.device).answers t =
-    λ p low. turned-keeps now most (Flowing now p (queue_at p h))
-    (act-flows most now p low time.not_past (queue_at p h)) h script.accepted t calls events m
+    → Flowing now p (server_queue p h) calls events (outcomes_at now events h.device).answers t =
+    λ p low. turned-keeps now most (Flowing now p (server_queue p h))
+    (act-flows most now p low time.not_past (server_queue p h)) h script.accepted t calls events m
     (begins-flowing most now p low time.not_past h m.start m.calls m.events tidy time.not_before
     m.begins) in
     let left : (p : ℕ) → p < 8 → is_draining (state_at p t) ≡ false =
@@ -244,18 +244,18 @@ loses-nothing now given script h tidy time offers =
       flows = λ p low.
           let f = (flowing p low).carries in
           record {
-            rest = queue_of p t ++ f.lost;
+            rest = turn_queue p t ++ f.lost;
             is = f.is;
-            kept = kept-at (state_at p t) (is_up p t) (queue_of p t) f.lost f.may
+            kept = kept-at (state_at p t) (is_open_at p t) (turn_queue p t) f.lost f.may
                 (m.passes.calm p) (left p low);
           };
-      full = λ p low told. longer-behind 262144 (queue_of p t) (flowing p low).carries.lost
-          ((flowing p low).full told);
+      full = λ p low reported. longer-behind 262144 (turn_queue p t) (flowing p low).carries.lost
+          ((flowing p low).full reported);
       tidy = record {
         sized = (flowing 0 (omega arith)).sound.queues;
         empty = λ p low down.
             let f = (flowing p low).carries in
-            empty-at (state_at p t) (is_up p t) (queue_of p t) f.lost f.may
+            empty-at (state_at p t) (is_open_at p t) (turn_queue p t) f.lost f.may
             (m.passes.calm p) (left p low) down;
       };
     }

@@ -16,7 +16,7 @@ use Rattle.bay_device.specs.declared.event.Step.{Step}
 use Rattle.bay_device.specs.declared.event.Why.{Why}
 use Rattle.bay_device.specs.declared.fault.StepFault.{StepFault}
 use Rattle.bay_device.specs.declared.fault.StepFault.TheVariants.{MomentTooLarge, TimeWentBack}
-use Rattle.bay_trace.specs.Resolving.{borrowed}
+use Rattle.bay_trace.specs.Resolving.{borrow_of}
 use Rattle.bay_server_turn.specs.Turns.{event_of}
 use Rattle.bay_server_turn.specs.declared.process_input.ProcessEvent.{ProcessEvent}
 use Rattle.bay_server_turn.specs.declared.process_input.ProcessEvent.TheVariants as process
@@ -25,10 +25,10 @@ use Rattle.bay_server_turn_laws.proofs.QuietLemmas.{at_any_moment}
 -- ---- lists of connections
 
 abbrev pub up_in : ℕ → List (Option ConnectionState) → Bool
-up_in place talks = is_some (unwrap_or (slice_get talks place) None)
+up_in slot makes = is_some (unwrap_or (slice_get makes slot) None)
 
 abbrev pub up_at : ℕ → State → Bool
-up_at place s = up_in place s.connections
+up_at slot s = up_in slot s.connections
 
 none-down : (ts : List (Option ConnectionState)) (i : ℕ) → up_in i (set ts i None) ≡ false
 none-down [] i = refl
@@ -60,13 +60,13 @@ some-up (x ∷ ts) (suc i) t e = some-up ts i t e
 
 -- ---- numbers of associations
 
-pub place-of : (place : ℕ) → place < 8 → slot_of (place + 1) ≡ Some place
-place-of place h =
-    let low : nat_lt 0 (place + 1) ≡ true = lt-ltb 0 (place + 1) (omega arith) in
-    let high : nat_lt (place + 1) 9 ≡ true = lt-ltb (place + 1) 9 (omega arith) in
-    let same : place + 1 - 1 ≡ place = omega arith in
-    ap (λ b. if b && nat_lt (place + 1) 9 then Some (place + 1 - 1) else None) low
-    ∙ ap (λ b. if b then Some (place + 1 - 1) else None) high ∙ ap (λ n. Some n) same
+pub place-of : (slot : ℕ) → slot < 8 → slot_of (slot + 1) ≡ Some slot
+slot-of slot h =
+    let low : nat_lt 0 (slot + 1) ≡ true = lt-ltb 0 (slot + 1) (omega arith) in
+    let high : nat_lt (slot + 1) 9 ≡ true = lt-ltb (slot + 1) 9 (omega arith) in
+    let same : slot + 1 - 1 ≡ slot = omega arith in
+    ap (λ b. if b && nat_lt (slot + 1) 9 then Some (slot + 1 - 1) else None) low
+    ∙ ap (λ b. if b then Some (slot + 1 - 1) else None) high ∙ ap (λ n. Some n) same
 
 number-if : (b : Bool) (a i : ℕ) → (nat_lt 0 a ≡ false → b ≡ false)
     → (if b then Some (a - 1) else None) ≡ Some i → a ≡ i + 1
@@ -75,9 +75,9 @@ number-if true (suc a) i f e = let same : suc a - 1 ≡ i =
     ap (λ (o : Option ℕ). unwrap_or o (suc a - 1)) e in omega (arith, same)
 number-if false a i f e = absurd (cc)
 
-pub number-of : (a place : ℕ) → slot_of a ≡ Some place → a ≡ place + 1
-number-of a place e =
-    number-if (nat_lt 0 a && nat_lt a 9) a place (and_left (nat_lt 0 a) (nat_lt a 9)) e
+pub number-of : (a slot : ℕ) → slot_of a ≡ Some slot → a ≡ slot + 1
+number-of a slot e =
+    number-if (nat_lt 0 a && nat_lt a 9) a slot (and_left (nat_lt 0 a) (nat_lt a 9)) e
 
 -- ---- what keeps the connections
 
@@ -138,12 +138,12 @@ set-open (Some i) p t s e = some-down s.connections i p t e
 
 -- ---- moments
 
-open-moment : (now a : ℕ) (s : State) (place : Option ℕ) (talk : Option ConnectionState)
+open-moment : (now a : ℕ) (s : State) (slot : Option ℕ) (talk : Option ConnectionState)
     → s.moment ≤ now
-    → (open_outcome now a s place talk).after.moment ≤ now
+    → (open_outcome now a s slot talk).after.moment ≤ now
 open-moment now a s None talk h = h
-open-moment now a s (Some place) (Some talk) h = h
-open-moment now a s (Some place) None h = let e =
+open-moment now a s (Some slot) (Some talk) h = h
+open-moment now a s (Some slot) None h = let e =
     set-moment (slot_of a) (Some (initial_connection a)) (device_at now s) in omega (arith, e)
 
 close-moment : (now a : ℕ) (s : State) (talk : Option ConnectionState) → s.moment ≤ now
@@ -251,11 +251,11 @@ scan-outcome-up choice now p s =
 
 -- ---- an association is opened
 
-open-up : (now a p : ℕ) (s : State) (place : Option ℕ) (talk : Option ConnectionState)
-    → NotClosed p s (open_outcome now a s place talk).after
+open-up : (now a p : ℕ) (s : State) (slot : Option ℕ) (talk : Option ConnectionState)
+    → NotClosed p s (open_outcome now a s slot talk).after
 open-up now a p s None talk e = e
-open-up now a p s (Some place) (Some talk) e = e
-open-up now a p s (Some place) None e =
+open-up now a p s (Some slot) (Some talk) e = e
+open-up now a p s (Some slot) None e =
     set-open (slot_of a) p (initial_connection a) (device_at now s) e
 
 pub open-outcome-up : (choice : Option ℕ) (now a p : ℕ) (s : State)
@@ -355,9 +355,9 @@ recv-far choice now i p (octet ∷ octets) s (Some talk) n =
     ∙ ap (up_in p) keeps.connections
 
 pub recv-outcome-far : (choice : Option ℕ) (now i p : ℕ) (octets : List ℕ) (s : State) → i ≢ p
-    → up_at p (outcome choice now (Recv (i + 1) (borrowed octets)) s).after ≡ up_at p s
+    → up_at p (outcome choice now (Recv (i + 1) (borrow_of octets)) s).after ≡ up_at p s
 recv-outcome-far choice now i p octets s n =
-    at_any_moment (λ o. up_at p o.after ≡ up_at p s) choice now (Recv (i + 1) (borrowed octets)) s
+    at_any_moment (λ o. up_at p o.after ≡ up_at p s) choice now (Recv (i + 1) (borrow_of octets)) s
     (λ f. refl)
     (recv-far choice now i p octets s (connection_at (slot_of (i + 1)) s) n)
 
@@ -402,9 +402,9 @@ recv-here choice now p (octet ∷ octets) s (Some talk) h up =
 
 pub recv-outcome-here : (choice : Option ℕ) (now p : ℕ) (octets : List ℕ) (s : State) → p < 8
     → up_at p s ≡ true
-    → HeardOpen p (outcome choice now (Recv (p + 1) (borrowed octets)) s).answer
-    (outcome choice now (Recv (p + 1) (borrowed octets)) s).after
+    → HeardOpen p (outcome choice now (Recv (p + 1) (borrow_of octets)) s).answer
+    (outcome choice now (Recv (p + 1) (borrow_of octets)) s).after
 recv-outcome-here choice now p octets s h up =
-    at_any_moment (λ o. HeardOpen p o.answer o.after) choice now (Recv (p + 1) (borrowed octets)) s
+    at_any_moment (λ o. HeardOpen p o.answer o.after) choice now (Recv (p + 1) (borrow_of octets)) s
     (λ f. up)
     (recv-here choice now p octets s (connection_at (slot_of (p + 1)) s) h up)

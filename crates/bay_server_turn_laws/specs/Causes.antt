@@ -5,12 +5,12 @@ use Rattle.bay_device.specs.declared.event.Step.{Step}
 use Rattle.bay_device.specs.declared.event.Why.{Why}
 use Rattle.bay_device.specs.declared.event.Why.TheVariants as why
 use Rattle.bay_device.specs.declared.fault.StepFault.{StepFault}
-use Rattle.bay_server_turn.specs.Calls.{Call, Accepts, Reads, Writes, Closes, ReadOutcome, Octets, Silence, Over, Broken, is_broken}
+use Rattle.bay_server_turn.specs.Calls.{Call, Accepts, Reads, Writes, Closes, ReadOutcome, Octets, Silence, StreamEnd, Failure, is_failure}
 use Rattle.bay_server_turn.specs.Turns.{ServerData, Script, turn_calls, after_turn}
 use Rattle.bay_server_turn.specs.declared.process_input.ProcessReport.{ProcessReport}
 use Rattle.bay_server_turn.specs.declared.turn_report.CloseReason.{CloseReason}
 use Rattle.bay_server_turn.specs.declared.turn_report.CloseReason.TheVariants.{Ended, Fault, QueueFull, LinkFailed}
-use Rattle.bay_server_turn_laws.specs.Events.{done_at, turn_events}
+use Rattle.bay_server_turn_laws.specs.Events.{outcomes_at, turn_events}
 use Rattle.bay_server_turn_laws.specs.Faults.{is_link_failed}
 use Rattle.bay_server_turn_laws.specs.CloseReports.{closed_in}
 
@@ -24,7 +24,7 @@ has_some f (x ∷ xs) = f x || has_some f xs
 -- a read or a write of it failed
 abbrev pub fails_for : ℕ → Call → Bool
 fails_for a (Accepts b taken) = false
-fails_for a (Reads b room what) = b == a && is_broken what
+fails_for a (Reads b room what) = b == a && is_failure what
 fails_for a (Writes b octets taken) = b == a && is_none taken
 fails_for a (Closes b) = false
 
@@ -32,8 +32,8 @@ fails_for a (Closes b) = false
 abbrev pub is_over : ReadOutcome → Bool
 is_over (Octets octets) = false
 is_over Silence = false
-is_over Over = true
-is_over Broken = false
+is_over StreamEnd = true
+is_over Failure = false
 
 -- a read of it brought the end: its client sends no more
 abbrev pub ends_for : ℕ → Call → Bool
@@ -98,8 +98,8 @@ reports_close is a closed =
     has_some (λ (entry : ℕ × CloseReason). entry.0 == a && is entry.1) closed
 
 -- the number of the association is one of the numbers
-abbrev pub names : ℕ → List ℕ → Bool
-names a numbers = has_some (λ number. number == a) numbers
+abbrev pub has_number : ℕ → List ℕ → Bool
+has_number a numbers = has_some (λ number. number == a) numbers
 
 -- ---- the law
 
@@ -108,13 +108,13 @@ names a numbers = has_some (λ number. number == a) numbers
 -- it closed it for that. A failed link is reported exactly if a call failed, and neither the client
 -- nor the device had closed the association; and a full queue only if nothing else closed it.
 pub record IsCaused (failed over : Bool) (reasons : List Why) (a : ℕ)
-    (told : List (ℕ × CloseReason))
+    (reported : List (ℕ × CloseReason))
     (memory : List ℕ) : Type 0 where
-  pub ended : reports_close is_ended a told ≡ (over || has_some is_end reasons)
-  pub fault : (code : ℕ) → reports_close (is_fault code) a told ≡ has_some (is_refusal code) reasons
-  pub lacked : names a memory ≡ has_some is_memory reasons
-  pub link : reports_close is_link_failed a told ≡ (failed && not (over || has_reason reasons))
-  pub queue : reports_close is_queue_full a told ≡ true
+  pub ended : reports_close is_ended a reported ≡ (over || has_some is_end reasons)
+  pub fault : (code : ℕ) → reports_close (is_fault code) a reported ≡ has_some (is_refusal code) reasons
+  pub out_of_memory : has_number a memory ≡ has_some is_memory reasons
+  pub link : reports_close is_link_failed a reported ≡ (failed && not (over || has_reason reasons))
+  pub queue : reports_close is_queue_full a reported ≡ true
       → (failed ≡ false) × (over ≡ false) × (reasons ≡ [])
 
 -- What a turn reports of an association is caused so, by the calls of the turn and the device's
@@ -123,5 +123,5 @@ abbrev pub HasItsCause : ℕ → ProcessReport → Script → ServerData → ℕ
 HasItsCause now given script h a =
     IsCaused (has_some (fails_for a) (turn_calls now given script h))
     (has_some (ends_for a) (turn_calls now given script h))
-    (reasons_of a (done_at now (turn_events now given script h) h.device).answers) a
+    (reasons_of a (outcomes_at now (turn_events now given script h) h.device).answers) a
     (after_turn now given script h).noted.closed (after_turn now given script h).noted.memory

@@ -6,19 +6,19 @@ use Rattle.bay_device.specs.declared.fault.StepFault.{StepFault}
 use Rattle.bay_server_turn.specs.declared.turn_report.CloseReason.{CloseReason}
 
 -- one more, if the test is true
-abbrev pub and_if : Bool → ℕ → ℕ
-and_if true n = suc n
-and_if false n = n
+abbrev pub plus_if : Bool → ℕ → ℕ
+plus_if true n = suc n
+plus_if false n = n
 
 -- how many of the closings are of an association
 abbrev pub closings_of : ℕ → List (ℕ × CloseReason) → ℕ
 closings_of a [] = 0
-closings_of a (closing ∷ closings) = and_if (closing.0 == a) (closings_of a closings)
+closings_of a (closing ∷ closings) = plus_if (closing.0 == a) (closings_of a closings)
 
 -- how often its number is in a list
 abbrev pub times_in : ℕ → List ℕ → ℕ
 times_in a [] = 0
-times_in a (number ∷ numbers) = and_if (number == a) (times_in a numbers)
+times_in a (number ∷ numbers) = plus_if (number == a) (times_in a numbers)
 
 -- how often its closing is reported: with its reason, or as out of memory
 abbrev pub times_reported : ℕ → List (ℕ × CloseReason) → List ℕ → ℕ

@@ -6,11 +6,11 @@ use Rattle.bay_device.specs.declared.event.Event.TheVariants.{Open, Recv, Close,
 use Rattle.bay_device.specs.declared.event.Sent.{Sent}
 use Rattle.bay_device.specs.declared.event.Step.{Step}
 use Rattle.bay_device.specs.declared.fault.StepFault.{StepFault}
-use Rattle.bay_server_turn.specs.Calls.{Call, Accepts, Reads, Writes, Closes, ReadOutcome, Octets, Silence, Over, Broken}
-use Rattle.bay_server_turn.specs.Turns.{ServerData, Script, is_up_in, queue_at, turn_calls, after_turn}
+use Rattle.bay_server_turn.specs.Calls.{Call, Accepts, Reads, Writes, Closes, ReadOutcome, Octets, Silence, StreamEnd, Failure}
+use Rattle.bay_server_turn.specs.Turns.{ServerData, Script, has_open, server_queue, turn_calls, after_turn}
 use Rattle.bay_server_turn.specs.declared.process_input.ProcessReport.{ProcessReport}
 use Rattle.bay_server_turn_laws.specs.Causes.{is_queue_full, reports_close}
-use Rattle.bay_server_turn_laws.specs.Events.{ChosenEvent, done_at, turn_events}
+use Rattle.bay_server_turn_laws.specs.Events.{ChosenEvent, outcomes_at, turn_events}
 
 -- ---- what the link takes
 
@@ -30,16 +30,16 @@ written_by_calls a (call ∷ calls) = written_by_call a call ++ written_by_calls
 -- ---- what the link reads
 
 -- the octets of a read
-abbrev pub octets_in : ReadOutcome → List ℕ
-octets_in (Octets octets) = octets
-octets_in Silence = []
-octets_in Over = []
-octets_in Broken = []
+abbrev pub octets_of_read : ReadOutcome → List ℕ
+octets_of_read (Octets octets) = octets
+octets_of_read Silence = []
+octets_of_read StreamEnd = []
+octets_of_read Failure = []
 
 -- the octets that a call read for an association
 abbrev pub read_by_call : ℕ → Call → List ℕ
 read_by_call a (Accepts b taken) = []
-read_by_call a (Reads b room what) = if b == a then octets_in what else []
+read_by_call a (Reads b room what) = if b == a then octets_of_read what else []
 read_by_call a (Writes b octets taken) = []
 read_by_call a (Closes b) = []
 
@@ -49,21 +49,21 @@ read_by_calls a [] = []
 read_by_calls a (call ∷ calls) = read_by_call a call ++ read_by_calls a calls
 
 -- the octets of an association that an event has
-abbrev pub brought_by : ℕ → Event → List ℕ
-brought_by a (Recv b octets) = if b == a then octets.now else []
-brought_by a (Open b) = []
-brought_by a (Close b) = []
-brought_by a (Contact k position) = []
-brought_by a (Input k value) = []
-brought_by a (Measure k field value) = []
-brought_by a (BadMeasure k field) = []
-brought_by a Lost = []
-brought_by a Scan = []
+abbrev pub event_octets : ℕ → Event → List ℕ
+event_octets a (Recv b octets) = if b == a then octets.now else []
+event_octets a (Open b) = []
+event_octets a (Close b) = []
+event_octets a (Contact k position) = []
+event_octets a (Input k value) = []
+event_octets a (Measure k field value) = []
+event_octets a (BadMeasure k field) = []
+event_octets a Lost = []
+event_octets a Scan = []
 
 -- the octets of an association that events have, in their order
 abbrev pub received_of : ℕ → List ChosenEvent → List ℕ
 received_of a [] = []
-received_of a (e ∷ es) = brought_by a e.1 ++ received_of a es
+received_of a (e ∷ es) = event_octets a e.1 ++ received_of a es
 
 -- ---- what the device sends
 
@@ -72,9 +72,9 @@ abbrev pub octets_to : ℕ → Sent → List ℕ
 octets_to a sent = if sent.association == a then sent.octets else []
 
 -- the octets for an association, of all that is sent
-abbrev pub all_to : ℕ → List Sent → List ℕ
-all_to a [] = []
-all_to a (sent ∷ more) = octets_to a sent ++ all_to a more
+abbrev pub sends_to : ℕ → List Sent → List ℕ
+sends_to a [] = []
+sends_to a (sent ∷ more) = octets_to a sent ++ sends_to a more
 
 -- the octets for an association, of the report that an operation ended
 abbrev pub end_to : ℕ → Option Sent → List ℕ
@@ -84,19 +84,19 @@ end_to a (Some sent) = octets_to a sent
 -- what an answer sends to an association: the report that an operation ended comes first
 abbrev pub answer_to : ℕ → Result Step StepFault → List ℕ
 answer_to a (Err fault) = []
-answer_to a (Ok step) = end_to a step.ended ++ all_to a step.sent
+answer_to a (Ok step) = end_to a step.ended ++ sends_to a step.sent
 
 -- what answers send to an association, in their order
-abbrev pub sent_to : ℕ → List (Result Step StepFault) → List ℕ
-sent_to a [] = []
-sent_to a (answer ∷ answers) = answer_to a answer ++ sent_to a answers
+abbrev pub replies_to : ℕ → List (Result Step StepFault) → List ℕ
+replies_to a [] = []
+replies_to a (answer ∷ answers) = answer_to a answer ++ replies_to a answers
 
 -- ---- the law
 
 -- There is a queue for each association, and that of one that is not open is empty.
 pub record IsTidy (h : ServerData) : Type 0 where
   pub sized : length h.queues ≡ associations
-  pub empty : (place : ℕ) → place < associations → is_up_in place h ≡ false → queue_at place h ≡ []
+  pub empty : (slot : ℕ) → slot < associations → has_open slot h ≡ false → server_queue slot h ≡ []
 
 -- the moment is one that the device does not refuse
 pub record IsInTime (now : ℕ) (h : ServerData) : Type 0 where
@@ -112,18 +112,18 @@ pub record Flows (taken held sent holds : List ℕ) (up : Bool) : Type 0 where
 
 -- `Flows` holds for an association in a turn.
 abbrev pub FlowsAt : ℕ → ProcessReport → Script → ServerData → ℕ → Type 0
-FlowsAt now given script h place =
-    Flows (written_by_calls (place + 1) (turn_calls now given script h)) (queue_at place h)
-    (sent_to (place + 1) (done_at now (turn_events now given script h) h.device).answers)
-    (queue_at place (after_turn now given script h).server)
-    (is_up_in place (after_turn now given script h).server)
+FlowsAt now given script h slot =
+    Flows (written_by_calls (slot + 1) (turn_calls now given script h)) (server_queue slot h)
+    (replies_to (slot + 1) (outcomes_at now (turn_events now given script h) h.device).answers)
+    (server_queue slot (after_turn now given script h).server)
+    (has_open slot (after_turn now given script h).server)
 
 -- `Flows` holds for each association, and the server is tidy after the turn; if a full queue is
 -- reported, the link left more octets of this association than there is room for.
 pub record LosesNothing (now : ℕ) (given : ProcessReport) (script : Script) (h : ServerData)
     : Type 0 where
-  pub flows : (place : ℕ) → place < associations → FlowsAt now given script h place
-  pub full : (place : ℕ) (low : place < associations)
-      → reports_close is_queue_full (place + 1) (after_turn now given script h).noted.closed ≡ true
-      → 262144 < length (flows place low).rest
+  pub flows : (slot : ℕ) → slot < associations → FlowsAt now given script h slot
+  pub full : (slot : ℕ) (low : slot < associations)
+      → reports_close is_queue_full (slot + 1) (after_turn now given script h).noted.closed ≡ true
+      → 262144 < length (flows slot low).rest
   pub tidy : IsTidy (after_turn now given script h).server

@@ -2,13 +2,13 @@
 ghost use Rattle.std.specs.Prelude.{◌≡◌, ℕ, ◌+◌, ◌-◌, ◌^◌, ◌<◌, ◌≤◌, [], true, List, Option, length, replicate};
 ghost use Rattle.bay_device.specs.Device.{State};
 ghost use Rattle.bay_device.specs.Outcomes.{associations};
-ghost use Rattle.bay_server_turn.specs.Calls.{Called};
+ghost use Rattle.bay_server_turn.specs.Calls.{CountedCall};
 ghost use Rattle.bay_server_turn.specs.Served.{Serves};
 ghost use Rattle.bay_server_turn.specs.Turns.{ServerData, Script, after_turn, turn_calls};
 ghost use Rattle.bay_server_turn.specs.declared.process_input.ProcessReport.{ProcessReport};
 ghost use Rattle.bay_server_turn.specs.declared.turn_report.Turn.{Turn};
 ghost use Rattle.bay_server_turn_laws.specs.Causes.{HasItsCause};
-ghost use Rattle.bay_server_turn_laws.specs.Events.{IsItsEvents, turn_events};
+ghost use Rattle.bay_server_turn_laws.specs.Events.{TurnIsItsEvents, turn_events};
 ghost use Rattle.bay_server_turn_laws.specs.Faults.{reports_failure};
 ghost use Rattle.bay_server_turn_laws.specs.Flows.{IsInTime, IsTidy, LosesNothing, read_by_calls, received_of};
 ghost use Rattle.bay_server_turn_laws.specs.Fullness.{IsOpenIn, IsReportedIfFull};
@@ -24,7 +24,7 @@ pub fn a_reported_failure_is_counted<L: Link>(_link: &L)
     ensures { (old new : L) (now : ℕ) (given : ProcessReport) (before after : ServerData)
         (turn : Turn)
         →
-        Serves (Called L.does L.failures) old new now given before after turn
+        Serves (CountedCall L.does L.failures) old new now given before after turn
         → reports_failure turn.closed ≡ true →
         L.failures old < 2 ^ 64 - 1 → L.failures old < L.failures new }
 {}
@@ -33,9 +33,9 @@ pub fn a_reported_failure_is_counted<L: Link>(_link: &L)
 pub fn an_association_is_reported_once<L: Link>(_link: &L)
     ensures { (old new : L) (now : ℕ) (given : ProcessReport) (before after : ServerData)
         (turn : Turn)
-        (place : ℕ) →
-        Serves (Called L.does L.failures) old new now given before after turn
-        → times_reported (place + 1) turn.closed turn.memory ≤ 1 }
+        (slot : ℕ) →
+        Serves (CountedCall L.does L.failures) old new now given before after turn
+        → times_reported (slot + 1) turn.closed turn.memory ≤ 1 }
 {}
 
 /// The reason for which an association was closed in a turn follows from the calls on its link and
@@ -47,8 +47,8 @@ pub fn an_association_is_reported_once<L: Link>(_link: &L)
 pub fn each_closing_has_its_cause()
     ensures { (now : ℕ) (given : ProcessReport) (script : Script) (h : ServerData) → IsTidy h
         → IsInTime now h → length script.readings ≡ associations
-        → length script.offers ≡ associations → (place : ℕ)
-        → place < associations → HasItsCause now given script h (place + 1) }
+        → length script.offers ≡ associations → (slot : ℕ)
+        → slot < associations → HasItsCause now given script h (slot + 1) }
 {}
 
 /// The device after a turn is the device before it with the turn's events applied, each at the
@@ -66,7 +66,7 @@ pub fn each_closing_has_its_cause()
 /// the scan also those of associations for which a call failed. There is no other event.
 pub fn a_turn_is_its_events()
     ensures events { (now : ℕ) (given : ProcessReport) (script : Script) (h : ServerData)
-        → IsItsEvents now given script h }
+        → TurnIsItsEvents now given script h }
     ensures order { (now : ℕ) (given : ProcessReport) (script : Script) (h : ServerData)
         → length script.readings ≡ associations → length script.offers ≡ associations
         → IsInOrder now given script h }
@@ -107,7 +107,7 @@ pub fn queues_stay_in_their_room()
 pub fn a_full_queue_is_reported()
     ensures { (now : ℕ) (given : ProcessReport) (script : Script) (h : ServerData) → IsTidy h
         → IsInTime now h → AreInRoom h → length script.readings ≡ associations
-        → length script.offers ≡ associations → (place : ℕ) → place < associations
-        → IsOpenIn place script h
-        → IsReportedIfFull now given script h place }
+        → length script.offers ≡ associations → (slot : ℕ) → slot < associations
+        → IsOpenIn slot script h
+        → IsReportedIfFull now given script h slot }
 {}

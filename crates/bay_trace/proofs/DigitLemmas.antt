@@ -14,7 +14,7 @@ use Rattle.std.specs.Str.{IsAscii}
 use Rattle.hex.proofs.HexLemmas.{decode_of-digits, decode_of-ok, decode_sized-twice}
 use Rattle.hex.specs.Hex.{decode_of, decode_sized, is_hex_digit}
 use Rattle.hex.specs.declared.error.FromHexError.{FromHexError}
-use Rattle.bay_trace.specs.Digits.{octets_in, octets_of}
+use Rattle.bay_trace.specs.Digits.{octets_or_empty, octets_of}
 
 some-ok : {A E : Type 0} (r : Result A E) (x : A) → result_ok r ≡ Some x → r ≡ Ok x
 some-ok (Ok y) x e = let same : y ≡ x = cc in ap Ok same
@@ -90,10 +90,10 @@ octets-none (b ∷ bs) e = absurd (grind (arith, nat_tests))
 -- ---- the octets that digits write
 
 pub octets-known : (word : List ℕ) → is_some (octets_of word) ≡ true
-    → octets_of word ≡ Some (octets_in word)
+    → octets_of word ≡ Some (octets_or_empty word)
 octets-known word e = by-octets (octets_of word) refl
   where
-    by-octets : (o : Option (List ℕ)) → octets_of word ≡ o → octets_of word ≡ Some (octets_in word)
+    by-octets : (o : Option (List ℕ)) → octets_of word ≡ o → octets_of word ≡ Some (octets_or_empty word)
     by-octets None is = let no : false ≡ true = sym (ap is_some is) ∙ e in absurd cc
     by-octets (Some octets) is = is ∙ ap Some (sym (ap (λ o. unwrap_or o []) is))
 
@@ -102,13 +102,13 @@ known-decode [] octets e = absurd cc
 known-decode (b ∷ bs) octets e = some-ok (decode_of (b ∷ bs)) octets e
 
 pub octets-twice : (word : List ℕ) → is_some (octets_of word) ≡ true
-    → length word ≡ 2 * length (octets_in word)
+    → length word ≡ 2 * length (octets_or_empty word)
 octets-twice word e =
-    (decode_of-ok word (octets_in word)
-    (known-decode word (octets_in word) (octets-known word e))).2
+    (decode_of-ok word (octets_or_empty word)
+    (known-decode word (octets_or_empty word) (octets-known word e))).2
 
 pub octets-half : (word : List ℕ) → is_some (octets_of word) ≡ true
-    → length (octets_in word) ≡ length word / 2
+    → length (octets_or_empty word) ≡ length word / 2
 octets-half word e = let twice = octets-twice word e in omega arith
 
 -- the front of a front, of a list that stands before another
@@ -118,12 +118,12 @@ front-of n m xs ys fits within = take-take n m (xs ++ ys) within ∙ take-append
 
 -- what digits that write octets are decoded to
 pub decoded : (word : List ℕ) (n : ℕ) (new : List ℕ) (r : Result Unit FromHexError)
-    → is_some (octets_of word) ≡ true → n ≡ length (octets_in word)
+    → is_some (octets_of word) ≡ true → n ≡ length (octets_or_empty word)
     → MatchResult (decode_sized word n) (λ bytes. (r ≡ Ok tt) × (new ≡ bytes)) (λ e. r ≡ Err e)
-    → new ≡ octets_in word
+    → new ≡ octets_or_empty word
 decoded word n new r e size m =
     let twice : length word ≡ 2 * n = octets-twice word e ∙ ap (λ k. 2 * k) (sym size) in
-    let is : decode_sized word n ≡ Ok (octets_in word) =
+    let is : decode_sized word n ≡ Ok (octets_or_empty word) =
     decode_sized-twice word n twice
-    ∙ known-decode word (octets_in word) (octets-known word e) in
+    ∙ known-decode word (octets_or_empty word) (octets-known word e) in
     (rw is at m).1

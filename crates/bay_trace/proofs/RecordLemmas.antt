@@ -70,12 +70,12 @@ split-line (b ∷ bs) l = refl
 line-read : (now : ℕ) (rest : List ℕ) (named : NamedData) → now < 2 ^ 64
     → event_of (slice_split is_space rest) ≡ Some named
     → trace_line_of (decimal now ++ 32 ∷ rest) ≡ Some (at_moment now named)
-line-read now rest named less told =
+line-read now rest named less tail =
     let n : length (decimal now ++ 32 ∷ rest) ≡ length (decimal now) + length (32 ∷ rest) =
     length-append (decimal now) (32 ∷ rest) in
     let has = (decimal_is_IsNumeral now less).0.0 in
     split-line (decimal now ++ 32 ∷ rest) (omega (arith, n, has))
-    ∙ ap words_line (number-split now rest less) ∙ by-words (slice_split is_space rest) told
+    ∙ ap words_line (number-split now rest less) ∙ by-words (slice_split is_space rest) tail
   where
     by-words : (ws : List (List ℕ)) → event_of ws ≡ Some named
         → words_line (decimal now ∷ ws) ≡ Some (at_moment now named)
@@ -163,67 +163,67 @@ received-told a octets less bytes some =
       octets-read octets bytes some,
     ) refl
 
-said-read : (s : State) (now : ℕ) (said : List ℕ) (event : Event) (tells : SpellsEvent s said event)
+said-read : (s : State) (now : ℕ) (source : List ℕ) (event : Event) (tells : SpellsEvent s source event)
     → now < 2 ^ 64
-    → trace_line_of (decimal now ++ codes " " ++ text_after_moment said)
+    → trace_line_of (decimal now ++ codes " " ++ text_after_moment source)
     ≡ Some (at_moment now tells.named)
-said-read s now said event tells less =
-    ap trace_line_of (spaced now (text_after_moment said))
-    ∙ line-read now (text_after_moment said) tells.named less
-    (behind-read said tells.moment tells.named tells.read)
+said-read s now source event tells less =
+    ap trace_line_of (spaced now (text_after_moment source))
+    ∙ line-read now (text_after_moment source) tells.named less
+    (behind-read source tells.moment tells.named tells.read)
 
 -- each line is read as what tells of its event
-pub event-read : (s : State) (now : ℕ) (said : List ℕ) (event : Event) → now < 2 ^ 64
-    → IsRecordable s said event → IsReadAs s (event_line now said event) now event
-event-read s now said (Open a) less is = record {
+pub event-read : (s : State) (now : ℕ) (source : List ℕ) (event : Event) → now < 2 ^ 64
+    → IsRecordable s source event → IsReadAs s (event_line now source event) now event
+event-read s now source (Open a) less is = record {
   named = connects a;
   read =
       ap trace_line_of (append_assoc (decimal now) (codes " open ") (decimal a))
       ∙ line-read now (codes "open " ++ decimal a) (connects a) less (opened-told a is);
-  placed = refl;
+  resolved = refl;
 }
-event-read s now said (Recv a octets) less is = record {
+event-read s now source (Recv a octets) less is = record {
   named = receives a octets.now;
   read =
       ap trace_line_of (spaced-octets (decimal now) (decimal a) (encode_lower octets.now))
       ∙ line-read now (codes "recv " ++ (decimal a ++ 32 ∷ encode_lower octets.now))
       (receives a octets.now) less (received-told a octets.now is.0 is.1 is.2);
-  placed = refl;
+  resolved = refl;
 }
-event-read s now said (Close a) less is = record {
+event-read s now source (Close a) less is = record {
   named = disconnects a;
   read =
       ap trace_line_of (append_assoc (decimal now) (codes " close ") (decimal a))
       ∙ line-read now (codes "close " ++ decimal a) (disconnects a) less (closed-told a is);
-  placed = refl;
+  resolved = refl;
 }
-event-read s now said (Contact k position) less is = record {
+event-read s now source (Contact k position) less is = record {
   named = is.named;
-  read = said-read s now said (Contact k position) is less;
-  placed = is.placed;
+  read = said-read s now source (Contact k position) is less;
+  resolved = is.resolved;
 }
-event-read s now said (Input k value) less is = record {
+event-read s now source (Input k value) less is = record {
   named = is.named;
-  read = said-read s now said (Input k value) is less;
-  placed = is.placed;
+  read = said-read s now source (Input k value) is less;
+  resolved = is.resolved;
 }
-event-read s now said (Measure k field value) less is = record {
+event-read s now source (Measure k field value) less is = record {
   named = is.named;
-  read = said-read s now said (Measure k field value) is less;
-  placed = is.placed;
+  read = said-read s now source (Measure k field value) is less;
+  resolved = is.resolved;
 }
-event-read s now said (BadMeasure k field) less is = record {
+event-read s now source (BadMeasure k field) less is = record {
   named = is.named;
-  read = said-read s now said (BadMeasure k field) is less;
-  placed = is.placed;
+  read = said-read s now source (BadMeasure k field) is less;
+  resolved = is.resolved;
 }
-event-read s now said Lost less is = record {
+event-read s now source Lost less is = record {
   named = lost;
   read = line-read now (codes "lost") lost less refl;
-  placed = refl;
+  resolved = refl;
 }
-event-read s now said Scan less is = record {
+event-read s now source Scan less is = record {
   named = scan;
   read = line-read now (codes "scan") scan less refl;
-  placed = refl;
+  resolved = refl;
 }

@@ -11,7 +11,7 @@ use Rattle.std.specs.List.{join_with_byte, slice_split}
 use Rattle.std.specs.Str.{all_ascii_digits, bytes_eq}
 use Rattle.std.specs.Str.Parse.{digits_value}
 use Rattle.bay_base.specs.Decimals.{read_number}
-use Rattle.bay_trace.specs.Trace.{NamedData, association_event_of, at_moment, contact, event_of, input, is_association_verb, is_space, lost, measure_of, name_of, named_of, only_word, position_of, scan, trace_line_of, truth_of, words_line}
+use Rattle.bay_trace.specs.Trace.{NamedData, association_event_by_verb, at_moment, contact, event_of, input, is_association_verb, is_space, lost, measure_of, name_of, named_event_of, only_word, position_of, scan, trace_line_of, truth_of, words_line}
 
 -- ---- which words tell of a scan
 
@@ -35,9 +35,9 @@ none e = cc
 
 no-measure : (id : List ℕ) (words : List (List ℕ)) → measure_of id words ≢ Some scan
 no-measure id [] e = cc
-no-measure id (field ∷ told) e = grind (arith, e)
+no-measure id (field ∷ tail) e = grind (arith, e)
 
-no-named : (verb name : List ℕ) (values : List (List ℕ)) → named_of verb name values ≢ Some scan
+no-named : (verb name : List ℕ) (values : List (List ℕ)) → named_event_of verb name values ≢ Some scan
 no-named verb name values =
     either (bytes_eq verb (codes "contact")) _ _
     (mapped (contact name) (option_and_then position_of (only_word values)) (λ x e. cc))
@@ -46,14 +46,14 @@ no-named verb name values =
     (either (bytes_eq verb (codes "measure")) _ _ (no-measure name values) none))
 
 no-association : (verb word : List ℕ) (values : List (List ℕ))
-    → association_event_of verb (word ∷ values) ≢ Some scan
+    → association_event_by_verb verb (word ∷ values) ≢ Some scan
 no-association verb word values e = grind (arith, e)
 
 alone : (ws : List (List ℕ)) → event_of ws ≡ Some scan → ws ≡ codes "scan" ∷ []
 alone [] e = absurd cc
 alone (verb ∷ word ∷ values) e =
     absurd (either (is_association_verb verb) _ _ (no-association verb word values)
-    (bound (λ name. named_of verb name values) (name_of word) (λ name. no-named verb name values))
+    (bound (λ name. named_event_of verb name values) (name_of word) (λ name. no-named verb name values))
     e)
 alone (verb ∷ []) e = by-test (bytes_eq verb (codes "scan")) refl
   where
@@ -80,8 +80,8 @@ scan-words line n (word ∷ next ∷ ws) split e = by-number (read_number word) 
     by-event : (k : ℕ) (o : Option NamedData) → read_number word ≡ Some k
         → event_of (next ∷ ws) ≡ o → option_map (at_moment k) o ≡ Some (at_moment n scan)
         → Scanned line n
-    by-event k None is told f = absurd cc
-    by-event k (Some named) is told f =
+    by-event k None is tail f = absurd cc
+    by-event k (Some named) is tail f =
         let scans : event_of (next ∷ ws) ≡ Some scan = cc in
         let same : k ≡ n = cc in
         record {

@@ -18,7 +18,7 @@ use Rattle.bay_trace.specs.TraceView.{line_view}
 use Rattle.bay_base.specs.declared.position.Dbpos.{Dbpos}
 use Rattle.bay_base.specs.declared.point.MeterField.{MeterField}
 use Rattle.bay_base.specs.Decimals.{negative_of, positive_of, read_number}
-use Rattle.bay_trace.specs.Trace.{association_of, at_moment, disconnects, contact, event_of, input, measure, field_of, is_space, is_association_verb, LineData, measure_of, name_of, named_of, NamedData, only_word, connects, position_of, read_integer, received_of, receives, association_event_of, trace_line_of, truth_of, words_line, measure_event_of}
+use Rattle.bay_trace.specs.Trace.{association_of, at_moment, disconnects, contact, event_of, input, measure, field_of, is_space, is_association_verb, LineData, measure_of, name_of, named_event_of, NamedData, only_word, connects, position_of, read_integer, received_of, receives, association_event_by_verb, trace_line_of, truth_of, words_line, measure_event_of}
 
 -- ---- what has a value has parts that have theirs
 
@@ -119,7 +119,7 @@ name-text (b ∷ bs) name e = by_test (is_utf8 (b ∷ bs)) refl
 
 told-text : (id : List ℕ) (field : MeterField) (word : List ℕ) (d : NamedData)
     → measure_event_of id field word ≡ Some d → IsUtf8 word
-told-text id field word d e =
+tail-text id field word d e =
     choice word (codes "bad") _ d _ refl
     (λ h. let number = mapped (measure id field) (read_integer word) d h in
     integer-text word number.0 number.1) e
@@ -140,12 +140,12 @@ only-text f (word ∷ next ∷ words) y text e = absurd cc
 measure-text : (id : List ℕ) (words : List (List ℕ)) (d : NamedData) → measure_of id words ≡ Some d
     → AreText words
 measure-text id [] d e = absurd cc
-measure-text id (word ∷ told) d e =
-    let field : Parts (λ f. option_and_then (measure_event_of id f) (only_word told))
+measure-text id (word ∷ tail) d e =
+    let field : Parts (λ f. option_and_then (measure_event_of id f) (only_word tail))
     (field_of word) d =
     and_then _ (field_of word) d e in (
       field-text word field.part field.whole,
-      only-text (measure_event_of id field.part) told d (λ w h. told-text id field.part w d h)
+      only-text (measure_event_of id field.part) tail d (λ w h. told-text id field.part w d h)
           field.gives,
     )
 
@@ -176,7 +176,7 @@ truth-words name words d e = let v =
     only-text truth_of words v.0 (λ w h. truth-text w v.0 h) v.1
 
 named-text : (word name : List ℕ) (words : List (List ℕ)) (d : NamedData)
-    → named_of word name words ≡ Some d → AreText (word ∷ words)
+    → named_event_of word name words ≡ Some d → AreText (word ∷ words)
 named-text word name words d e =
     verb word (codes "contact") words _ _ d refl (position-words name words d)
     (verb word (codes "input") words _ _ d refl (truth-words name words d)
@@ -201,7 +201,7 @@ received-words (word ∷ octets) d e =
     )
 
 association_event-text : (word : List ℕ) (words : List (List ℕ)) (d : NamedData)
-    → association_event_of word words ≡ Some d
+    → association_event_by_verb word words ≡ Some d
     → AreText (word ∷ words)
 association_event-text word words d e =
     verb word (codes "open") words _ _ d refl (association-words connects words d)
@@ -221,7 +221,7 @@ event-text (word ∷ name ∷ words) d e = by_test (is_association_verb word) re
     by_test : (v : Bool) → is_association_verb word ≡ v → AreText (word ∷ name ∷ words)
     by_test true is = association_event-text word (name ∷ words) d (rw is at e)
     by_test false is =
-        let parts : Parts (λ n. named_of word n words) (name_of name) d =
+        let parts : Parts (λ n. named_event_of word n words) (name_of name) d =
         and_then _ (name_of name) d (rw is at e) in
         let others = named-text word parts.part words d parts.gives in
         (others.0, (name-text name parts.part parts.whole, others.1))

@@ -10,7 +10,7 @@ use Rattle.std.specs.Str.{all_ascii_digits, bytes_eq}
 use Rattle.bay_base.specs.declared.position.Dbpos.{Dbpos}
 use Rattle.bay_base.specs.declared.point.MeterField.{MeterField}
 use Rattle.bay_base.specs.Decimals.{negative_of, positive_of, read_number}
-use Rattle.bay_trace.specs.Trace.{association_of, connects, disconnects, is_space, is_association_verb, association_event_in, association_event_of, only_word, read_integer, position_of, truth_of, NamedData, measure_event_of, measure, lost, scan, name_of, named_of, event_of}
+use Rattle.bay_trace.specs.Trace.{association_of, connects, disconnects, is_space, is_association_verb, association_event_in, association_event_by_verb, only_word, read_integer, position_of, truth_of, NamedData, measure_event_of, measure, lost, scan, name_of, named_event_of, event_of}
 use Rattle.std.proofs.lemmas.List.Elements.{All-head, All-tail}
 use Rattle.std.specs.List.{AllPass}
 use Rattle.hex.specs.Hex.{is_hex_digit}
@@ -68,7 +68,7 @@ integer-word (b ∷ bs) z e = by_test (eqb b 45) refl
 
 told-word : (id : List ℕ) (field : MeterField) (word : List ℕ) (y : NamedData)
     → measure_event_of id field word ≡ Some y → IsWord word
-told-word id field word y e =
+tail-word id field word y e =
     chosen IsWord word (codes "bad") _ y _ refl (λ h. by-value (read_integer word) refl h) e
   where
     by-value : (o : Option ℤ) → read_integer word ≡ o
@@ -110,8 +110,8 @@ alone-tells {X = X} f bs word = by-told (f bs) refl
 
     by-told : (o : Option X) → f bs ≡ o
         → option_and_then f (only_word (slice_split is_space bs)) ≡ f bs
-    by-told None told = by-words (slice_split is_space bs) refl told
-    by-told (Some y) told = ap (λ ws. option_and_then f (only_word ws)) (word y told)
+    by-told None tail = by-words (slice_split is_space bs) refl tail
+    by-told (Some y) tail = ap (λ ws. option_and_then f (only_word ws)) (word y tail)
 
 pub alone-position : (bs : List ℕ)
     → option_and_then position_of (only_word (slice_split is_space bs)) ≡ position_of bs
@@ -164,7 +164,7 @@ none-of false false true = refl
 none-of false false false = refl
 
 -- nothing is told of an association by a word alone
-association-alone : (word : List ℕ) → association_event_of word [] ≡ None
+association-alone : (word : List ℕ) → association_event_by_verb word [] ≡ None
 association-alone word =
     none-of (bytes_eq word (codes "open")) (bytes_eq word (codes "close"))
     (bytes_eq word (codes "recv"))
@@ -178,7 +178,7 @@ not-of false false true x y z e = absurd cc
 not-of false false false x y z e = refl
 
 no-association : (verb : List ℕ) (words : List (List ℕ)) → is_association_verb verb ≡ false
-    → association_event_of verb words ≡ None
+    → association_event_by_verb verb words ≡ None
 no-association verb words e =
     not-of (bytes_eq verb (codes "open")) (bytes_eq verb (codes "close"))
     (bytes_eq verb (codes "recv")) _ _ _ e
@@ -204,16 +204,16 @@ no-verb text no_contact no_input no_measure no_scan no_lost =
     by-words (verb ∷ word ∷ values) e = by_test (is_association_verb verb) refl
       where
         by_test : (v : Bool) → is_association_verb verb ≡ v
-            → event_of (verb ∷ word ∷ values) ≡ association_event_of verb (word ∷ values)
+            → event_of (verb ∷ word ∷ values) ≡ association_event_by_verb verb (word ∷ values)
         by_test true is = rw is refl
         by_test false is =
             let rest = join_with_byte 32 (word ∷ values) in
             let a = other text verb (codes "contact") rest no_contact (sym e) in
             let b = other text verb (codes "input") rest no_input (sym e) in
             let d = other text verb (codes "measure") rest no_measure (sym e) in
-            ap (λ v. cond v (association_event_of verb (word ∷ values))
-            (option_and_then (λ name. named_of verb name values) (name_of word))) is
-            ∙ unsaid (name_of word) (λ name. named_of verb name values) (λ name. rw (a, b, d) refl)
+            ap (λ v. cond v (association_event_by_verb verb (word ∷ values))
+            (option_and_then (λ name. named_event_of verb name values) (name_of word))) is
+            ∙ unsaid (name_of word) (λ name. named_event_of verb name values) (λ name. rw (a, b, d) refl)
             ∙ sym (no-association verb (word ∷ values) is)
 
 -- a text that begins with no verb before an association and a space says nothing of one
@@ -237,16 +237,16 @@ no-association-verb text no_recv no_open no_close =
 pub open-told : (text word : List ℕ) (o : Option ℕ) → text ≡ codes "open " ++ word
     → o ≡ association_of word
     → option_map connects o ≡ association_event_in (slice_split is_space text)
-open-told text word o e told =
+open-told text word o e tail =
     sym (ap (λ t. association_event_in (slice_split is_space t)) e
-    ∙ ap (option_map connects) (alone-association word ∙ sym told))
+    ∙ ap (option_map connects) (alone-association word ∙ sym tail))
 
 pub close-told : (text word : List ℕ) (o : Option ℕ) → text ≡ codes "close " ++ word
     → o ≡ association_of word
     → option_map disconnects o ≡ association_event_in (slice_split is_space text)
-close-told text word o e told =
+close-told text word o e tail =
     sym (ap (λ t. association_event_in (slice_split is_space t)) e
-    ∙ ap (option_map disconnects) (alone-association word ∙ sym told))
+    ∙ ap (option_map disconnects) (alone-association word ∙ sym tail))
 
 -- octets that compare as different differ
 pub differs : (xs ys : List ℕ) → bytes_eq xs ys ≡ false → xs ≢ ys

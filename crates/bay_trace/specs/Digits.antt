@@ -9,5 +9,5 @@ octets_of [] = None
 octets_of (b ∷ bs) = result_ok (decode_of (b ∷ bs))
 
 -- the octets that digits encode; none if they encode none
-abbrev pub octets_in : List ℕ → List ℕ
-octets_in digits = unwrap_or (octets_of digits) []
+abbrev pub octets_or_empty : List ℕ → List ℕ
+octets_or_empty digits = unwrap_or (octets_of digits) []

@@ -92,8 +92,8 @@ measure_event_of id field word =
 -- a field, then its value or `bad`
 abbrev pub measure_of : List ℕ → List (List ℕ) → Option NamedData
 measure_of id [] = None
-measure_of id (field ∷ told) =
-    option_and_then (λ f. option_and_then (measure_event_of id f) (only_word told)) (field_of field)
+measure_of id (field ∷ tail) =
+    option_and_then (λ f. option_and_then (measure_event_of id f) (only_word tail)) (field_of field)
 
 -- a word that is a name: it is UTF-8, and not empty
 abbrev pub name_of : List ℕ → Option (List ℕ)
@@ -102,8 +102,8 @@ name_of (b ∷ bs) = if is_utf8 (b ∷ bs) then Some (b ∷ bs) else None
 
 -- the event of a switch, an input or a meter with this name: `contact` has a position, `input` a
 -- truth value, `measure` a field, then its value or `bad`
-abbrev pub named_of : List ℕ → List ℕ → List (List ℕ) → Option NamedData
-named_of verb name values =
+abbrev pub named_event_of : List ℕ → List ℕ → List (List ℕ) → Option NamedData
+named_event_of verb name values =
     if bytes_eq verb (codes "contact")
     then option_map (contact name) (option_and_then position_of (only_word values))
     else if bytes_eq verb (codes "input")
@@ -125,8 +125,8 @@ received_of (word ∷ octets) =
 
 -- an event of an association: `open` and `close` have its number alone, `recv` its number, then
 -- octets
-abbrev pub association_event_of : List ℕ → List (List ℕ) → Option NamedData
-association_event_of verb words =
+abbrev pub association_event_by_verb : List ℕ → List (List ℕ) → Option NamedData
+association_event_by_verb verb words =
     if bytes_eq verb (codes "open")
     then option_map connects (option_and_then association_of (only_word words))
     else if bytes_eq verb (codes "close")
@@ -137,7 +137,7 @@ association_event_of verb words =
 -- the event of an association that words spell, if the first is one of these three
 abbrev pub association_event_in : List (List ℕ) → Option NamedData
 association_event_in [] = None
-association_event_in (verb ∷ words) = association_event_of verb words
+association_event_in (verb ∷ words) = association_event_by_verb verb words
 
 -- the first word of an event of an association
 abbrev pub is_association_verb : List ℕ → Bool
@@ -154,8 +154,8 @@ event_of (verb ∷ []) =
     else None
 event_of (verb ∷ word ∷ values) =
     if is_association_verb verb
-    then association_event_of verb (word ∷ values)
-    else option_and_then (λ name. named_of verb name values) (name_of word)
+    then association_event_by_verb verb (word ∷ values)
+    else option_and_then (λ name. named_event_of verb name values) (name_of word)
 
 -- a moment, then an event
 abbrev pub words_line : List (List ℕ) → Option LineData

@@ -3,13 +3,13 @@ use Rattle.bay_trace.specs.declared.trace.NamedEvent.{NamedEvent}
 use Rattle.bay_trace.specs.declared.trace.NamedEvent.TheVariants.{Open, Recv, Close, Contact, Input, Measure, BadMeasure, Lost, Scan}
 use Rattle.bay_trace.specs.declared.trace.TraceLine.{TraceLine}
 use Rattle.bay_trace.specs.declared.trace.TraceLine.TheVariants.{Blank, At}
-use Rattle.bay_trace.specs.Digits.{octets_in}
+use Rattle.bay_trace.specs.Digits.{octets_or_empty}
 use Rattle.bay_trace.specs.Trace.{NamedData, LineData, connects, receives, disconnects, contact, input, measure, bad_measure, lost, scan, blank, at_moment}
 
 -- an event, without the addresses of its texts
 abbrev pub named_view : NamedEvent → NamedData
 named_view (Open a) = connects a
-named_view (Recv a digits) = receives a (octets_in digits.text.now)
+named_view (Recv a digits) = receives a (octets_or_empty digits.text.now)
 named_view (Close a) = disconnects a
 named_view (Contact id position) = contact id.now position
 named_view (Input name value) = input name.now value

@@ -1,6 +1,6 @@
 // Octets in hexadecimal digits, as a line of the trace has them.
 ghost use Rattle.std.specs.Prelude.{◌≡◌, ◌<◌, ◌≤◌, [], true, is_some, length, max, option_map, take, OnErr, OnOk};
-ghost use Rattle.bay_trace.specs.Digits.{octets_in, octets_of};
+ghost use Rattle.bay_trace.specs.Digits.{octets_or_empty, octets_of};
 
 use std::alloc::{AllocError, Global};
 use std::marker::Model;
@@ -9,11 +9,11 @@ use std::marker::Model;
 #[derive(Clone, Copy)]
 pub struct Digits<'a> {
     text: &'a [u8],
-    ghost are_octets: { is_some (octets_of text.now) ≡ true },
+    ghost is_hexadecimal: { is_some (octets_of text.now) ≡ true },
 }
 
 // Returns whether a word consists of such digits.
-fn are_octets(word: &[u8]) -> bool
+fn is_hexadecimal(word: &[u8]) -> bool
     ensures { result ≡ is_some (octets_of word.now) }
 {
     if word.is_empty() {
@@ -29,9 +29,9 @@ impl<'a> Digits<'a> {
     /// Returns the digits of a word; `None` if the word is empty, has an odd length, or has an
     /// octet that is no hexadecimal digit.
     pub fn of(word: &'a [u8]) -> Option<Self>
-        ensures { option_map (λ d. octets_in d.text.now) result ≡ octets_of word.entry.now }
+        ensures { option_map (λ d. octets_or_empty d.text.now) result ≡ octets_of word.entry.now }
     {
-        if are_octets(word) {
+        if is_hexadecimal(word) {
             Some(Digits { text: word })
         } else {
             None
@@ -41,9 +41,9 @@ impl<'a> Digits<'a> {
 
 // Decodes digits into the first `count` octets of `room`.
 fn decode(digits: Digits<'_>, count: usize, room: &mut [u8])
-    requires counted { count ≡ length (octets_in digits.text.now) }
+    requires counted { count ≡ length (octets_or_empty digits.text.now) }
     requires fits { count ≤ length room.old }
-    ensures { take count room.new ≡ octets_in digits.entry.text.now }
+    ensures { take count room.new ≡ octets_or_empty digits.entry.text.now }
 {
     let _ = hex::decode_to_slice(digits.text, &mut room[..count]);
 }
@@ -96,10 +96,10 @@ impl LineOctets {
     /// Decodes digits, replacing the octets of the line before. Fails only if the octets need more
     /// room than there is and its allocation fails.
     pub fn read(&mut self, digits: Digits<'_>) -> Result<(), AllocError>
-        ensures octets { OnOk result (self.new.octets ≡ octets_in digits.entry.text.now) }
+        ensures octets { OnOk result (self.new.octets ≡ octets_or_empty digits.entry.text.now) }
         ensures room { OnOk result
-            (self.new.room ≡ max self.old.room (length (octets_in digits.entry.text.now))) }
-        ensures refused { OnErr result (self.old.room < length (octets_in digits.entry.text.now)) }
+            (self.new.room ≡ max self.old.room (length (octets_or_empty digits.entry.text.now))) }
+        ensures refused { OnErr result (self.old.room < length (octets_or_empty digits.entry.text.now)) }
     {
         let count = digits.text.len() / 2;
         self.make_room(count)?;

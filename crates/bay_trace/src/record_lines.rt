@@ -60,11 +60,11 @@ fn put_received(lines: &mut RecordLines, moment: &[u8], association: u16, octets
 }
 
 /// Appends the line of an event at a moment, in milliseconds since 1970. For an event of a switch,
-/// an input or a meter it copies the words after the moment from `said`, the line that the event
+/// an input or a meter it copies the words after the moment from `source`, the line that the event
 /// was read from. Returns false if there is not room for all of the line; then a part of it may
 /// have been appended.
-pub fn put_event(lines: &mut RecordLines, now: u64, event: Event<'_>, said: &[u8]) -> bool
-    ensures { PutsWhole lines.old (event_line now said.now event.entry ++ codes "\n") lines.new
+pub fn put_event(lines: &mut RecordLines, now: u64, event: Event<'_>, source: &[u8]) -> bool
+    ensures { PutsWhole lines.old (event_line now source.now event.entry ++ codes "\n") lines.new
         result }
 {
     let mut moments = Buffer::new();
@@ -93,7 +93,7 @@ pub fn put_event(lines: &mut RecordLines, now: u64, event: Event<'_>, said: &[u8
         | Event::Input { .. }
         | Event::Measure { .. }
         | Event::BadMeasure { .. } => {
-            lines.put_parts(&[moment, b" ", words_after_moment(said), b"\n"])
+            lines.put_parts(&[moment, b" ", words_after_moment(source), b"\n"])
         }
     }
 }
@@ -101,6 +101,6 @@ pub fn put_event(lines: &mut RecordLines, now: u64, event: Event<'_>, said: &[u8
 /// Read back, the line of an event has the moment at which the event was recorded, and the same
 /// device resolves it to the same event.
 pub fn recorded_events_are_read_as_themselves()
-    ensures { (s : State) (now : ℕ) (said : List ℕ) (event : AnyEvent) → now < 2 ^ 64
-        → IsRecordable s said event → IsReadAs s (event_line now said event) now event }
+    ensures { (s : State) (now : ℕ) (source : List ℕ) (event : AnyEvent) → now < 2 ^ 64
+        → IsRecordable s source event → IsReadAs s (event_line now source event) now event }
 {}

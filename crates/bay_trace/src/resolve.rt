@@ -2,7 +2,7 @@
 // and octets.
 ghost use Rattle.std.specs.Prelude.{◌≡◌, length, unwrap_or};
 ghost use Rattle.bay_device.specs.LookUps.{switch_index};
-ghost use Rattle.bay_trace.specs.Resolving.{AreOctets, Takes, anywhere};
+ghost use Rattle.bay_trace.specs.Resolving.{AreEventOctets, Decodes, without_address};
 ghost use Rattle.bay_trace.specs.Resolving as spec;
 ghost use Rattle.bay_trace.specs.TraceView.{named_view};
 
@@ -15,7 +15,7 @@ use std::alloc::AllocError;
 /// Decodes the octets of an event, if it has any, into the buffer. Fails only if the octets need
 /// more room than the buffer has and the allocation fails.
 pub fn decode_octets(octets: &mut LineOctets, event: &NamedEvent<'_>) -> Result<(), AllocError>
-    ensures { Takes (named_view event.now) octets.old octets.new result }
+    ensures { Decodes (named_view event.now) octets.old octets.new result }
 {
     match event {
         NamedEvent::Recv { digits, .. } => octets.read(*digits),
@@ -35,8 +35,8 @@ pub fn resolve_switch(device: &Device, id: &str) -> usize
 /// Resolves the names of an event to their indices in the device. An unknown name becomes an index
 /// that no switch, input or meter has.
 pub fn resolve_event<'a>(device: &Device, octets: &'a [u8], event: NamedEvent<'_>) -> Event<'a>
-    requires { AreOctets (named_view event) octets.now }
-    ensures { anywhere result ≡ spec.placed_event device.now (named_view event.entry) }
+    requires { AreEventOctets (named_view event) octets.now }
+    ensures { without_address result ≡ spec.resolved_event device.now (named_view event.entry) }
 {
     match event {
         NamedEvent::Open { association } => Event::Open { association },

@@ -158,9 +158,9 @@ fn contact(text: &[u8]) -> Option<NamedEvent<'_>>
     ensures { option_map named_view result
         ≡ event_of (codes "contact" ∷ slice_split is_space text.now) }
 {
-    let (id, told) = split_word(text);
+    let (id, tail) = split_word(text);
     let id = name(id)?;
-    let position = position(told?)?;
+    let position = position(tail?)?;
     Some(NamedEvent::Contact { id, position })
 }
 
@@ -169,18 +169,18 @@ fn input(text: &[u8]) -> Option<NamedEvent<'_>>
     ensures { option_map named_view result
         ≡ event_of (codes "input" ∷ slice_split is_space text.now) }
 {
-    let (id, told) = split_word(text);
+    let (id, tail) = split_word(text);
     let name = name(id)?;
-    let value = truth(told?)?;
+    let value = truth(tail?)?;
     Some(NamedEvent::Input { name, value })
 }
 
 // Reads an event of the meter with this id: a field, then its value or `bad`.
-fn measured<'a>(id: &'a str, told: &[u8]) -> Option<NamedEvent<'a>>
+fn measured<'a>(id: &'a str, tail: &[u8]) -> Option<NamedEvent<'a>>
     ensures { option_map named_view result
-        ≡ measure_of id.entry.now (slice_split is_space told.now) }
+        ≡ measure_of id.entry.now (slice_split is_space tail.now) }
 {
-    let (name, rest) = split_word(told);
+    let (name, rest) = split_word(tail);
     let field = field(name)?;
     let rest = rest?;
     if rest == b"bad".as_slice() {
@@ -195,8 +195,8 @@ fn measure(text: &[u8]) -> Option<NamedEvent<'_>>
     ensures { option_map named_view result
         ≡ event_of (codes "measure" ∷ slice_split is_space text.now) }
 {
-    let (id, told) = split_word(text);
-    measured(name(id)?, told?)
+    let (id, tail) = split_word(text);
+    measured(name(id)?, tail?)
 }
 
 // Reads the number of an association, 0 to 65535.
@@ -210,9 +210,9 @@ fn association(word: &[u8]) -> Option<u16>
 fn received(text: &[u8]) -> Option<NamedEvent<'_>>
     ensures { option_map named_view result ≡ received_of (slice_split is_space text.now) }
 {
-    let (word, told) = split_word(text);
+    let (word, tail) = split_word(text);
     let association = association(word)?;
-    let digits = Digits::of(told?)?;
+    let digits = Digits::of(tail?)?;
     Some(NamedEvent::Recv {
         association,
         digits,
@@ -223,8 +223,8 @@ fn received(text: &[u8]) -> Option<NamedEvent<'_>>
 fn association_event(text: &[u8]) -> Option<NamedEvent<'_>>
     ensures { option_map named_view result ≡ association_event_in (slice_split is_space text.now) }
 {
-    if let Some(told) = text.strip_prefix(b"recv ") {
-        return received(told);
+    if let Some(tail) = text.strip_prefix(b"recv ") {
+        return received(tail);
     }
     if let Some(word) = text.strip_prefix(b"open ") {
         let association = association(word)?;
@@ -245,14 +245,14 @@ fn event(text: &[u8]) -> Option<NamedEvent<'_>>
     if text == b"lost".as_slice() {
         return Some(NamedEvent::Lost);
     }
-    if let Some(told) = text.strip_prefix(b"contact ") {
-        return contact(told);
+    if let Some(tail) = text.strip_prefix(b"contact ") {
+        return contact(tail);
     }
-    if let Some(told) = text.strip_prefix(b"input ") {
-        return input(told);
+    if let Some(tail) = text.strip_prefix(b"input ") {
+        return input(tail);
     }
-    if let Some(told) = text.strip_prefix(b"measure ") {
-        return measure(told);
+    if let Some(tail) = text.strip_prefix(b"measure ") {
+        return measure(tail);
     }
     association_event(text)
 }
@@ -279,11 +279,11 @@ fn cut_number(text: &[u8]) -> Option<(u64, &[u8])>
         return None;
     };
     let mut number = with_digit(0, *first)?;
-    for place in 0..others.len().min(FREE_DIGITS) {
-        let octet = others[place];
+    for index in 0..others.len().min(FREE_DIGITS) {
+        let octet = others[index];
         if !octet.is_ascii_digit() {
             return if octet == b' ' {
-                Some((number, &others[place + 1..]))
+                Some((number, &others[index + 1..]))
             } else {
                 None
             };

@@ -1,5 +1,5 @@
 // Runs commands, with their input and with files in the program's own folder.
-use crate::texts::{Texts, expanded};
+use crate::texts::{Texts, expand_trace};
 use anyhow::{Context, Result, bail};
 use bay_io::reader::WatchedReader;
 use bay_io::writer::WatchedWriter;
@@ -81,7 +81,7 @@ impl<'a> Commands<'a> {
 
     // Replays the scenario of the texts.
     fn report(&self, texts: &Texts, rest: &str, wanted: &str) -> Result<()> {
-        let trace = expanded(self.rt.alloc(), texts.trace)?;
+        let trace = expand_trace(self.rt.alloc(), texts.trace)?;
         let scenario = texts.scenario(self.rt.alloc(), trace.as_str())?;
         let (status, _) = first_word(rest);
         check_run(self.rt, "replay", scenario.as_bytes(), status, wanted)?;

@@ -6,7 +6,7 @@
 // of the block; `AFTER contact ..` and `AFTER scan` are events of the process. After these are the
 // lines that must be printed, which begin with `> `: `> AFTER send OCTETS` and `> AFTER closed WHY`
 // without the association, whose number `#` denotes in the octets, and others as they are.
-use crate::talk::Talk;
+use crate::exchange::Exchange;
 use crate::texts::Texts;
 use anyhow::{Context, Result};
 use cases::words::first_word;
@@ -14,7 +14,7 @@ use std::alloc::{AllocError, Global};
 
 // Appends a line to the expected report, at a time.
 fn push_expected(
-    talk: &mut Talk,
+    exchange: &mut Exchange,
     moment: u64,
     association: u16,
     told: &str,
@@ -22,19 +22,19 @@ fn push_expected(
     match first_word(told) {
         ("send", octets) => match octets.split_once("#") {
             Some((front, back)) => writeln!(
-                talk.report,
+                exchange.report,
                 "{moment} send {association} {front}{association:04x}{back}"
             ),
-            None => writeln!(talk.report, "{moment} send {association} {octets}"),
+            None => writeln!(exchange.report, "{moment} send {association} {octets}"),
         },
-        ("closed", why) => writeln!(talk.report, "{moment} closed {association} {why}"),
-        _ => writeln!(talk.report, "{moment} {told}"),
+        ("closed", why) => writeln!(exchange.report, "{moment} closed {association} {why}"),
+        _ => writeln!(exchange.report, "{moment} {told}"),
     }
 }
 
 // Appends a block for an association, from a time on. Returns the last time.
 fn put_block(
-    talk: &mut Talk,
+    exchange: &mut Exchange,
     begin: u64,
     association: u16,
     block: &str,
@@ -49,9 +49,9 @@ fn put_block(
         let (after, what) = first_word(line);
         moment = begin.saturating_add(after.parse::<u64>().context("no moment")?);
         match first_word(what) {
-            _ if is_told => push_expected(talk, moment, association, what),
-            ("recv", digits) => talk.hear(moment, association, digits, whole),
-            _ => writeln!(talk.trace, "{moment} {what}"),
+            _ if is_told => push_expected(exchange, moment, association, what),
+            ("recv", digits) => exchange.push_octets(moment, association, digits, whole),
+            _ => writeln!(exchange.trace, "{moment} {what}"),
         }?;
     }
     Ok(moment)
@@ -60,16 +60,16 @@ fn put_block(
 // Checks that an exchange with `count` associations at once, whole or octet by octet, is answered
 // as its lines require.
 fn check_by(alloc: Global, texts: &Texts, body: &str, count: u16, whole: bool) -> Result<()> {
-    let (mut talk, mut now) = (Talk::new(alloc), 0);
+    let (mut exchange, mut now) = (Exchange::new(alloc), 0);
     for association in 1..=count {
-        writeln!(talk.trace, "0 open {association}")?;
+        writeln!(exchange.trace, "0 open {association}")?;
     }
     for block in body.split("\n\n") {
         for association in 1..=count {
-            now = put_block(&mut talk, now, association, block, whole)?;
+            now = put_block(&mut exchange, now, association, block, whole)?;
         }
     }
-    talk.check(alloc, texts)
+    exchange.check(alloc, texts)
 }
 
 /// Checks that an exchange is answered as its lines require: with one association alone and whole

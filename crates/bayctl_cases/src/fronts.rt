@@ -3,17 +3,17 @@
 //
 // A line is a message in hexadecimal digits, and after ` -> ` its effect, if it has one:
 // `send:OCTETS`, or `closed:WHY`, with which the association ends.
-use crate::talk::Talk;
+use crate::exchange::Exchange;
 use crate::texts::Texts;
 use anyhow::Result;
 use std::alloc::{AllocError, Global};
 
 // Appends the effect of a message at a time. Returns whether the association ends.
-fn push_effect(talk: &mut Talk, moment: u64, words: &str) -> Result<bool, AllocError> {
+fn push_effect(exchange: &mut Exchange, moment: u64, words: &str) -> Result<bool, AllocError> {
     let mut ends = false;
     for word in words.split(" ") {
         if let Some((kind, what)) = word.split_once(":") {
-            writeln!(talk.report, "{moment} {kind} 1 {what}")?;
+            writeln!(exchange.report, "{moment} {kind} 1 {what}")?;
             ends = kind == "closed";
         }
     }
@@ -23,7 +23,7 @@ fn push_effect(talk: &mut Talk, moment: u64, words: &str) -> Result<bool, AllocE
 // Appends the effects of the messages that are complete in `count` octets. If the association ends,
 // appends a refusal for each piece of octets after that, and one for the close.
 fn put_report(
-    talk: &mut Talk,
+    exchange: &mut Exchange,
     moment: u64,
     body: &str,
     count: usize,
@@ -36,10 +36,10 @@ fn put_report(
         if end > count {
             return Ok(());
         }
-        if push_effect(talk, moment, words)? {
+        if push_effect(exchange, moment, words)? {
             let behind = if whole { 0 } else { count - end };
             for _ in 0..=behind {
-                writeln!(talk.report, "{moment} refused 111")?;
+                writeln!(exchange.report, "{moment} refused 111")?;
             }
             return Ok(());
         }
@@ -49,32 +49,32 @@ fn put_report(
 
 // Appends a connection at a time, on which these octets arrive.
 fn put_front(
-    talk: &mut Talk,
+    exchange: &mut Exchange,
     moment: u64,
     body: &str,
     digits: &str,
     whole: bool,
 ) -> Result<(), AllocError> {
-    writeln!(talk.trace, "{moment} open 1")?;
+    writeln!(exchange.trace, "{moment} open 1")?;
     if !digits.is_empty() {
-        talk.hear(moment, 1, digits, whole)?;
+        exchange.push_octets(moment, 1, digits, whole)?;
     }
-    writeln!(talk.trace, "{moment} close 1")?;
-    put_report(talk, moment, body, digits.len() / 2, whole)
+    writeln!(exchange.trace, "{moment} close 1")?;
+    put_report(exchange, moment, body, digits.len() / 2, whole)
 }
 
 /// Checks that every prefix of the messages has the effect that their lines have, and so have all
 /// octets one by one.
 pub fn check_fronts(alloc: Global, texts: &Texts, body: &str) -> Result<()> {
-    let (mut talk, mut digits) = (Talk::new(alloc), String::new(alloc));
+    let (mut exchange, mut digits) = (Exchange::new(alloc), String::new(alloc));
     for line in body.lines() {
         digits.push_str(line.split_once(" -> ").unwrap_or((line, "")).0)?;
     }
     let (count, digits) = (digits.len() / 2, digits.as_str());
     for end in 0..=count {
         let front = digits.get(..end.saturating_mul(2)).unwrap_or("");
-        put_front(&mut talk, end as u64, body, front, true)?;
+        put_front(&mut exchange, end as u64, body, front, true)?;
     }
-    put_front(&mut talk, count as u64, body, digits, false)?;
-    talk.check(alloc, texts)
+    put_front(&mut exchange, count as u64, body, digits, false)?;
+    exchange.check(alloc, texts)
 }

@@ -7,7 +7,7 @@
 // while association 2 gets its answer. After ` -> ` are the counts of the first effects, if they
 // are checked: answers, ends, waits, and faults by their numbers. The octets are hexadecimal
 // digits.
-use crate::texts::{Texts, replayed};
+use crate::texts::{Texts, replay_trace};
 use anyhow::{Context, Result, bail};
 use cases::case_report::{check, check_text};
 use cases::words::first_word;
@@ -39,7 +39,7 @@ fn counts_text(alloc: Global, counts: &Counts) -> Result<String, AllocError> {
 }
 
 // Returns the index of the count for an effect, as it is printed.
-fn place_of(told: &str) -> Result<usize> {
+fn count_index(told: &str) -> Result<usize> {
     match told.split_once(" 1 ") {
         Some(("closed", number)) => Ok(CLOSED.saturating_add(number.parse::<usize>()?)),
         Some(_) => Ok(ANSWERS),
@@ -57,7 +57,7 @@ fn check_frame(lines: &str, answer: &str) -> Result<usize> {
         match line.split_once(" ") {
             Some((moment, told)) if moment.ends_with("1") => {
                 if first.is_none() {
-                    first = Some(place_of(told)?);
+                    first = Some(count_index(told)?);
                 }
                 closed = closed || told.starts_with("closed 1 ");
             }
@@ -140,7 +140,7 @@ impl<'a> Hostile<'a> {
         let answer = format!(in alloc; "send 2 {}", self.answer)?;
         let mut report = Vec::new(alloc);
         let mut frames = 0u32;
-        for lines in replayed(alloc, texts, trace, &mut report)?
+        for lines in replay_trace(alloc, texts, trace, &mut report)?
             .split(" scan ")
             .skip(1)
         {

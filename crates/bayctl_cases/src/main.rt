@@ -30,7 +30,7 @@ mod commands;
 mod eight;
 mod fronts;
 mod hostile;
-mod talk;
+mod exchange;
 mod texts;
 
 use anyhow::Result;
@@ -48,7 +48,7 @@ use texts::Texts;
 // Checks the cases of a section in which each line is a case.
 fn check_case_lines(
     alloc: Global,
-    told: &mut CaseReport,
+    report: &mut CaseReport,
     texts: &Texts,
     commands: &Commands,
     kind: &str,
@@ -61,7 +61,7 @@ fn check_case_lines(
             "jobs" => check_job(alloc, line),
             _ => hostile.check(alloc, texts, line),
         };
-        told.record_case(line, outcome)?;
+        report.record_case(line, outcome)?;
     }
     Ok(())
 }
@@ -76,7 +76,7 @@ fn run(rt: &HostRuntime, text: &str) -> Result<String> {
         trace: "",
     };
     let mut commands = Commands::new(rt);
-    let mut told = CaseReport::new(alloc);
+    let mut report = CaseReport::new(alloc);
     for section in sections_of(text)?.split(BETWEEN) {
         let (head, body) = head_and_body(section);
         let (kind, rest) = first_word(head);
@@ -87,20 +87,20 @@ fn run(rt: &HostRuntime, text: &str) -> Result<String> {
             "logic" => texts.logic = body,
             "trace" => texts.trace = body,
             "bays" | "jobs" | "hostile" => {
-                check_case_lines(alloc, &mut told, &texts, &commands, kind, body)?
+                check_case_lines(alloc, &mut report, &texts, &commands, kind, body)?
             }
-            "eight" => told.record_case(head, check_eight(alloc, &texts, body))?,
-            "fronts" => told.record_case(head, check_fronts(alloc, &texts, body))?,
-            _ => told.record_case(head, commands.check(&texts, kind, rest, body))?,
+            "eight" => report.record_case(head, check_eight(alloc, &texts, body))?,
+            "fronts" => report.record_case(head, check_fronts(alloc, &texts, body))?,
+            _ => report.record_case(head, commands.check(&texts, kind, rest, body))?,
         }
     }
-    told.finish()
+    report.finish()
 }
 
 fn main(rt: HostRuntime) -> Result<()> {
     let mut text = String::new(rt.alloc());
     rt.reader().read_to_string(&mut text)?;
-    let told = run(&rt, text.as_str())?;
+    let report = run(&rt, text.as_str())?;
     print!(&rt; "{told}")?;
     Ok(())
 }

@@ -23,7 +23,7 @@ impl Texts<'_> {
 
 /// Expands a trace, in which `{OCTETS*TIMES}` denotes octets repeated this number of times, and
 /// appends the line end of its last line.
-pub fn expanded(alloc: Global, trace: &str) -> Result<String> {
+pub fn expand_trace(alloc: Global, trace: &str) -> Result<String> {
     let mut text = String::new(alloc);
     for piece in trace.split("{") {
         let (octets, rest) = piece.split_once("}").unwrap_or(("", piece));
@@ -39,7 +39,7 @@ pub fn expanded(alloc: Global, trace: &str) -> Result<String> {
 
 /// Returns the report of a trace on the device of the texts, without the line of the load. Fails if
 /// its status is not 0.
-pub fn replayed<'r>(
+pub fn replay_trace<'r>(
     alloc: Global,
     texts: &Texts,
     trace: &str,
@@ -59,5 +59,5 @@ pub fn replayed<'r>(
 /// Checks the report of a trace on the device of the texts.
 pub fn check_trace(alloc: Global, texts: &Texts, trace: &str, wanted: &str) -> Result<()> {
     let mut report = Vec::new(alloc);
-    check_lines(replayed(alloc, texts, trace, &mut report)?, wanted)
+    check_lines(replay_trace(alloc, texts, trace, &mut report)?, wanted)
 }

@@ -19,14 +19,14 @@ fn call(calls: &mut u64, fails_at: u64) -> io::Result<()> {
 // A reader over octets in memory that returns at most `most` octets at a read, at least one, and
 // may fail at one of its reads.
 #[derive(Drop)]
-struct Dripping<'a> {
+struct SlowReader<'a> {
     rest: &'a [u8],
     most: usize,
     reads: u64,
     fails_at: u64,
 }
 
-impl Read for Dripping<'_> {
+impl Read for SlowReader<'_> {
     fn read(&mut self, buf: &mut [u8]) -> io::Result<usize> {
         call(&mut self.reads, self.fails_at)?;
         let some = buf.len().min(self.most.max(1));
@@ -37,14 +37,14 @@ impl Read for Dripping<'_> {
 // A writer that takes at most `most` octets at a write, and may fail at one of its calls: a write,
 // or the flush after the writes.
 #[derive(Drop)]
-struct Narrow {
+struct SlowWriter {
     taken: Vec<u8>,
     most: usize,
     calls: u64,
     fails_at: u64,
 }
 
-impl Write for Narrow {
+impl Write for SlowWriter {
     fn write(&mut self, buf: &[u8]) -> io::Result<usize> {
         call(&mut self.calls, self.fails_at)?;
         let some = buf.len().min(self.most);
@@ -77,20 +77,20 @@ struct Calls {
 
 // Replays a scenario with such calls.
 fn outcome_of(alloc: Global, scenario: &[u8], calls: Calls) -> Outcome {
-    let mut given = Dripping {
+    let mut given = SlowReader {
         rest: scenario,
         most: calls.most,
         reads: 0,
         fails_at: calls.read,
     };
-    let mut narrow = Narrow {
+    let mut narrow = SlowWriter {
         taken: Vec::new(alloc),
         most: calls.most,
         calls: 0,
         fails_at: calls.write,
     };
     let status = replay_run(alloc, &mut given, &mut narrow).unwrap_or(255);
-    let Narrow { taken, calls, .. } = narrow;
+    let SlowWriter { taken, calls, .. } = narrow;
     Outcome {
         report: taken,
         status,

@@ -167,7 +167,7 @@ pub struct ServedCase {
     // there is none
     pub processes: usize,
     // the lines that each process sends, and how many octets are read at a time
-    pub said: &'static str,
+    pub lines: &'static str,
     pub per_read: usize,
     // whether the process stays connected after its lines; otherwise it ends
     pub stays: bool,
@@ -180,7 +180,7 @@ pub struct ServedCase {
     pub jump: u64,
     pub status: u8,
     // the lines that the process receives
-    pub told: &'static str,
+    pub received: &'static str,
     // what is printed, and what is logged, each line after `| `
     pub wanted: &'static str,
 }
@@ -192,7 +192,7 @@ const ENDING: ServedCase = ServedCase {
     clients: Some(1),
     asked: &[],
     processes: 0,
-    said: "",
+    lines: "",
     per_read: 1000,
     stays: false,
     fails_at: 0,
@@ -200,7 +200,7 @@ const ENDING: ServedCase = ServedCase {
     step: 1000,
     jump: 0,
     status: 3,
-    told: "",
+    received: "",
     wanted: "",
 };
 
@@ -445,9 +445,9 @@ fault 120 line 2
     },
     ServedCase {
         processes: 1,
-        said: "0 contact Q 1\n0 contact X 2\r\n",
+        lines: "0 contact Q 1\n0 contact X 2\r\n",
         per_read: 19,
-        told: "4000 refused 113\n",
+        received: "4000 refused 113\n",
         wanted: "instructions=2 depth=1 budget=2
 | 1970-01-01T00:00:01.000Z clients on 127.0.0.1:7, process on 127.0.0.1:9
 | 1970-01-01T00:00:01.000Z bay SHA-256 039109cc180841997e6c30d729870d020103592c027cddd03bd60221d0cb410f
@@ -467,7 +467,7 @@ fault 120 line 2
     },
     ServedCase {
         processes: 1,
-        said: "0 contact X 1\n",
+        lines: "0 contact X 1\n",
         fails_at: 3,
         wanted: "instructions=2 depth=1 budget=2
 | 1970-01-01T00:00:01.000Z clients on 127.0.0.1:7, process on 127.0.0.1:9
@@ -487,7 +487,7 @@ fault 120 line 2
     },
     ServedCase {
         processes: 1,
-        said: "0 contact Q 1\n\n0 scan\x1b\n",
+        lines: "0 contact Q 1\n\n0 scan\x1b\n",
         per_read: 14,
         wanted: "instructions=2 depth=1 budget=2
 | 1970-01-01T00:00:01.000Z clients on 127.0.0.1:7, process on 127.0.0.1:9
@@ -506,7 +506,7 @@ fault 120 line 2
     },
     ServedCase {
         processes: 1,
-        said: "0 contact Q 1\n\n0 contact Q 4\n",
+        lines: "0 contact Q 1\n\n0 contact Q 4\n",
         per_read: 14,
         wanted: "instructions=2 depth=1 budget=2
 | 1970-01-01T00:00:01.000Z clients on 127.0.0.1:7, process on 127.0.0.1:9
@@ -526,7 +526,7 @@ fault 120 line 2
     // Another process connects after the turn with the loss, one turn after the closing.
     ServedCase {
         processes: 2,
-        said: "0 contact Q 1\n",
+        lines: "0 contact Q 1\n",
         wanted: "instructions=2 depth=1 budget=2
 | 1970-01-01T00:00:01.000Z clients on 127.0.0.1:7, process on 127.0.0.1:9
 | 1970-01-01T00:00:01.000Z bay SHA-256 039109cc180841997e6c30d729870d020103592c027cddd03bd60221d0cb410f
@@ -561,15 +561,15 @@ fault 121
 
 /// Checks that a command has the results of its row.
 pub fn check(rt: &impl Abort, alloc: Global, row: &ServedCase) -> Result<(), Fail> {
-    let (text, told) = (RefCell::new(Vec::new(alloc)), RefCell::new(Vec::new(alloc)));
+    let (text, received) = (RefCell::new(Vec::new(alloc)), RefCell::new(Vec::new(alloc)));
     let words: Vec<&str> = row.words.split(" ").collect(alloc)?;
     let mut clients = MemoryLink::new(
         row.clients.unwrap_or(0),
         octets_of(alloc, row.asked)?,
-        &told,
+        &received,
     );
     clients.ends = row.asked.is_empty();
-    let mut process = MemoryLink::new(row.processes, row.said.as_bytes().to_vec(alloc)?, &told);
+    let mut process = MemoryLink::new(row.processes, row.lines.as_bytes().to_vec(alloc)?, &received);
     process.per_read = row.per_read;
     process.ends = !row.stays;
     process.fails_at = row.fails_at;
@@ -592,11 +592,11 @@ pub fn check(rt: &impl Abort, alloc: Global, row: &ServedCase) -> Result<(), Fai
     assert_eq!(rt; ended.status(), row.status, "{}", row.words);
     drop(host);
     assert_eq!(rt; str::from_utf8(text.into_inner().as_slice())?, row.wanted);
-    let told = told.into_inner();
+    let received = received.into_inner();
     assert!(rt;
-        row.processes == 0 || told.as_slice() == row.told.as_bytes(),
+        row.processes == 0 || received.as_slice() == row.received.as_bytes(),
         "{}",
-        row.said
+        row.lines
     );
     Ok(())
 }

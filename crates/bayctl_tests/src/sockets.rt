@@ -49,7 +49,7 @@ fn read_some(stream: &TcpStream, answer: &mut Vec<u8>) -> Result<(), Fail> {
 
 // Returns how many octets a client receives: it waits for `count` octets, at most some seconds, and
 // reads what follows them.
-fn drained(rt: &HostRuntime, stream: &TcpStream, count: usize) -> Result<usize, Fail> {
+fn count_received(rt: &HostRuntime, stream: &TcpStream, count: usize) -> Result<usize, Fail> {
     let mut octets = Vec::new(rt.alloc());
     let mut idle = 0u32;
     for _ in 0..u32::MAX {
@@ -71,12 +71,12 @@ const PIECE: [u8; 65_536] = [7; 65_536];
 
 // Sends octets to client 1, which reads none, until the link takes none. Returns how many the link
 // took, or `None` if a write fails or the link always takes more.
-fn filled<C: Clock>(link: &mut TcpLink<'_, C>) -> Option<usize> {
-    let mut told = 0usize;
+fn fill_link<C: Clock>(link: &mut TcpLink<'_, C>) -> Option<usize> {
+    let mut written = 0usize;
     for _ in 0..4000 {
         match link.write(1, &PIECE) {
-            Ok(0) => return Some(told),
-            Ok(count) => told = told.saturating_add(count),
+            Ok(0) => return Some(written),
+            Ok(count) => written = written.saturating_add(count),
             Err(_) => return None,
         }
     }
@@ -84,7 +84,7 @@ fn filled<C: Clock>(link: &mut TcpLink<'_, C>) -> Option<usize> {
 }
 
 // Returns how many milliseconds a wait takes.
-fn waited(rt: &HostRuntime, readiness: &mut Readiness, most: u64) -> io::Result<u128> {
+fn wait_time(rt: &HostRuntime, readiness: &mut Readiness, most: u64) -> io::Result<u128> {
     let begun = Instant::now(rt)?;
     readiness.wait(Duration::from_millis(most))?;
     Ok(begun.elapsed(rt)?.as_millis())
@@ -105,22 +105,22 @@ fn clients_of_a_link(rt: HostRuntime) -> Result<(), Fail> {
     let other = SocketAddr::from((Ipv4Addr::new(127, 0, 0, 2), link.port()?));
     assert!(rt; TcpStream::connect(&rt, other).is_err());
     assert_eq!(rt; link.accept(1), Ok(None));
-    assert!(rt; matches!(waited(&rt, &mut readiness, 50), Ok(45..)));
+    assert!(rt; matches!(wait_time(&rt, &mut readiness, 50), Ok(45..)));
     assert_eq!(rt; link.accept(1), Ok(None));
     let mut streams = Vec::new(rt.alloc());
     for place in 0..2u16 {
         streams.push(client_of(&rt, &link)?)?;
-        assert!(rt; matches!(waited(&rt, &mut readiness, 30_000), Ok(..15_000)));
+        assert!(rt; matches!(wait_time(&rt, &mut readiness, 30_000), Ok(..15_000)));
         assert!(rt; matches!(link.accept(place + 1), Ok(Some(_))));
         // the new connection becomes writable, which ends one more wait
-        assert!(rt; waited(&rt, &mut readiness, 50).is_ok());
-        assert!(rt; matches!(waited(&rt, &mut readiness, 50), Ok(45..)));
+        assert!(rt; wait_time(&rt, &mut readiness, 50).is_ok());
+        assert!(rt; matches!(wait_time(&rt, &mut readiness, 50), Ok(45..)));
     }
     let [first, second] = streams.as_slice() else {
         return Err(Fail::from("two clients connect"));
     };
     (&mut &*first).write_all(b"a")?;
-    assert!(rt; matches!(waited(&rt, &mut readiness, 30_000), Ok(..15_000)));
+    assert!(rt; matches!(wait_time(&rt, &mut readiness, 30_000), Ok(..15_000)));
     clock.seconds.set(109);
     assert_eq!(rt; link.read(1, &mut [0; 16]), Ok(ReadResult::Bytes(1)));
     assert_eq!(rt; link.read(2, &mut [0; 16]), Ok(ReadResult::Nothing));
@@ -130,9 +130,9 @@ fn clients_of_a_link(rt: HostRuntime) -> Result<(), Fail> {
     assert!(rt; link.read(2, &mut [0; 16]).is_err() && link.failures() == 1);
     link.close(2);
     assert!(rt; link.write(2, b"a").is_err());
-    let told = filled(&mut link).unwrap_or(0);
-    assert!(rt; told > 0 && drained(&rt, first, told)? == told);
-    assert_eq!(rt; drained(&rt, second, 0)?, 0);
+    let written = fill_link(&mut link).unwrap_or(0);
+    assert!(rt; written > 0 && count_received(&rt, first, written)? == written);
+    assert_eq!(rt; count_received(&rt, second, 0)?, 0);
     Ok(())
 }
 
@@ -146,11 +146,11 @@ fn idle_clients_of_a_link(rt: HostRuntime) -> Result<(), Fail> {
     let mut readiness = Readiness::new(&rt, rt.alloc())?;
     let mut link = TcpLink::bind(&rt, &clock, &mut readiness, 0, Some(60))?;
     let stream = client_of(&rt, &link)?;
-    assert!(rt; matches!(waited(&rt, &mut readiness, 30_000), Ok(..15_000)));
+    assert!(rt; matches!(wait_time(&rt, &mut readiness, 30_000), Ok(..15_000)));
     assert!(rt; matches!(link.accept(1), Ok(Some(_))));
     for seconds in [105, 164, 223] {
         (&mut &stream).write_all(b"a")?;
-        assert!(rt; matches!(waited(&rt, &mut readiness, 30_000), Ok(..15_000)));
+        assert!(rt; matches!(wait_time(&rt, &mut readiness, 30_000), Ok(..15_000)));
         clock.seconds.set(seconds);
         assert_eq!(rt; link.read(1, &mut [0; 16]), Ok(ReadResult::Bytes(1)));
     }

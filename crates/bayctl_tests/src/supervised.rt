@@ -6,14 +6,14 @@ use std::test::Fail;
 const SUPERVISED: ServedCase = ServedCase {
     words: "serve --log --bay bay --logic logic --port 7 --turns 4 --process 9 --supervise 1500",
     processes: 1,
-    told: "2000 process 1500 B 1\n",
+    received: "2000 process 1500 B 1\n",
     ..HEARD
 };
 
 // A process that names another bay, or another revision, has another key, or reports before it
 // names any: it is closed before anything is written to it.
 const STRANGER: ServedCase = ServedCase {
-    told: "",
+    received: "",
     wanted: "instructions=2 depth=1 budget=2
 | 1970-01-01T00:00:01.000Z clients on 127.0.0.1:7, process on 127.0.0.1:9
 | 1970-01-01T00:00:01.000Z bay SHA-256 039109cc180841997e6c30d729870d020103592c027cddd03bd60221d0cb410f
@@ -33,8 +33,8 @@ const STRANGER: ServedCase = ServedCase {
 const ROWS: [ServedCase; 12] = [
     // The process names this bay, reports a position, and is answered that the server is alive.
     ServedCase {
-        said: "2000 bay - B 1\n3000 contact Q 1\n4000 alive\n",
-        told: "2000 process 1500 B 1\n5000 alive\n",
+        lines: "2000 bay - B 1\n3000 contact Q 1\n4000 alive\n",
+        received: "2000 process 1500 B 1\n5000 alive\n",
         wanted: "instructions=2 depth=1 budget=2
 | 1970-01-01T00:00:01.000Z clients on 127.0.0.1:7, process on 127.0.0.1:9
 | 1970-01-01T00:00:01.000Z bay SHA-256 039109cc180841997e6c30d729870d020103592c027cddd03bd60221d0cb410f
@@ -52,25 +52,25 @@ const ROWS: [ServedCase; 12] = [
     },
     // It names another bay, or another revision, or reports before it names any.
     ServedCase {
-        said: "2000 bay - C 1\n",
+        lines: "2000 bay - C 1\n",
         ..STRANGER
     },
     ServedCase {
-        said: "2000 bay - B 2\n",
+        lines: "2000 bay - B 2\n",
         ..STRANGER
     },
     ServedCase {
-        said: "2000 contact Q 1\n",
+        lines: "2000 contact Q 1\n",
         ..STRANGER
     },
     // It has another key, then the right one.
     ServedCase {
-        said: "2000 bay - B 1\n",
+        lines: "2000 bay - B 1\n",
         words: "serve --log --bay bay --logic logic --port 7 --turns 4 --process 9 --supervise 1500 --key key",
         ..STRANGER
     },
     ServedCase {
-        said: "2000 bay 0123456789abcdefABCDEF0123456789 B 1\n",
+        lines: "2000 bay 0123456789abcdefABCDEF0123456789 B 1\n",
         words: "serve --log --bay bay --logic logic --port 7 --turns 4 --process 9 --supervise 1500 --key key",
         wanted: "instructions=2 depth=1 budget=2
 | 1970-01-01T00:00:01.000Z clients on 127.0.0.1:7, process on 127.0.0.1:9
@@ -89,7 +89,7 @@ const ROWS: [ServedCase; 12] = [
     },
     // Its line is too old when a turn reads it; and a line has a time in the future.
     ServedCase {
-        said: "2000 bay - B 1\n2000 contact Q 1\n",
+        lines: "2000 bay - B 1\n2000 contact Q 1\n",
         wanted: "instructions=2 depth=1 budget=2
 | 1970-01-01T00:00:01.000Z clients on 127.0.0.1:7, process on 127.0.0.1:9
 | 1970-01-01T00:00:01.000Z bay SHA-256 039109cc180841997e6c30d729870d020103592c027cddd03bd60221d0cb410f
@@ -106,7 +106,7 @@ const ROWS: [ServedCase; 12] = [
         ..SUPERVISED
     },
     ServedCase {
-        said: "2000 bay - B 1\n9000 contact Q 1\n",
+        lines: "2000 bay - B 1\n9000 contact Q 1\n",
         wanted: "instructions=2 depth=1 budget=2
 | 1970-01-01T00:00:01.000Z clients on 127.0.0.1:7, process on 127.0.0.1:9
 | 1970-01-01T00:00:01.000Z bay SHA-256 039109cc180841997e6c30d729870d020103592c027cddd03bd60221d0cb410f
@@ -124,7 +124,7 @@ const ROWS: [ServedCase; 12] = [
     },
     // It sends nothing more.
     ServedCase {
-        said: "2000 bay - B 1\n",
+        lines: "2000 bay - B 1\n",
         stays: true,
         wanted: "instructions=2 depth=1 budget=2
 | 1970-01-01T00:00:01.000Z clients on 127.0.0.1:7, process on 127.0.0.1:9
@@ -143,10 +143,10 @@ const ROWS: [ServedCase; 12] = [
     },
     // It sends nothing more after its last line, whose time is before the turn that read it.
     ServedCase {
-        said: "2000 bay - B 1\n2900 alive\n",
+        lines: "2000 bay - B 1\n2900 alive\n",
         stays: true,
         words: "serve --log --bay bay --logic logic --port 7 --turns 4 --process 9 --supervise 2000",
-        told: "2000 process 2000 B 1\n4000 alive\n",
+        received: "2000 process 2000 B 1\n4000 alive\n",
         wanted: "instructions=2 depth=1 budget=2
 | 1970-01-01T00:00:01.000Z clients on 127.0.0.1:7, process on 127.0.0.1:9
 | 1970-01-01T00:00:01.000Z bay SHA-256 039109cc180841997e6c30d729870d020103592c027cddd03bd60221d0cb410f
@@ -164,9 +164,9 @@ const ROWS: [ServedCase; 12] = [
     },
     // The time of a line is before that of the line before it.
     ServedCase {
-        said: "2000 bay - B 1\n1999 alive\n",
+        lines: "2000 bay - B 1\n1999 alive\n",
         words: "serve --log --bay bay --logic logic --port 7 --turns 4 --process 9 --supervise 2500",
-        told: "2000 process 2500 B 1\n",
+        received: "2000 process 2500 B 1\n",
         wanted: "instructions=2 depth=1 budget=2
 | 1970-01-01T00:00:01.000Z clients on 127.0.0.1:7, process on 127.0.0.1:9
 | 1970-01-01T00:00:01.000Z bay SHA-256 039109cc180841997e6c30d729870d020103592c027cddd03bd60221d0cb410f
@@ -185,8 +185,8 @@ const ROWS: [ServedCase; 12] = [
     // The system's clock goes on by an hour more than the steady one, as it does if the machine
     // sleeps.
     ServedCase {
-        said: "2000 bay - B 1\n",
-        told: "",
+        lines: "2000 bay - B 1\n",
+        received: "",
         stays: true,
         jump: 3_600_000,
         wanted: "instructions=2 depth=1 budget=2

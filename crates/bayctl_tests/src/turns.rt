@@ -19,7 +19,7 @@ fn session(alloc: Global, asked: usize) -> Result<Vec<u8>, Fail> {
 }
 
 // Serves turns one millisecond apart, and returns the closings that they report.
-fn closings(
+fn serve_and_collect(
     alloc: Global,
     link: &mut MemoryLink<'_>,
     turns: u64,
@@ -35,7 +35,7 @@ fn closings(
 
 // Clients that each send a number of identify requests, and take a maximum number of octets at a
 // write, with the number of octets that they take and why they are closed.
-struct Asking {
+struct ClientRow {
     clients: usize,
     asked: usize,
     per_write: usize,
@@ -48,8 +48,8 @@ struct Asking {
 // same turn. With one octet at a write the result is the same; nine clients are served one after
 // the other, each of which ends in the turn in which the next one connects; a client that never
 // reads is closed.
-const ASKING: [Asking; 4] = [
-    Asking {
+const CLIENT_ROWS: [ClientRow; 4] = [
+    ClientRow {
         clients: 1,
         asked: 0,
         per_write: 200,
@@ -57,7 +57,7 @@ const ASKING: [Asking; 4] = [
         taken: 22 + 139,
         closed: &[],
     },
-    Asking {
+    ClientRow {
         clients: 1,
         asked: 1,
         per_write: 1,
@@ -65,7 +65,7 @@ const ASKING: [Asking; 4] = [
         taken: 204,
         closed: &[(1, CloseReason::Ended)],
     },
-    Asking {
+    ClientRow {
         clients: 9,
         asked: 1,
         per_write: 50,
@@ -83,7 +83,7 @@ const ASKING: [Asking; 4] = [
             (1, CloseReason::Ended),
         ],
     },
-    Asking {
+    ClientRow {
         clients: 1,
         asked: 8000,
         per_write: 0,
@@ -97,12 +97,12 @@ const ASKING: [Asking; 4] = [
 #[test]
 fn clients_are_answered_and_closed(rt: HostRuntime) -> Result<(), Fail> {
     let whole = octets_of(rt.alloc(), &[CONFIRM, CONNECTED, IDENTITY])?;
-    for row in ASKING.iter() {
+    for row in CLIENT_ROWS.iter() {
         let asked = session(rt.alloc(), row.asked)?;
         let taken = RefCell::new(Vec::new(rt.alloc()));
         let mut link = MemoryLink::new(row.clients, asked, &taken);
         link.per_write = row.per_write;
-        let closed = closings(rt.alloc(), &mut link, row.turns)?;
+        let closed = serve_and_collect(rt.alloc(), &mut link, row.turns)?;
         assert!(rt; closed.as_slice() == row.closed && link.closed == closed.len() as u64);
         drop(link);
         let taken = taken.into_inner();
@@ -127,7 +127,7 @@ fn check_session_with_failing_call(
     link.ends = false;
     link.per_write = 50;
     link.fails_at = fails_at;
-    let closed = closings(alloc, &mut link, 3)?;
+    let closed = serve_and_collect(alloc, &mut link, 3)?;
     let (calls, failures) = (link.calls, link.failures);
     drop(link);
     let taken = taken.into_inner();

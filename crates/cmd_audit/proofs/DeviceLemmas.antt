@@ -8,7 +8,7 @@ use Rattle.bay_io.proofs.SentLemmas.{Puts-then}
 use Rattle.bay_load.specs.Loads.{LoadData}
 use Rattle.bay_load.specs.Report.{IsReport}
 use Rattle.bay_load.specs.declared.report.Report.{Report}
-use Rattle.bay_report.specs.LogLines.{LogsSome, PrintsLogs}
+use Rattle.bay_report.specs.LogLines.{LogsIfAny, PrintsLogs}
 use Rattle.bay_report.specs.Report.{Prints, report_text}
 use Rattle.bay_report.proofs.ReportLemmas.{Prints-last}
 use Rattle.cmd_audit.specs.Auditing.{LoadedReport}
@@ -29,13 +29,13 @@ module _ {W : Type 0} {contents : W → Option (List ℕ)} {does : W → WriteCa
       → Prints contents does (LoadedReport loaded texts.rules texts.diagram log) old between r
   device-prints {X} {E} {old} {first} {begun} {mid} early between r put flushed p f ends =
       Prints-last (LoadedReport loaded texts.rules texts.diagram log) between status r
-      (record { report = report; is = is; rest = p.rest; whole = refl; says = p.says })
+      (record { report = report; is = is; rest = p.rest; whole = refl; prints = p.prints })
       (Puts-then (put-flushed {X = X} {E = E} (report_text report) early put flushed) p.put) f ends
 
   pub device-told : {old between new : WriterState W} (answered : ℕ)
       → Prints contents does (LoadedReport loaded texts.rules texts.diagram log) old between
       (Ok answered)
-      → LogsSome contents does between log new
+      → LogsIfAny contents does between log new
       → PrintsLogs contents does (LoadedReport loaded texts.rules texts.diagram) old new
       (Ok answered)
   device-told {old} {between} {new} answered p logged =

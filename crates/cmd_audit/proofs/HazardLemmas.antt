@@ -38,7 +38,7 @@ module _ {W : Type 0} {contents : W → Option (List ℕ)} {does : W → WriteCa
     releases = [];
     right = tt;
     all = refl;
-    so = refl;
+    passed_is = refl;
     put = Puts-nil w;
   }
 
@@ -49,7 +49,7 @@ module _ {W : Type 0} {contents : W → Option (List ℕ)} {does : W → WriteCa
       → Puts contents does mid (hazard_line bay d r) new
       → PutsJudged contents does bay d g (these ++ way ∷ []) (passed && is_safe r) old new
   more-put these way passed r {old} {mid} {new} p right is put =
-      let said : hazard_lines bay d (p.releases ++ r ∷ [])
+      let written : hazard_lines bay d (p.releases ++ r ∷ [])
       ≡ hazard_lines bay d p.releases ++ hazard_line bay d r =
       flat_map-append (hazard_line bay d) p.releases (r ∷ [])
       ∙ ap (λ (t : List ℕ). hazard_lines bay d p.releases ++ t)
@@ -59,10 +59,10 @@ module _ {W : Type 0} {contents : W → Option (List ℕ)} {does : W → WriteCa
         right = judged-more g d.network p.releases r p.right right;
         all = map-append judged_way p.releases (r ∷ [])
             ∙ ap₂ (λ (ws : List (ℕ × Operation)) (w : ℕ × Operation). ws ++ w ∷ []) p.all is;
-        so = ap (λ (b : Bool). b && is_safe r) p.so
+        passed_is = ap (λ (b : Bool). b && is_safe r) p.passed_is
             ∙ ap (λ (b : Bool). list_all is_safe p.releases && b) (sym (and-true (is_safe r)))
             ∙ sym (list_all-append is_safe p.releases (r ∷ []));
-        put = Puts-as (hazard_lines bay d (p.releases ++ r ∷ [])) (sym said)
+        put = Puts-as (hazard_lines bay d (p.releases ++ r ∷ [])) (sym written)
             (Puts-then p.put put);
       }
 
@@ -74,11 +74,11 @@ module _ {W : Type 0} {contents : W → Option (List ℕ)} {does : W → WriteCa
       → IsJudgedRelease g d.network r → judged_way r ≡ way → text ≡ hazard_line bay d r
       → Puts contents does mid text new
       → PutsJudged contents does bay d g (take (k + 1) these) (passed && is_safe r) old new
-  next-put these k passed way r text {old} {mid} {new} taken p right is said put =
+  next-put these k passed way r text {old} {mid} {new} taken p right is written put =
       subst (λ (ws : List (ℕ × Operation)). PutsJudged contents does bay d g ws
       (passed && is_safe r) old new)
       (sym taken)
-      (more-put (take k these) way passed r p right is (Puts-as (hazard_line bay d r) said put))
+      (more-put (take k these) way passed r p right is (Puts-as (hazard_line bay d r) written put))
 
   pub first-put : (these : List (ℕ × Operation)) (k : ℕ) (passed : Bool) {old new : WriterState W}
       → PutsJudged contents does bay d g (take k these) passed old new
@@ -99,13 +99,13 @@ module _ {W : Type 0} {contents : W → Option (List ℕ)} {does : W → WriteCa
   cut-at-once w = record {
     text = [];
     put = Puts-nil w;
-    says = record {
+    prints = record {
       releases = [];
       right = tt;
-      said = inr (record {
+      written = inr (record {
         later = directions (length loaded.bay.switches);
         first = refl;
-        said = refl;
+        written = refl;
         ends = refl;
       });
     };
@@ -118,13 +118,13 @@ module _ {W : Type 0} {contents : W → Option (List ℕ)} {does : W → WriteCa
   cut-judged g these {old} {new} f all p = record {
     text = hazard_lines loaded.bay d p.put.releases;
     put = p.put.put;
-    says = record {
+    prints = record {
       releases = p.put.releases;
       right = subst (λ (h : BoundProgram). AreJudged h d.network p.put.releases) f p.put.right;
-      said = inr (record {
+      written = inr (record {
         later = p.later;
         first = ap (λ (ws : List (ℕ × Operation)). ws ++ p.later) p.put.all ∙ sym p.parts ∙ all;
-        said = refl;
+        written = refl;
         ends = refl;
       });
     };
@@ -138,13 +138,13 @@ module _ {W : Type 0} {contents : W → Option (List ℕ)} {does : W → WriteCa
   whole-judged g these passed {old} {new} f all p = record {
     text = hazard_lines loaded.bay d p.releases;
     put = p.put;
-    says = record {
+    prints = record {
       releases = p.releases;
       right = subst (λ (h : BoundProgram). AreJudged h d.network p.releases) f p.right;
-      said = inl (record {
+      written = inl (record {
         all = p.all ∙ all;
-        said = append-nil (hazard_lines loaded.bay d p.releases);
-        ends = ap status_of p.so;
+        written = append-nil (hazard_lines loaded.bay d p.releases);
+        ends = ap status_of p.passed_is;
       });
     };
   }

@@ -7,12 +7,12 @@ use Rattle.bay_audit.specs.declared.answer.RuleAnswer.{RuleAnswer}
 use Rattle.bay_audit.specs.declared.answer.Release.{Release}
 use Rattle.bay_replay_laws.proofs.LineLemmas.{AreLines, each-line, map-lines, more-lines, no-lines, one-line}
 use Rattle.cmd_audit.specs.Auditing.{IsCut, IsWhole}
-use Rattle.cmd_audit.specs.Names.{AreWords, HasWords, Known, known_of}
+use Rattle.cmd_audit.specs.Names.{AreWords, HasWords, ProgramNames, program_names}
 use Rattle.cmd_audit.specs.Text as spec
 use Rattle.cmd_audit.specs.Verdicts.{HoldsAreRead}
 use Rattle.cmd_audit.proofs.VerdictLemmas as lines
 
-module _ (bay : Bay) (names : Known) (g : BoundProgram) (words : HasWords bay)
+module _ (bay : Bay) (names : ProgramNames) (g : BoundProgram) (words : HasWords bay)
     (known : AreWords names) where
   abbrev Said : List (Rule × RuleAnswer) → List ℕ → Type 0
   Said pairs line = lines.Says bay names g words known pairs line
@@ -50,22 +50,22 @@ module _ (bay : Bay) (names : Known) (g : BoundProgram) (words : HasWords bay)
       ⊎ IsCut bay names rules answers releases text status
       → AreLines (Said (zip rules answers)) text
   said-lines rules answers releases text status right (inl whole) =
-      subst (AreLines (Said (zip rules answers))) (sym whole.said)
+      subst (AreLines (Said (zip rules answers))) (sym whole.written)
       (more-lines (lines.answers-lines bay names g words known rules answers right)
       (lines.releases-lines bay names g words known (zip rules answers) releases))
   said-lines rules answers releases text status right (inr cut) =
-      subst (AreLines (Said (zip rules answers))) (sym cut.said)
+      subst (AreLines (Said (zip rules answers))) (sym cut.written)
       (more-lines (answers-parts rules answers cut.shown cut.hidden right cut.parts)
       (more-lines (lines.shown-lines bay names g words known (zip rules answers) releases)
       (fault-line (zip rules answers))))
 
 pub holds-are-read : HoldsAreRead
-holds-are-read loaded rules text status words known said line hold at e =
+holds-are-read loaded rules text status words known written line hold at e =
     let bay = loaded.bay in
-    let names = known_of loaded in
+    let names = program_names loaded in
     let g = program_of bay loaded.image in
-    let pairs = zip rules said.answers in
+    let pairs = zip rules written.answers in
     each-line
-    (said-lines bay names g words known rules said.answers said.releases text status said.right
-    said.said)
+    (said-lines bay names g words known rules written.answers written.releases text status written.right
+    written.written)
     (lines.says-none bay names g words known pairs [] refl) line at hold e

@@ -18,6 +18,6 @@ pub refused-text : {E : Type 0} (loaded : LoadData) (text : List ℕ) (why : Rul
     → (why ≡ fault.OutOfMemory) ⊎ TextRead loaded.bay text (Err why) → (r : Result RulesVerdict E)
     → IfOk r (λ verdict. (verdict ≡ Refused why) × (why ≢ fault.OutOfMemory))
     → IfOk r (JudgesText loaded text)
-refused-text loaded text why means (Ok verdict) said =
-    record { meant = Err why; means = not-memory why means said.1; judges = said.0 }
-refused-text loaded text why means (Err e) said = tt
+refused-text loaded text why parses (Ok verdict) written =
+    record { parsed = Err why; parses = not-memory why parses written.1; judges = written.0 }
+refused-text loaded text why parses (Err e) written = tt

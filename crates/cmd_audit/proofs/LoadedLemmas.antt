@@ -9,12 +9,12 @@ use Rattle.bay_io.specs.Sent.{Puts}
 use Rattle.bay_io.specs.Watched.{WriterState}
 use Rattle.bay_io.proofs.SentLemmas.{Puts-nil, Puts-then}
 use Rattle.bay_load.specs.Loads.{LoadData}
-use Rattle.bay_report.specs.LogLines.{IsReported}
+use Rattle.bay_report.specs.LogLines.{IsLoggedOutput}
 use Rattle.bay_report.specs.Report.{code_of}
-use Rattle.cmd_audit.specs.Auditing.{AnswersIf, AreAnswered, DiagramRead, IsTextFor, JudgementsIf, RulesRead, status_of}
+use Rattle.cmd_audit.specs.Auditing.{AnswersIf, AreAnswered, DiagramRead, RulesReport, JudgementsIf, RulesRead, status_of}
 use Rattle.cmd_audit.specs.Refusals.{diagram_refusal, log_in}
 use Rattle.cmd_audit.specs.Text.{refusal_text}
-use Rattle.cmd_audit.specs.Written.{PutsRest, PutsSaid, PutsStopped, PutsText}
+use Rattle.cmd_audit.specs.Written.{PutsRest, PutsRulesText, PutsStopped, PutsText}
 use Rattle.cmd_audit.specs.declared.loaded.AuditEnd.{AuditEnd}
 use Rattle.cmd_audit.specs.declared.loaded.AuditTexts.{AuditTexts}
 use Rattle.cmd_audit.specs.declared.refusal.Refusal.{Refusal}
@@ -40,13 +40,13 @@ module _ {W : Type 0} {contents : W → Option (List ℕ)} {does : W → WriteCa
   answered-whole passed safe status {old} {mid} {new} a j ends = record {
     text = a.text ++ j.text;
     put = Puts-then a.put j.put;
-    says = inl (record {
+    prints = inl (record {
       passed = passed;
       answered = a.text ++ [];
-      answers = a.says;
+      answers = a.prints;
       judged = j.text ++ [];
       ended = status_of safe;
-      judgements = j.says;
+      judgements = j.prints;
       whole = append-nil (a.text ++ j.text)
           ∙ sym (ap (λ (t : List ℕ). (a.text ++ []) ++ t) (append-nil j.text)
           ∙ ap (λ (t : List ℕ). t ++ j.text) (append-nil a.text));
@@ -58,7 +58,7 @@ module _ {W : Type 0} {contents : W → Option (List ℕ)} {does : W → WriteCa
   pub answered-first : {old new : WriterState W}
       → PutsText contents does (AnswersIf loaded rules) (codes "fault memory\n") 3 old new
       → PutsText contents does (AreAnswered loaded rules d) (codes "fault memory\n") 3 old new
-  answered-first {old} {new} a = record { text = a.text; put = a.put; says = inr (refl, a.says) }
+  answered-first {old} {new} a = record { text = a.text; put = a.put; prints = inr (refl, a.prints) }
 
   -- memory ran out in the second part
   pub answered-second : (passed : Bool) {old mid new : WriterState W}
@@ -68,13 +68,13 @@ module _ {W : Type 0} {contents : W → Option (List ℕ)} {does : W → WriteCa
   answered-second passed {old} {mid} {new} a j = record {
     text = a.text ++ j.text;
     put = Puts-then a.put j.put;
-    says = inl (record {
+    prints = inl (record {
       passed = passed;
       answered = a.text ++ [];
-      answers = a.says;
+      answers = a.prints;
       judged = j.text ++ codes "fault memory\n";
       ended = 3;
-      judgements = j.says;
+      judgements = j.prints;
       whole = append_assoc a.text j.text (codes "fault memory\n")
           ∙ ap (λ (t : List ℕ). t ++ (j.text ++ codes "fault memory\n")) (sym (append-nil a.text));
       ends = refl;
@@ -85,30 +85,30 @@ module _ {W : Type 0} {contents : W → Option (List ℕ)} {does : W → WriteCa
 pub none-answered : {W : Type 0} {contents : W → Option (List ℕ)}
     {does : W → WriteCall → W → Type 0} (loaded : LoadData) (w : WriterState W)
     → PutsText contents does (AnswersIf loaded None) [] 0 w w
-none-answered loaded w = record { text = []; put = Puts-nil w; says = (refl, refl) }
+none-answered loaded w = record { text = []; put = Puts-nil w; prints = (refl, refl) }
 
 pub none-judged : {W : Type 0} {contents : W → Option (List ℕ)}
     {does : W → WriteCall → W → Type 0} (loaded : LoadData) (w : WriterState W)
     → PutsText contents does (JudgementsIf loaded None) [] 0 w w
-none-judged loaded w = record { text = []; put = Puts-nil w; says = (refl, refl) }
+none-judged loaded w = record { text = []; put = Puts-nil w; prints = (refl, refl) }
 
 module _ {W : Type 0} {contents : W → Option (List ℕ)} {does : W → WriteCall → W → Type 0}
     (loaded : LoadData) (texts : AuditTexts) where
   -- nothing was put
   pub put-nothing : (w : WriterState W) → PutsStopped contents does loaded texts w w
-  put-nothing w = record { text = []; put = Puts-nil w; says = inr refl }
+  put-nothing w = record { text = []; put = Puts-nil w; prints = inr refl }
 
   pub put-stopped : (rules : Option (List Rule)) (d : Option Diagram) {old new : WriterState W}
       → RulesRead loaded.bay texts.rules (Ok rules) → DiagramRead loaded.bay texts.diagram (Ok d)
       → PutsText contents does (AreAnswered loaded rules d) (codes "fault memory\n") 3 old new
       → PutsStopped contents does loaded texts old new
-  put-stopped rules d {old} {new} means are p = record {
+  put-stopped rules d {old} {new} parses are p = record {
     text = p.text;
     put = p.put;
-    says = inl (record {
-      meant = Ok rules;
-      means = means;
-      says = record { meant = Ok d; means = are; says = (refl, p.says) };
+    prints = inl (record {
+      parsed = Ok rules;
+      parses = parses;
+      prints = record { parsed = Ok d; parses = are; prints = (refl, p.prints) };
     });
   }
 
@@ -116,19 +116,19 @@ module _ {W : Type 0} {contents : W → Option (List ℕ)} {does : W → WriteCa
       {old new : WriterState W}
       → RulesRead loaded.bay texts.rules (Ok rules) → DiagramRead loaded.bay texts.diagram (Ok d)
       → PutsText contents does (AreAnswered loaded rules d) [] status old new
-      → PutsSaid contents does loaded texts None status old new
-  put-said rules d status {old} {new} means are p = record {
+      → PutsRulesText contents does loaded texts None status old new
+  put-said rules d status {old} {new} parses are p = record {
     text = p.text;
     put = p.put;
-    says = record {
-      meant = Ok rules;
-      means = means;
-      says = record {
-        meant = Ok d;
-        means = are;
-        says = (
+    prints = record {
+      parsed = Ok rules;
+      parses = parses;
+      prints = record {
+        parsed = Ok d;
+        parses = are;
+        prints = (
           refl,
-          subst (λ (t : List ℕ). AreAnswered loaded rules d t status) (append-nil p.text) p.says,
+          subst (λ (t : List ℕ). AreAnswered loaded rules d t status) (append-nil p.text) p.prints,
         );
       };
     };
@@ -137,11 +137,11 @@ module _ {W : Type 0} {contents : W → Option (List ℕ)} {does : W → WriteCa
   pub put-refused : (fault : RuleFault) {old new : WriterState W}
       → RulesRead loaded.bay texts.rules (Err fault)
       → Puts contents does old (refusal_text fault) new
-      → PutsSaid contents does loaded texts (log_in (Some (Rules fault))) 1 old new
-  put-refused fault {old} {new} means put = record {
+      → PutsRulesText contents does loaded texts (log_in (Some (Rules fault))) 1 old new
+  put-refused fault {old} {new} parses put = record {
     text = refusal_text fault;
     put = put;
-    says = record { meant = Err fault; means = means; says = (refl, (refl, refl)) };
+    prints = record { parsed = Err fault; parses = parses; prints = (refl, (refl, refl)) };
   }
 
   pub put-refused-diagram : (rules : Option (List Rule)) (fault : DiagramFault)
@@ -149,14 +149,14 @@ module _ {W : Type 0} {contents : W → Option (List ℕ)} {does : W → WriteCa
       → RulesRead loaded.bay texts.rules (Ok rules)
       → DiagramRead loaded.bay texts.diagram (Err fault)
       → Puts contents does old (diagram_refusal fault) new
-      → PutsSaid contents does loaded texts (log_in (Some (DiagramFile fault))) 1 old new
-  put-refused-diagram rules fault {old} {new} means are put = record {
+      → PutsRulesText contents does loaded texts (log_in (Some (DiagramFile fault))) 1 old new
+  put-refused-diagram rules fault {old} {new} parses are put = record {
     text = diagram_refusal fault;
     put = put;
-    says = record {
-      meant = Ok rules;
-      means = means;
-      says = record { meant = Err fault; means = are; says = (refl, (refl, refl)) };
+    prints = record {
+      parsed = Ok rules;
+      parses = parses;
+      prints = record { parsed = Err fault; parses = are; prints = (refl, (refl, refl)) };
     };
   }
 
@@ -167,15 +167,15 @@ module _ {W : Type 0} {contents : W → Option (List ℕ)} {does : W → WriteCa
   rest-stopped {old} {mid} {new} p fault = record {
     rest = p.text ++ codes "fault memory\n";
     put = Puts-then p.put fault;
-    says = by-case p.says;
+    prints = by-case p.prints;
   }
     where
       by-case
-          : IsTextFor loaded texts.rules texts.diagram None (p.text ++ codes "fault memory\n") 3
+          : RulesReport loaded texts.rules texts.diagram None (p.text ++ codes "fault memory\n") 3
           ⊎ (p.text ≡ [])
-          → IsTextFor loaded texts.rules texts.diagram None (p.text ++ codes "fault memory\n") 3
-          ⊎ IsReported None (codes "fault memory\n") 3 None (p.text ++ codes "fault memory\n") 3
-      by-case (inl says) = inl says
+          → RulesReport loaded texts.rules texts.diagram None (p.text ++ codes "fault memory\n") 3
+          ⊎ IsLoggedOutput None (codes "fault memory\n") 3 None (p.text ++ codes "fault memory\n") 3
+      by-case (inl prints) = inl prints
       by-case (inr none) =
           inr (refl, (ap (λ (t : List ℕ). t ++ codes "fault memory\n") none, refl))
 
@@ -189,11 +189,11 @@ pub said-of : {W : Type 0} (contents : W → Option (List ℕ)) (does : W → Wr
     × PutsText contents does (AreAnswered loaded rules d) [] (code_of end.status) old new)
     (λ e. PutsText contents does (AreAnswered loaded rules d) (codes "fault memory\n") 3 old new)
     → MatchResult r
-    (λ end. PutsSaid contents does loaded texts (log_in end.refused) (code_of end.status) old new)
+    (λ end. PutsRulesText contents does loaded texts (log_in end.refused) (code_of end.status) old new)
     (λ e. PutsStopped contents does loaded texts old new)
-said-of contents does loaded texts rules d old new (Ok end) means are p =
-    subst (λ (refused : Option Refusal). PutsSaid contents does loaded texts (log_in refused)
+said-of contents does loaded texts rules d old new (Ok end) parses are p =
+    subst (λ (refused : Option Refusal). PutsRulesText contents does loaded texts (log_in refused)
     (code_of end.status) old new) (sym p.0)
-    (put-said loaded texts rules d (code_of end.status) means are p.1)
-said-of contents does loaded texts rules d old new (Err e) means are p =
-    put-stopped loaded texts rules d means are p
+    (put-said loaded texts rules d (code_of end.status) parses are p.1)
+said-of contents does loaded texts rules d old new (Err e) parses are p =
+    put-stopped loaded texts rules d parses are p

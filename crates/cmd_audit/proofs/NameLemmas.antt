@@ -19,7 +19,7 @@ use Rattle.std.specs.Str.{is_utf8}
 use Rattle.bay_base.specs.Names.{same_name}
 use Rattle.bay_base.specs.Results.{◌>>=◌}
 use Rattle.bay_config.specs.Key.{is_name_character}
-use Rattle.bay_load.specs.Loads.{declarations_of, declared_in, text_of}
+use Rattle.bay_load.specs.Loads.{declarations_of, declared_in, parsed_program}
 use Rattle.bay_load.specs.Names.{NamesData, timer_in, timer_names, variable_in, variable_names}
 use Rattle.bay_load.specs.declared.load.Form.{Form}
 use Rattle.bay_load.specs.declared.load.Form.TheVariants.{Logic, Image}
@@ -496,7 +496,7 @@ text-named (Ok p) program false is = absurd cc
 text-named (Err fault) program utf8 is = tt
 
 declared-named : (form : Form) (program : List ℕ) → Each IsDeclaredNamed (declared_in form program)
-declared-named Logic program = text-named (text_of program) program (is_utf8 program) refl
+declared-named Logic program = text-named (parsed_program program) program (is_utf8 program) refl
 declared-named Image program = tt
 
 pub names-are-words : NamesAreWords

@@ -32,9 +32,9 @@ use Rattle.il_image.specs.declared.image.ImagePoint.{ImagePoint}
 use Rattle.bay_replay_laws.specs.Printed.{words_in}
 use Rattle.bay_replay_laws.proofs.LineLemmas.{AreLines, decimal-free, free, free-append, map-lines, more-lines, no-lines, one-line, split-at}
 use Rattle.bay_replay_laws.proofs.ReadLemmas.{no-end, no-space}
-use Rattle.cmd_audit.specs.Names.{AreWords, HasWords, IsWord, Known}
+use Rattle.cmd_audit.specs.Names.{AreWords, HasWords, IsWord, ProgramNames}
 use Rattle.cmd_audit.specs.Text as spec
-use Rattle.cmd_audit.specs.Verdicts.{IsHold, PrintedHold, hold_in, hold_of, operation_in, printed_hold}
+use Rattle.cmd_audit.specs.Verdicts.{IsHold, PrintedHold, hold_in, hold_from_parts, operation_in, printed_hold}
 
 -- ---- octets that end no line
 
@@ -125,7 +125,7 @@ range-free low high =
     (free-append 10 (signed_decimal low ++ codes "..") (signed_decimal high)
     (free-append 10 (signed_decimal low) (codes "..") (signed-free low) refl) (signed-free high))
 
-measure-free : (low high : ℤ) (name : List ℕ) → IsWord name → IsFree (spec.measure_of low high name)
+measure-free : (low high : ℤ) (name : List ℕ) → IsWord name → IsFree (spec.range_measure low high name)
 measure-free low high name word =
     one-of (int_eq low (negsuc 2147483647) && int_eq high (pos 2147483647)) []
     (spec.name_text name ++ spec.range_text low high) refl
@@ -161,15 +161,15 @@ named-free word k None plain is =
     blank-free (word ++ decimal k) (free-append 10 word (decimal k) plain (number-free k))
 named-free word k (Some name) plain is = blank-free name (name-free name is)
 
-slot-free : (names : Known) (k : ℕ) (o : Option ImagePoint) → AreWords names
-    → Maybe (λ p. IsWord p.name) o → IsFree (spec.slot_of names k o)
+slot-free : (names : ProgramNames) (k : ℕ) (o : Option ImagePoint) → AreWords names
+    → Maybe (λ p. IsWord p.name) o → IsFree (spec.slot_name names k o)
 slot-free names k None words is =
     named-free (codes "variable") (k - length names.points)
     (slice_get names.variables (k - length names.points)) refl
     (each-get IsWord names.variables (k - length names.points) words.variables)
 slot-free names k (Some point) words is = blank-free point.name (name-free point.name is)
 
-timer-free : (names : Known) (k : ℕ) → AreWords names → IsFree (spec.timer_text names k)
+timer-free : (names : ProgramNames) (k : ℕ) → AreWords names → IsFree (spec.timer_text names k)
 timer-free names k words =
     named-free (codes "timer") k (slice_get names.timers k) refl
     (each-get IsWord names.timers k words.timers)
@@ -178,7 +178,7 @@ cond-free : (b : Bool) (rest : List ℕ) → IsFree rest → IsFree (cond b [] r
 cond-free true rest free = refl
 cond-free false rest free = free
 
-kept-free : (word : List ℕ) (names : Known) (kept : StateDependencies) → IsFree word
+kept-free : (word : List ℕ) (names : ProgramNames) (kept : StateDependencies) → IsFree word
     → AreWords names
     → IsFree (spec.dependencies_text word names kept)
 kept-free word names kept plain words =
@@ -238,7 +238,7 @@ hold-read line id operation [] hold e = absurd cc
 hold-read line id operation (v ∷ ws) hold e = by-test (bytes_eq v (codes "holds")) operation e
   where
     by-test : (b : Bool) (o : Operation)
-        → cond b (hold_of line id (operation_in (operation_word o))) None ≡ Some hold
+        → cond b (hold_from_parts line id (operation_in (operation_word o))) None ≡ Some hold
         → AreRead line id o hold
     by-test true operations.Open is = told-read line id operations.Open hold is
     by-test true operations.Close is = told-read line id operations.Close hold is
@@ -292,7 +292,7 @@ id-word : (o : Option Switch) → Maybe (λ s. IsWord s.id) o → IsWord (spec.i
 id-word None word = refl
 id-word (Some switch) word = word
 
-module _ (bay : Bay) (names : Known) (g : BoundProgram) (words : HasWords bay)
+module _ (bay : Bay) (names : ProgramNames) (g : BoundProgram) (words : HasWords bay)
     (known : AreWords names) where
   abbrev pub Says : List (Rule × RuleAnswer) → List ℕ → Type 0
   Says pairs line =
@@ -415,8 +415,8 @@ module _ (bay : Bay) (names : Known) (g : BoundProgram) (words : HasWords bay)
 
   pub lift : (p : Rule × RuleAnswer) (ps : List (Rule × RuleAnswer)) (line : List ℕ) → Says ps line
       → Says (p ∷ ps) line
-  lift p ps line says hold e =
-      let it = says hold e in
+  lift p ps line prints hold e =
+      let it = prints hold e in
       record {
         pair = it.pair;
         among = later p ps it.pair it.among;
@@ -432,9 +432,9 @@ module _ (bay : Bay) (names : Known) (g : BoundProgram) (words : HasWords bay)
       → IsRightAnswer g rule a → AreLines (Says pairs) (spec.answer_text bay names (rule, a))
   answer-lines rule a pairs among right =
       let front : List ℕ = spec.rule_start_text bay rule in
-      let said : List ℕ = spec.verdict_text bay names a in
-      subst (AreLines (Says pairs)) (append_assoc front said (codes "\n"))
-      (one-line (front ++ said) (free-append 10 front said (front-free rule) (said-free a))
+      let written : List ℕ = spec.verdict_text bay names a in
+      subst (AreLines (Says pairs)) (append_assoc front written (codes "\n"))
+      (one-line (front ++ written) (free-append 10 front written (front-free rule) (said-free a))
       (says-answer rule a pairs among right))
 
   pub answers-lines : (rules : List Rule) (answers : List RuleAnswer) → AreRightAnswers g rules answers

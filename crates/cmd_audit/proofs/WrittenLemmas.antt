@@ -22,11 +22,11 @@ use Rattle.std.specs.Io.KnownBytes.{Appends}
 use Rattle.bay_io.specs.Sent.{Finishes, Puts, SendsPart}
 use Rattle.bay_io.specs.Watched.{WriterState}
 use Rattle.bay_io.proofs.SentLemmas.{Puts-as, Puts-nil, Puts-out, Puts-then}
-use Rattle.cmd_audit.specs.Auditing.{Answers, status_of}
+use Rattle.cmd_audit.specs.Auditing.{AuditText, status_of}
 use Rattle.bay_load.specs.Loads.{LoadData}
-use Rattle.cmd_audit.specs.Names.{Known, known_of}
+use Rattle.cmd_audit.specs.Names.{ProgramNames, program_names}
 use Rattle.cmd_audit.specs.Text.{answer_text, answers_text, is_passed, release_text, states_text}
-use Rattle.cmd_audit.specs.Written.{PutsAnswers, PutsFirst, PutsMaybe, PutsRelease, PutsReleases, PutsSome, PutsText}
+use Rattle.cmd_audit.specs.Written.{PutsAnswers, PutsFirstAnswers, PutsReleaseIfAny, PutsRelease, PutsReleases, PutsFirstReleases, PutsText}
 
 -- what is known if a result is an error
 pub when-err : {A E : Type 0} {P : Type 0} (F : A → Type 0) (r : Result A E) → IsErr r → P
@@ -140,11 +140,11 @@ module _ {W : Type 0} {contents : W → Option (List ℕ)} {does : W → WriteCa
   put-flushed {X} {E} {old} {mid} {new} text r put f =
       Puts-as text (append-nil text) (Puts-then put (Finishes-puts {X = X} {E = E} r f))
 
-  module _ (bay : Bay) (names : Known) (g : BoundProgram) where
+  module _ (bay : Bay) (names : ProgramNames) (g : BoundProgram) where
     -- ---- answers
 
     pub no-answers : (w : WriterState W) → PutsAnswers contents does bay names g [] true w w
-    no-answers w = record { answers = []; right = tt; so = refl; put = Puts-nil w }
+    no-answers w = record { answers = []; right = tt; passed_is = refl; put = Puts-nil w }
 
     pub more-answers : (rules : List Rule) (passed : Bool) (rule : Rule) (answer : RuleAnswer)
         {old mid new : WriterState W} → PutsAnswers contents does bay names g rules passed old mid
@@ -154,7 +154,7 @@ module _ {W : Type 0} {contents : W → Option (List ℕ)} {does : W → WriteCa
     more-answers rules passed rule answer {old} {mid} {new} p right put =
         let pairs = zip rules p.answers in
         let one : List (Rule × RuleAnswer) = (rule, answer) ∷ [] in
-        let said : answers_text bay names (zip (rules ++ rule ∷ []) (p.answers ++ answer ∷ []))
+        let written : answers_text bay names (zip (rules ++ rule ∷ []) (p.answers ++ answer ∷ []))
         ≡ answers_text bay names pairs ++ answer_text bay names (rule, answer) =
         ap (answers_text bay names) (zip-parts g rules (rule ∷ []) p.answers (answer ∷ []) p.right)
         ∙ flat_map-append (answer_text bay names) pairs one
@@ -163,11 +163,11 @@ module _ {W : Type 0} {contents : W → Option (List ℕ)} {does : W → WriteCa
         record {
           answers = p.answers ++ answer ∷ [];
           right = right-more g rules p.answers rule answer p.right right;
-          so = ap (λ b. b && is_passed answer) p.so
+          passed_is = ap (λ b. b && is_passed answer) p.passed_is
               ∙ ap (λ b. list_all is_passed p.answers && b) (sym (and-true (is_passed answer)))
               ∙ sym (list_all-append is_passed p.answers (answer ∷ []));
           put = Puts-as (answers_text bay names
-              (zip (rules ++ rule ∷ []) (p.answers ++ answer ∷ []))) (sym said)
+              (zip (rules ++ rule ∷ []) (p.answers ++ answer ∷ []))) (sym written)
               (Puts-then p.put put);
         }
       where
@@ -178,7 +178,7 @@ module _ {W : Type 0} {contents : W → Option (List ℕ)} {does : W → WriteCa
     pub first-of : (rules answered others : List Rule) (passed : Bool) {old new : WriterState W}
         → rules ≡ answered ++ others
         → PutsAnswers contents does bay names g answered passed old new
-        → PutsFirst contents does bay names g rules old new
+        → PutsFirstAnswers contents does bay names g rules old new
     first-of rules answered others passed parts p = record {
       answered = answered;
       others = others;
@@ -189,7 +189,7 @@ module _ {W : Type 0} {contents : W → Option (List ℕ)} {does : W → WriteCa
 
     pub first-rules : (rules : List Rule) (k : ℕ) (passed : Bool) {old new : WriterState W}
         → PutsAnswers contents does bay names g (take k rules) passed old new
-        → PutsFirst contents does bay names g rules old new
+        → PutsFirstAnswers contents does bay names g rules old new
     first-rules rules k passed p =
         first-of rules (take k rules) (drop k rules) passed (sym (take-append-drop k rules)) p
 
@@ -219,7 +219,7 @@ module _ {W : Type 0} {contents : W → Option (List ℕ)} {does : W → WriteCa
         → PutsRelease contents does bay names g way r mid new
         → PutsReleases contents does bay names g (these ++ way ∷ []) (releases ++ r ∷ []) old new
     more-releases these releases way r {old} {mid} {new} p q =
-        let said : flat_map (release_text bay names) (releases ++ r ∷ [])
+        let written : flat_map (release_text bay names) (releases ++ r ∷ [])
         ≡ flat_map (release_text bay names) releases ++ release_text bay names r =
         flat_map-append (release_text bay names) releases (r ∷ [])
         ∙ ap (λ t. flat_map (release_text bay names) releases ++ t)
@@ -228,14 +228,14 @@ module _ {W : Type 0} {contents : W → Option (List ℕ)} {does : W → WriteCa
           right = releases-more bay g releases r p.right q.right;
           all = map-append direction_of releases (r ∷ [])
               ∙ ap₂ (λ ws w. ws ++ w ∷ []) p.all q.is;
-          put = Puts-as (flat_map (release_text bay names) (releases ++ r ∷ [])) (sym said)
+          put = Puts-as (flat_map (release_text bay names) (releases ++ r ∷ [])) (sym written)
               (Puts-then p.put q.put);
         }
 
     pub some-of : (all found later : List (ℕ × Operation)) (releases : List Release)
         {old new : WriterState W} → all ≡ found ++ later
         → PutsReleases contents does bay names g found releases old new
-        → PutsSome contents does bay names g all old new
+        → PutsFirstReleases contents does bay names g all old new
     some-of all found later releases parts p = record {
       found = found;
       later = later;
@@ -248,8 +248,8 @@ module _ {W : Type 0} {contents : W → Option (List ℕ)} {does : W → WriteCa
     pub stopped-at : (all found later : List (ℕ × Operation)) (way : ℕ × Operation)
         (releases : List Release) {old mid new : WriterState W} → all ≡ found ++ way ∷ later
         → PutsReleases contents does bay names g found releases old mid
-        → PutsMaybe contents does bay names g way mid new
-        → PutsSome contents does bay names g all old new
+        → PutsReleaseIfAny contents does bay names g way mid new
+        → PutsFirstReleases contents does bay names g all old new
     stopped-at all found later way releases {old} {mid} {new} parts p (inl same) =
         some-of all found (way ∷ later) releases parts
         (subst (λ w. PutsReleases contents does bay names g found releases old w) (sym same) p)
@@ -262,15 +262,15 @@ module _ {W : Type 0} {contents : W → Option (List ℕ)} {does : W → WriteCa
 
   module _ (loaded : LoadData) (rules : List Rule) where
     pub cut-answers : {old new : WriterState W}
-        → PutsFirst contents does loaded.bay (known_of loaded) (program_of loaded.bay loaded.image)
+        → PutsFirstAnswers contents does loaded.bay (program_names loaded) (program_of loaded.bay loaded.image)
         rules old new
-        → PutsText contents does (Answers loaded rules) (codes "fault memory\n") 3 old new
+        → PutsText contents does (AuditText loaded rules) (codes "fault memory\n") 3 old new
     cut-answers {old} {new} p =
         let many = map too_many p.others in
         record {
-          text = answers_text loaded.bay (known_of loaded) (zip p.answered p.put.answers);
+          text = answers_text loaded.bay (program_names loaded) (zip p.answered p.put.answers);
           put = p.put.put;
-          says = record {
+          prints = record {
             answers = p.put.answers ++ many;
             right = subst (λ rs. AreRightAnswers (program_of loaded.bay loaded.image) rs
                 (p.put.answers ++ many))
@@ -281,7 +281,7 @@ module _ {W : Type 0} {contents : W → Option (List ℕ)} {does : W → WriteCa
                 (many-right (program_of loaded.bay loaded.image) p.others));
             releases = [];
             released = tt;
-            said = inr (record {
+            written = inr (record {
               shown = zip p.answered p.put.answers;
               hidden = zip p.others many;
               parts = ap (λ rs. zip rs (p.put.answers ++ many)) p.parts
@@ -291,112 +291,112 @@ module _ {W : Type 0} {contents : W → Option (List ℕ)} {does : W → WriteCa
               later = directions (length loaded.bay.switches);
               first = refl;
               order = inr refl;
-              said = refl;
+              written = refl;
               ends = refl;
             });
           };
         }
 
     pub cut-none : (w : WriterState W)
-        → PutsText contents does (Answers loaded rules) (codes "fault memory\n") 3 w w
+        → PutsText contents does (AuditText loaded rules) (codes "fault memory\n") 3 w w
     cut-none w =
-        cut-answers (first-of loaded.bay (known_of loaded) (program_of loaded.bay loaded.image)
+        cut-answers (first-of loaded.bay (program_names loaded) (program_of loaded.bay loaded.image)
         rules [] rules true refl
-        (no-answers loaded.bay (known_of loaded) (program_of loaded.bay loaded.image) w))
+        (no-answers loaded.bay (program_names loaded) (program_of loaded.bay loaded.image) w))
 
     pub cut-releases : (passed : Bool) {old mid new : WriterState W}
-        → PutsAnswers contents does loaded.bay (known_of loaded)
+        → PutsAnswers contents does loaded.bay (program_names loaded)
         (program_of loaded.bay loaded.image) rules passed old mid
-        → PutsSome contents does loaded.bay (known_of loaded) (program_of loaded.bay loaded.image)
+        → PutsFirstReleases contents does loaded.bay (program_names loaded) (program_of loaded.bay loaded.image)
         (directions (length loaded.bay.switches)) mid
         new
-        → PutsText contents does (Answers loaded rules) (codes "fault memory\n") 3 old new
+        → PutsText contents does (AuditText loaded rules) (codes "fault memory\n") 3 old new
     cut-releases passed {old} {mid} {new} a s =
         let pairs = zip rules a.answers in
-        let said = answers_text loaded.bay (known_of loaded) pairs in
-        let lines = flat_map (release_text loaded.bay (known_of loaded)) s.releases in
+        let written = answers_text loaded.bay (program_names loaded) pairs in
+        let lines = flat_map (release_text loaded.bay (program_names loaded)) s.releases in
         record {
-          text = said ++ lines;
+          text = written ++ lines;
           put = Puts-then a.put s.put.put;
-          says = record {
+          prints = record {
             answers = a.answers;
             right = a.right;
             releases = s.releases;
             released = s.put.right;
-            said = inr (record {
+            written = inr (record {
               shown = pairs;
               hidden = [];
               parts = sym (append-nil pairs);
               later = s.later;
               first = ap (λ ws. ws ++ s.later) s.put.all ∙ sym s.parts;
               order = inl refl;
-              said = append_assoc said lines (codes "fault memory\n");
+              written = append_assoc written lines (codes "fault memory\n");
               ends = refl;
             });
           };
         }
 
     pub whole-text : (passed : Bool) (releases : List Release) {old mid last new : WriterState W}
-        → PutsAnswers contents does loaded.bay (known_of loaded)
+        → PutsAnswers contents does loaded.bay (program_names loaded)
         (program_of loaded.bay loaded.image) rules passed old mid
-        → PutsReleases contents does loaded.bay (known_of loaded)
+        → PutsReleases contents does loaded.bay (program_names loaded)
         (program_of loaded.bay loaded.image) (directions (length loaded.bay.switches))
         releases mid last
-        → Puts contents does last (states_text loaded.bay (known_of loaded) releases) new
-        → PutsText contents does (Answers loaded rules) [] (status_of passed) old new
+        → Puts contents does last (states_text loaded.bay (program_names loaded) releases) new
+        → PutsText contents does (AuditText loaded rules) [] (status_of passed) old new
     whole-text passed releases {old} {mid} {last} {new} a r lost =
-        let said = answers_text loaded.bay (known_of loaded) (zip rules a.answers) in
-        let lines = flat_map (release_text loaded.bay (known_of loaded)) releases in
-        let lasts = states_text loaded.bay (known_of loaded) releases in
+        let written = answers_text loaded.bay (program_names loaded) (zip rules a.answers) in
+        let lines = flat_map (release_text loaded.bay (program_names loaded)) releases in
+        let lasts = states_text loaded.bay (program_names loaded) releases in
         record {
-          text = said ++ (lines ++ lasts);
+          text = written ++ (lines ++ lasts);
           put = Puts-then a.put (Puts-then r.put lost);
-          says = record {
+          prints = record {
             answers = a.answers;
             right = a.right;
             releases = releases;
             released = r.right;
-            said = inl (record {
+            written = inl (record {
               all = r.all;
-              said = append-nil (said ++ (lines ++ lasts));
-              ends = ap status_of a.so;
+              written = append-nil (written ++ (lines ++ lasts));
+              ends = ap status_of a.passed_is;
             });
           };
         }
 
     -- ---- the same, by the names and the program that were made
 
-    module _ (these : Known) (g : BoundProgram) (e : these ≡ (known_of loaded))
+    module _ (these : ProgramNames) (g : BoundProgram) (e : these ≡ (program_names loaded))
         (f : g ≡ program_of loaded.bay loaded.image)
       where
         pub stopped-answers : {old new : WriterState W}
-            → PutsFirst contents does loaded.bay these g rules old new
-            → PutsText contents does (Answers loaded rules) (codes "fault memory\n") 3 old new
+            → PutsFirstAnswers contents does loaded.bay these g rules old new
+            → PutsText contents does (AuditText loaded rules) (codes "fault memory\n") 3 old new
         stopped-answers {old} {new} p =
             cut-answers
-            (subst (λ (n : Known). PutsFirst contents does loaded.bay n
+            (subst (λ (n : ProgramNames). PutsFirstAnswers contents does loaded.bay n
             (program_of loaded.bay loaded.image)
             rules old new) e
-            (subst (λ (h : BoundProgram). PutsFirst contents does loaded.bay these h rules old new)
+            (subst (λ (h : BoundProgram). PutsFirstAnswers contents does loaded.bay these h rules old new)
             f p))
 
         pub stopped-releases : (passed : Bool) {old mid new : WriterState W}
             → PutsAnswers contents does loaded.bay these g rules passed old mid
-            → PutsSome contents does loaded.bay these g (directions (length loaded.bay.switches)) mid new
-            → PutsText contents does (Answers loaded rules) (codes "fault memory\n") 3 old new
+            → PutsFirstReleases contents does loaded.bay these g (directions (length loaded.bay.switches)) mid new
+            → PutsText contents does (AuditText loaded rules) (codes "fault memory\n") 3 old new
         stopped-releases passed {old} {mid} {new} a s =
             cut-releases passed
-            (subst (λ (n : Known). PutsAnswers contents does loaded.bay n
+            (subst (λ (n : ProgramNames). PutsAnswers contents does loaded.bay n
             (program_of loaded.bay loaded.image)
             rules passed old mid) e
             (subst (λ (h : BoundProgram). PutsAnswers contents does loaded.bay these h rules passed
             old
             mid)
             f a))
-            (subst (λ (n : Known). PutsSome contents does loaded.bay n
+            (subst (λ (n : ProgramNames). PutsFirstReleases contents does loaded.bay n
             (program_of loaded.bay loaded.image)
             (directions (length loaded.bay.switches)) mid new) e
-            (subst (λ (h : BoundProgram). PutsSome contents does loaded.bay these h
+            (subst (λ (h : BoundProgram). PutsFirstReleases contents does loaded.bay these h
             (directions (length loaded.bay.switches)) mid new) f s))
 
         pub whole : (passed : Bool) (releases : List Release) (text : List ℕ)
@@ -406,20 +406,20 @@ module _ {W : Type 0} {contents : W → Option (List ℕ)} {does : W → WriteCa
             releases mid last
             → text ≡ states_text loaded.bay these releases
             → Puts contents does last text new
-            → PutsText contents does (Answers loaded rules) [] (status_of passed) old new
+            → PutsText contents does (AuditText loaded rules) [] (status_of passed) old new
         whole passed releases text {old} {mid} {last} {new} a r is put =
             whole-text passed releases
-            (subst (λ (n : Known). PutsAnswers contents does loaded.bay n
+            (subst (λ (n : ProgramNames). PutsAnswers contents does loaded.bay n
             (program_of loaded.bay loaded.image)
             rules passed old mid) e
             (subst (λ (h : BoundProgram). PutsAnswers contents does loaded.bay these h rules passed
             old
             mid)
             f a))
-            (subst (λ (n : Known). PutsReleases contents does loaded.bay n
+            (subst (λ (n : ProgramNames). PutsReleases contents does loaded.bay n
             (program_of loaded.bay loaded.image)
             (directions (length loaded.bay.switches)) releases mid last) e
             (subst (λ (h : BoundProgram). PutsReleases contents does loaded.bay these h
             (directions (length loaded.bay.switches)) releases mid last) f r))
-            (Puts-as (states_text loaded.bay (known_of loaded) releases)
-            (is ∙ ap (λ (n : Known). states_text loaded.bay n releases) e) put)
+            (Puts-as (states_text loaded.bay (program_names loaded) releases)
+            (is ∙ ap (λ (n : ProgramNames). states_text loaded.bay n releases) e) put)

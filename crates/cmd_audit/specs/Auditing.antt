@@ -18,14 +18,14 @@ use Rattle.bay_load.specs.Report.{IsReport}
 use Rattle.bay_load.specs.declared.error.LoadError.{LoadError}
 use Rattle.bay_load.specs.declared.load.Form.{Form}
 use Rattle.bay_load.specs.declared.report.Report.{Report}
-use Rattle.bay_report.specs.LogLines.{IsReported, PrintsLogs, Refuses, UnreadReport}
+use Rattle.bay_report.specs.LogLines.{IsLoggedOutput, PrintsLogs, RefusalReport, UnreadReport}
 use Rattle.bay_report.specs.Report.{report_text}
 use Rattle.bay_audit_rules.specs.Meaning.{TextRead}
 use Rattle.bay_audit_rules.specs.declared.fault.RuleFault.{RuleFault}
 use Rattle.bay_audit_rules.specs.declared.rule.Rule.{Rule}
 use Rattle.cmd_audit.specs.HazardText.{hazard_lines}
 use Rattle.cmd_audit.specs.Judged.{AreJudged, is_safe, judged_way}
-use Rattle.cmd_audit.specs.Names.{Known, known_of}
+use Rattle.cmd_audit.specs.Names.{ProgramNames, program_names}
 use Rattle.cmd_audit.specs.Refusals.{diagram_log, diagram_refusal}
 use Rattle.cmd_audit.specs.Text.{answers_text, is_passed, refusal_text, refused_log, release_text, releases_text}
 use Rattle.cmd_audit.specs.declared.audit_files.AuditContents.{AuditContents}
@@ -40,16 +40,16 @@ status_of passed = if passed then 0 else 4
 
 -- The text has the lines of all answers and releases: there is a release for each switch and
 -- operation, also while the process is lost.
-pub record IsWhole (bay : Bay) (names : Known) (rules : List Rule) (answers : List RuleAnswer)
+pub record IsWhole (bay : Bay) (names : ProgramNames) (rules : List Rule) (answers : List RuleAnswer)
     (releases : List Release) (text : List ℕ) (status : ℕ) : Type 0 where
   pub all : map direction_of releases ≡ directions (length bay.switches)
-  pub said : text
+  pub written : text
       ≡ answers_text bay names (zip rules answers) ++ releases_text bay names releases
   pub ends : status ≡ status_of (list_all is_passed answers)
 
 -- Memory ran out: the text has the lines of the first answers, then, if these are all answers,
 -- those of the first releases, and then the line of the fault.
-pub record IsCut (bay : Bay) (names : Known) (rules : List Rule) (answers : List RuleAnswer)
+pub record IsCut (bay : Bay) (names : ProgramNames) (rules : List Rule) (answers : List RuleAnswer)
     (releases : List Release) (text : List ℕ) (status : ℕ) : Type 0 where
   pub shown : List (Rule × RuleAnswer)
   pub hidden : List (Rule × RuleAnswer)
@@ -57,21 +57,21 @@ pub record IsCut (bay : Bay) (names : Known) (rules : List Rule) (answers : List
   pub later : List (ℕ × Operation)
   pub first : map direction_of releases ++ later ≡ directions (length bay.switches)
   pub order : (hidden ≡ []) ⊎ (releases ≡ [])
-  pub said : text ≡ answers_text bay names shown
+  pub written : text ≡ answers_text bay names shown
       ++ (flat_map (release_text bay names) releases ++ codes "fault memory\n")
   pub ends : status ≡ 3
 
 -- There is an answer for each rule, in their order, and there are releases of switches. Each is
 -- right, and the text has their lines, with these names for what the program retains; or only the
 -- first of these lines, because memory ran out.
-pub record Answers (loaded : LoadData) (rules : List Rule) (text : List ℕ) (status : ℕ)
+pub record AuditText (loaded : LoadData) (rules : List Rule) (text : List ℕ) (status : ℕ)
     : Type 0 where
   pub answers : List RuleAnswer
   pub right : AreRightAnswers (program_of loaded.bay loaded.image) rules answers
   pub releases : List Release
   pub released : AreReleases loaded.bay (program_of loaded.bay loaded.image) releases
-  pub said : IsWhole loaded.bay (known_of loaded) rules answers releases text status
-      ⊎ IsCut loaded.bay (known_of loaded) rules answers releases text status
+  pub written : IsWhole loaded.bay (program_names loaded) rules answers releases text status
+      ⊎ IsCut loaded.bay (program_names loaded) rules answers releases text status
 
 -- ---- a single line diagram
 
@@ -79,7 +79,7 @@ pub record Answers (loaded : LoadData) (rules : List Rule) (text : List ℕ) (st
 pub record AreAllJudged (bay : Bay) (d : Diagram) (releases : List JudgedRelease) (text : List ℕ)
     (status : ℕ) : Type 0 where
   pub all : map judged_way releases ≡ directions (length bay.switches)
-  pub said : text ≡ hazard_lines bay d releases
+  pub written : text ≡ hazard_lines bay d releases
   pub ends : status ≡ status_of (list_all is_safe releases)
 
 -- Memory ran out: the text has the lines of the first releases, and then the line of the fault.
@@ -87,7 +87,7 @@ pub record AreSomeJudged (bay : Bay) (d : Diagram) (releases : List JudgedReleas
     (status : ℕ) : Type 0 where
   pub later : List (ℕ × Operation)
   pub first : map judged_way releases ++ later ≡ directions (length bay.switches)
-  pub said : text ≡ hazard_lines bay d releases ++ codes "fault memory\n"
+  pub written : text ≡ hazard_lines bay d releases ++ codes "fault memory\n"
   pub ends : status ≡ 3
 
 -- There are judged releases of switches, opening and closing of each. Each is right, and the text
@@ -95,7 +95,7 @@ pub record AreSomeJudged (bay : Bay) (d : Diagram) (releases : List JudgedReleas
 pub record Judgements (loaded : LoadData) (d : Diagram) (text : List ℕ) (status : ℕ) : Type 0 where
   pub releases : List JudgedRelease
   pub right : AreJudged (program_of loaded.bay loaded.image) d.network releases
-  pub said : AreAllJudged loaded.bay d releases text status
+  pub written : AreAllJudged loaded.bay d releases text status
       ⊎ AreSomeJudged loaded.bay d releases text status
 
 -- ---- rules and a diagram
@@ -103,7 +103,7 @@ pub record Judgements (loaded : LoadData) (d : Diagram) (text : List ℕ) (statu
 -- the text for rules, if there are some; else none, and the status of a text that holds
 abbrev pub AnswersIf : LoadData → Option (List Rule) → List ℕ → ℕ → Type 0
 AnswersIf loaded None text status = (text ≡ []) × (status ≡ 0)
-AnswersIf loaded (Some rules) text status = Answers loaded rules text status
+AnswersIf loaded (Some rules) text status = AuditText loaded rules text status
 
 -- the text for a diagram, if there is one
 abbrev pub JudgementsIf : LoadData → Option Diagram → List ℕ → ℕ → Type 0
@@ -133,14 +133,14 @@ AreAnswered loaded rules d text status =
 
 -- what a text of rules means, if there is one
 abbrev pub RulesRead : Bay → Option (List ℕ) → Result (Option (List Rule)) RuleFault → Type 0
-RulesRead bay None meant = meant ≡ Ok None
+RulesRead bay None parsed = parsed ≡ Ok None
 RulesRead bay (Some text) (Ok None) = ⊥
 RulesRead bay (Some text) (Ok (Some rules)) = TextRead bay text (Ok rules)
 RulesRead bay (Some text) (Err fault) = TextRead bay text (Err fault)
 
 -- what the text of a diagram file means, if there is one
 abbrev pub DiagramRead : Bay → Option (List ℕ) → Result (Option Diagram) DiagramFault → Type 0
-DiagramRead bay None meant = meant ≡ Ok None
+DiagramRead bay None parsed = parsed ≡ Ok None
 DiagramRead bay (Some text) (Ok None) = ⊥
 DiagramRead bay (Some text) (Ok (Some d)) = diagram_of_file bay text ≡ Ok d
 DiagramRead bay (Some text) (Err fault) = diagram_of_file bay text ≡ Err fault
@@ -152,30 +152,30 @@ abbrev pub IsTextWith : LoadData → Option (List Rule) → Result (Option Diagr
 IsTextWith loaded rules (Ok d) log text status =
     (log ≡ None) × AreAnswered loaded rules d text status
 IsTextWith loaded rules (Err fault) log text status =
-    IsReported (diagram_log fault) (diagram_refusal fault) 1 log text status
+    IsLoggedOutput (diagram_log fault) (diagram_refusal fault) 1 log text status
 
 -- the text for rules that were read and the text of a diagram file
 pub record IsTextBy (loaded : LoadData) (rules : Option (List Rule)) (diagram : Option (List ℕ))
     (log : Option (List ℕ)) (text : List ℕ) (status : ℕ) : Type 0 where
-  pub meant : Result (Option Diagram) DiagramFault
-  pub means : DiagramRead loaded.bay diagram meant
-  pub says : IsTextWith loaded rules meant log text status
+  pub parsed : Result (Option Diagram) DiagramFault
+  pub parses : DiagramRead loaded.bay diagram parsed
+  pub prints : IsTextWith loaded rules parsed log text status
 
 -- the text for rules that were read; or for a text of rules that has a fault, with the line that is
 -- logged then: the diagram file is not looked at
-abbrev pub IsTextOf : LoadData → Result (Option (List Rule)) RuleFault → Option (List ℕ)
+abbrev pub ParsedRulesReport : LoadData → Result (Option (List Rule)) RuleFault → Option (List ℕ)
     → Option (List ℕ) → List ℕ → ℕ → Type 0
-IsTextOf loaded (Ok rules) diagram log text status = IsTextBy loaded rules diagram log text status
-IsTextOf loaded (Err fault) diagram log text status =
-    IsReported (refused_log fault) (refusal_text fault) 1 log text status
+ParsedRulesReport loaded (Ok rules) diagram log text status = IsTextBy loaded rules diagram log text status
+ParsedRulesReport loaded (Err fault) diagram log text status =
+    IsLoggedOutput (refused_log fault) (refusal_text fault) 1 log text status
 
 -- the text for what was loaded, a text of rules and the text of a diagram file, with the line that
 -- is logged
-pub record IsTextFor (loaded : LoadData) (rules diagram : Option (List ℕ)) (log : Option (List ℕ))
+pub record RulesReport (loaded : LoadData) (rules diagram : Option (List ℕ)) (log : Option (List ℕ))
     (text : List ℕ) (status : ℕ) : Type 0 where
-  pub meant : Result (Option (List Rule)) RuleFault
-  pub means : RulesRead loaded.bay rules meant
-  pub says : IsTextOf loaded meant diagram log text status
+  pub parsed : Result (Option (List Rule)) RuleFault
+  pub parses : RulesRead loaded.bay rules parsed
+  pub prints : ParsedRulesReport loaded parsed diagram log text status
 
 -- the line of a load, and the text for rules and a diagram, unless memory runs out before they are
 -- read
@@ -185,8 +185,8 @@ pub record LoadedReport (loaded : LoadData) (rules diagram : Option (List ℕ))
   pub is : IsReport loaded.image report
   pub rest : List ℕ
   pub whole : text ≡ report_text report ++ rest
-  pub says : IsTextFor loaded rules diagram log rest status
-      ⊎ IsReported None (codes "fault memory\n") 3 log rest status
+  pub prints : RulesReport loaded rules diagram log rest status
+      ⊎ IsLoggedOutput None (codes "fault memory\n") 3 log rest status
 
 -- ---- the load
 
@@ -198,23 +198,23 @@ pub record AuditOctets : Type 0 where
   pub diagram : Option (List ℕ)
 
 -- the bay file and the program are loaded
-pub record LoadReport (form : Form) (octets : AuditOctets) (log : Option (List ℕ)) (text : List ℕ)
+pub record LoadAccepted (form : Form) (octets : AuditOctets) (log : Option (List ℕ)) (text : List ℕ)
     (status : ℕ) : Type 0 where
   pub loaded : LoadData
   pub loads : LoadsTo octets.both.bay form octets.both.program (Ok loaded)
-  pub tells : LoadedReport loaded octets.rules octets.diagram log text status
+  pub reports : LoadedReport loaded octets.rules octets.diagram log text status
 
 -- the load is refused
 pub record LoadRefused (form : Form) (octets : AuditOctets) (log : Option (List ℕ))
     (text : List ℕ) (status : ℕ) : Type 0 where
   pub error : LoadError
   pub refused : MayLoadTo octets.both.bay form octets.both.program (Err error)
-  pub tells : Refuses error log text status
+  pub reports : RefusalReport error log text status
 
 -- an audit of these octets
 abbrev pub AuditReport : Form → AuditOctets → Option (List ℕ) → List ℕ → ℕ → Type 0
 AuditReport form octets log text status =
-    LoadReport form octets log text status ⊎ LoadRefused form octets log text status
+    LoadAccepted form octets log text status ⊎ LoadRefused form octets log text status
 
 -- ---- files
 

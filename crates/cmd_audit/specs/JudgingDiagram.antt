@@ -9,7 +9,7 @@ use Rattle.bay_diagram_file.specs.Diagram.{diagram_of_file}
 use Rattle.bay_diagram_file.specs.declared.diagram.Diagram.{Diagram}
 use Rattle.bay_diagram_file.specs.declared.fault.DiagramFault.{DiagramFault}
 use Rattle.bay_load.specs.Loads.{LoadData}
-use Rattle.bay_report.specs.LogLines.{IsReported}
+use Rattle.bay_report.specs.LogLines.{IsLoggedOutput}
 use Rattle.cmd_audit.specs.HazardText.{unsafe_lines}
 use Rattle.cmd_audit.specs.Judged.{AreJudged, is_safe, judged_way}
 use Rattle.cmd_audit.specs.Refusals.{diagram_log, diagram_refusal}
@@ -54,7 +54,7 @@ IsDiagramVerdictOn loaded text verdict =
 -- what is printed of a verdict, with which status, and what is logged
 abbrev pub DiagramVerdictReport : DiagramVerdict → Option (List ℕ) → List ℕ → ℕ → Type 0
 DiagramVerdictReport (Hold count) =
-    IsReported None (codes "diagram " ++ (decimal count ++ codes "\n")) 0
-DiagramVerdictReport (Unproved text) = IsReported None text.items 4
-DiagramVerdictReport (Refused fault) = IsReported (diagram_log fault) (diagram_refusal fault) 1
-DiagramVerdictReport OutOfMemory = IsReported None (codes "fault memory\n") 3
+    IsLoggedOutput None (codes "diagram " ++ (decimal count ++ codes "\n")) 0
+DiagramVerdictReport (Unproved text) = IsLoggedOutput None text.items 4
+DiagramVerdictReport (Refused fault) = IsLoggedOutput (diagram_log fault) (diagram_refusal fault) 1
+DiagramVerdictReport OutOfMemory = IsLoggedOutput None (codes "fault memory\n") 3

@@ -3,20 +3,20 @@ use Rattle.std.specs.Prelude.{◌≡◌, ℕ, true, List, Ok}
 use Rattle.std.specs.List.{list_all}
 use Rattle.bay_config.specs.Key.{is_name_character}
 use Rattle.bay_config.specs.declared.bay.Bay.{Bay}
-use Rattle.bay_load.specs.Loads.{LoadData, LoadsTo, file_of}
+use Rattle.bay_load.specs.Loads.{LoadData, LoadsTo, parsed_bay}
 use Rattle.bay_load.specs.declared.load.Form.{Form}
 use Rattle.il_image.specs.Images.{Each, IsImage}
 use Rattle.il_image.specs.declared.image.ImagePoint.{ImagePoint}
 
 -- the points of an image, and the names of its variables and of its timers
-pub record Known : Type 0 where
+pub record ProgramNames : Type 0 where
   pub points : List ImagePoint
   pub variables : List (List ℕ)
   pub timers : List (List ℕ)
 
 -- the names of what was loaded
-abbrev pub known_of : LoadData → Known
-known_of loaded = record {
+abbrev pub program_names : LoadData → ProgramNames
+program_names loaded = record {
   points = loaded.image.points;
   variables = loaded.names.variables;
   timers = loaded.names.timers;
@@ -29,7 +29,7 @@ abbrev pub IsWord : List ℕ → Type 0
 IsWord name = list_all is_name_character name ≡ true
 
 -- each name is a word
-pub record AreWords (names : Known) : Type 0 where
+pub record AreWords (names : ProgramNames) : Type 0 where
   pub points : Each (λ p. IsWord p.name) names.points
   pub variables : Each IsWord names.variables
   pub timers : Each IsWord names.timers
@@ -38,7 +38,7 @@ pub record AreWords (names : Known) : Type 0 where
 abbrev pub NamesAreWords : Type 0
 NamesAreWords =
     (bay : List ℕ) (form : Form) (program : List ℕ) (loaded : LoadData)
-    → LoadsTo bay form program (Ok loaded) → IsImage loaded.image → AreWords (known_of loaded)
+    → LoadsTo bay form program (Ok loaded) → IsImage loaded.image → AreWords (program_names loaded)
 
 -- the ids of a bay's switches and the names of its points are words
 pub record HasWords (bay : Bay) : Type 0 where
@@ -47,4 +47,4 @@ pub record HasWords (bay : Bay) : Type 0 where
 
 -- The ids of switches and the names of points are words, in each bay that a file spells.
 abbrev pub BaysHaveWords : Type 0
-BaysHaveWords = (file : List ℕ) (bay : Bay) → file_of file ≡ Ok bay → HasWords bay
+BaysHaveWords = (file : List ℕ) (bay : Bay) → parsed_bay file ≡ Ok bay → HasWords bay

@@ -25,7 +25,7 @@ use Rattle.bay_audit_rules.specs.Code.{code_of, line_of, words_of}
 use Rattle.bay_audit_rules.specs.declared.fault.RuleFault.{RuleFault}
 use Rattle.bay_audit_rules.specs.declared.rule.Rule.{Rule}
 use Rattle.il_image.specs.declared.image.ImagePoint.{ImagePoint}
-use Rattle.cmd_audit.specs.Names.{Known}
+use Rattle.cmd_audit.specs.Names.{ProgramNames}
 use Rattle.bay_base.specs.declared.position.Dbpos.TheVariants.{Intermediate, Off, On, Bad}
 
 -- ---- a case
@@ -53,13 +53,13 @@ is_any_position case k =
 abbrev pub name_text : List ℕ → List ℕ
 name_text name = codes " " ++ name ++ codes "="
 
-abbrev pub known_text : List TestAnswer → ℕ → List ℕ → List ℕ
-known_text case k id =
+abbrev pub switch_positions : List TestAnswer → ℕ → List ℕ → List ℕ
+switch_positions case k id =
     if is_any_position case k then [] else name_text id ++ positions_text case k
 
 abbrev pub switch_text : List TestAnswer → ℕ → Option Switch → List ℕ
 switch_text case k None = []
-switch_text case k (Some switch) = known_text case k switch.id
+switch_text case k (Some switch) = switch_positions case k switch.id
 
 abbrev pub input_text : List TestAnswer → ℕ → List ℕ → List ℕ
 input_text case k name =
@@ -72,13 +72,13 @@ range_text low high =
     if int_eq low high then signed_decimal low
     else signed_decimal low ++ codes ".." ++ signed_decimal high
 
-abbrev pub measure_of : ℤ → ℤ → List ℕ → List ℕ
-measure_of low high name =
+abbrev pub range_measure : ℤ → ℤ → List ℕ → List ℕ
+range_measure low high name =
     if int_eq low (negsuc 2147483647) && int_eq high (pos 2147483647) then []
     else name_text name ++ range_text low high
 
 abbrev pub measure_text : List TestAnswer → ℕ → MeterField → List ℕ → List ℕ
-measure_text case k field name = measure_of (low_of case k field) (high_of case k field) name
+measure_text case k field name = range_measure (low_of case k field) (high_of case k field) name
 
 -- the positions of a switch are written at the point of its position
 abbrev pub switch_point_text : Bay → List TestAnswer → ℕ → SwitchPoint → List ℕ
@@ -106,22 +106,22 @@ abbrev pub named_text : List ℕ → ℕ → Option (List ℕ) → List ℕ
 named_text word k None = codes " " ++ (word ++ decimal k)
 named_text word k (Some name) = codes " " ++ name
 
-abbrev pub variable_text : Known → ℕ → List ℕ
+abbrev pub variable_text : ProgramNames → ℕ → List ℕ
 variable_text names k = named_text (codes "variable") k (slice_get names.variables k)
 
 -- a slot is that of a point, or of a variable after the points
-abbrev pub slot_of : Known → ℕ → Option ImagePoint → List ℕ
-slot_of names k None = variable_text names (k - length names.points)
-slot_of names k (Some point) = codes " " ++ point.name
+abbrev pub slot_name : ProgramNames → ℕ → Option ImagePoint → List ℕ
+slot_name names k None = variable_text names (k - length names.points)
+slot_name names k (Some point) = codes " " ++ point.name
 
-abbrev pub slot_text : Known → ℕ → List ℕ
-slot_text names k = slot_of names k (slice_get names.points k)
+abbrev pub slot_text : ProgramNames → ℕ → List ℕ
+slot_text names k = slot_name names k (slice_get names.points k)
 
-abbrev pub timer_text : Known → ℕ → List ℕ
+abbrev pub timer_text : ProgramNames → ℕ → List ℕ
 timer_text names k = named_text (codes "timer") k (slice_get names.timers k)
 
 -- what an answer depends on, after a word, if anything is known
-abbrev pub dependencies_text : List ℕ → Known → StateDependencies → List ℕ
+abbrev pub dependencies_text : List ℕ → ProgramNames → StateDependencies → List ℕ
 dependencies_text word names kept =
     if length kept.slots.items == 0 && length kept.timers.items == 0 then []
     else word ++ (flat_map (slot_text names) kept.slots.items
@@ -152,7 +152,7 @@ rule_start_text bay rule = codes "rule " ++ (decimal rule.line ++ rule_operation
 abbrev pub holds_text : ℕ → List ℕ
 holds_text cases = codes " holds cases=" ++ decimal cases
 
-abbrev pub verdict_text : Bay → Known → RuleAnswer → List ℕ
+abbrev pub verdict_text : Bay → ProgramNames → RuleAnswer → List ℕ
 verdict_text bay names (answer.Holds cases) = holds_text cases
 verdict_text bay names (answer.Broken case) = codes " broken" ++ case_text bay case
 verdict_text bay names (answer.Open case kept) =
@@ -161,11 +161,11 @@ verdict_text bay names (answer.Since n cases) =
     holds_text cases ++ (codes " by" ++ timer_text names n)
 verdict_text bay names answer.TooMany = codes " many"
 
-abbrev pub answer_text : Bay → Known → Rule × RuleAnswer → List ℕ
+abbrev pub answer_text : Bay → ProgramNames → Rule × RuleAnswer → List ℕ
 answer_text bay names pair =
     rule_start_text bay pair.0 ++ (verdict_text bay names pair.1 ++ codes "\n")
 
-abbrev pub answers_text : Bay → Known → List (Rule × RuleAnswer) → List ℕ
+abbrev pub answers_text : Bay → ProgramNames → List (Rule × RuleAnswer) → List ℕ
 answers_text bay names pairs = flat_map (answer_text bay names) pairs
 
 -- a rule holds
@@ -180,81 +180,81 @@ is_passed (answer.Since n cases) = true
 
 -- a case in which a switch is released, in which it is not, or in which that depends on what the
 -- program retains
-abbrev pub case_release_text : Bay → Known → List TestAnswer → CaseRelease → List ℕ
+abbrev pub case_release_text : Bay → ProgramNames → List TestAnswer → CaseRelease → List ℕ
 case_release_text bay names case release.Released = codes "released" ++ case_text bay case
 case_release_text bay names case release.Refused = codes "blocked" ++ case_text bay case
 case_release_text bay names case (release.Depends kept) =
     codes "depends" ++ case_text bay case ++ dependencies_text (codes " on") names kept
 
-abbrev pub reported_case_text : Bay → Known → ReportedCase → List ℕ
+abbrev pub reported_case_text : Bay → ProgramNames → ReportedCase → List ℕ
 reported_case_text bay names c = case_release_text bay names c.case c.release ++ codes "\n"
 
-abbrev pub cases_text : Bay → Known → List ReportedCase → List ℕ
+abbrev pub cases_text : Bay → ProgramNames → List ReportedCase → List ℕ
 cases_text bay names cases =
     codes " cases=" ++ decimal (length cases) ++ codes "\n"
     ++ flat_map (reported_case_text bay names) cases
 
-abbrev pub release_cases_text : Bay → Known → Release → List ℕ
+abbrev pub release_cases_text : Bay → ProgramNames → Release → List ℕ
 release_cases_text bay names r =
     if length r.left.items == 0 then cases_text bay names r.cases.items else codes " many\n"
 
-abbrev pub release_lines : Bay → Known → List ℕ → Release → List ℕ
+abbrev pub release_lines : Bay → ProgramNames → List ℕ → Release → List ℕ
 release_lines bay names id r =
     switch_operation_text (codes "release ") id r.operation ++ release_cases_text bay names r
 
 -- the lines of a release of a switch that the bay has
-abbrev pub switch_release : Bay → Known → Release → Option Switch → List ℕ
+abbrev pub switch_release : Bay → ProgramNames → Release → Option Switch → List ℕ
 switch_release bay names r None = []
 switch_release bay names r (Some switch) = release_lines bay names switch.id r
 
-abbrev pub release_text : Bay → Known → Release → List ℕ
+abbrev pub release_text : Bay → ProgramNames → Release → List ℕ
 release_text bay names r = switch_release bay names r (slice_get bay.switches r.switch)
 
 -- ---- the process is lost
 
 -- a release while the process is lost or by the first scan, followed by what it depends on
-abbrev pub lost_release_text : Known → CaseRelease → List ℕ
+abbrev pub lost_release_text : ProgramNames → CaseRelease → List ℕ
 lost_release_text names release.Released = codes " released"
 lost_release_text names release.Refused = codes " blocked"
 lost_release_text names (release.Depends kept) =
     codes " depends" ++ dependencies_text (codes " on") names kept
 
-abbrev pub lost_line : Known → List ℕ → Release → List ℕ
+abbrev pub lost_line : ProgramNames → List ℕ → Release → List ℕ
 lost_line names id r =
     switch_operation_text (codes "lost ") id r.operation
     ++ (lost_release_text names r.lost ++ codes "\n")
 
 -- the line of a release of a switch that the bay has
-abbrev pub switch_lost : Known → Release → Option Switch → List ℕ
+abbrev pub switch_lost : ProgramNames → Release → Option Switch → List ℕ
 switch_lost names r None = []
 switch_lost names r (Some switch) = lost_line names switch.id r
 
-abbrev pub lost_text : Bay → Known → Release → List ℕ
+abbrev pub lost_text : Bay → ProgramNames → Release → List ℕ
 lost_text bay names r = switch_lost names r (slice_get bay.switches r.switch)
 
 -- ---- the first scan
 
-abbrev pub start_line : Known → List ℕ → Release → List ℕ
+abbrev pub start_line : ProgramNames → List ℕ → Release → List ℕ
 start_line names id r =
     switch_operation_text (codes "start ") id r.operation
     ++ (lost_release_text names r.start ++ codes "\n")
 
 -- the line of a release by the first scan, of a switch that the bay has
-abbrev pub switch_start : Known → Release → Option Switch → List ℕ
+abbrev pub switch_start : ProgramNames → Release → Option Switch → List ℕ
 switch_start names r None = []
 switch_start names r (Some switch) = start_line names switch.id r
 
-abbrev pub start_text : Bay → Known → Release → List ℕ
+abbrev pub start_text : Bay → ProgramNames → Release → List ℕ
 start_text bay names r = switch_start names r (slice_get bay.switches r.switch)
 
 -- the lines of all releases while the process is lost, followed by those of all by the first scan
-abbrev pub states_text : Bay → Known → List Release → List ℕ
+abbrev pub states_text : Bay → ProgramNames → List Release → List ℕ
 states_text bay names releases =
     flat_map (lost_text bay names) releases ++ flat_map (start_text bay names) releases
 
 -- the lines of all releases, followed by those of the releases while the process is lost and by the
 -- first scan
-abbrev pub releases_text : Bay → Known → List Release → List ℕ
+abbrev pub releases_text : Bay → ProgramNames → List Release → List ℕ
 releases_text bay names releases =
     flat_map (release_text bay names) releases ++ states_text bay names releases
 

@@ -11,8 +11,8 @@ use Rattle.bay_audit.specs.Rules.{BoundProgram, IsRightAnswer, program_of}
 use Rattle.bay_audit.specs.declared.answer.RuleAnswer.{RuleAnswer}
 use Rattle.bay_load.specs.Loads.{LoadData}
 use Rattle.bay_replay_laws.specs.Printed.{lines_in, words_in}
-use Rattle.cmd_audit.specs.Auditing.{Answers}
-use Rattle.cmd_audit.specs.Names.{AreWords, HasWords, known_of}
+use Rattle.cmd_audit.specs.Auditing.{AuditText}
+use Rattle.cmd_audit.specs.Names.{AreWords, HasWords, program_names}
 use Rattle.cmd_audit.specs.Text.{id_of, is_passed}
 
 -- a line of a rule that holds: the digits of the line of the rule, the id of its switch, and its
@@ -28,14 +28,14 @@ operation_in word =
     else if bytes_eq word (codes "close") then Some operations.Close
     else None
 
-abbrev pub hold_of : List ℕ → List ℕ → Option Operation → Option PrintedHold
-hold_of line id None = None
-hold_of line id (Some operation) = Some (record { line = line; id = id; operation = operation })
+abbrev pub hold_from_parts : List ℕ → List ℕ → Option Operation → Option PrintedHold
+hold_from_parts line id None = None
+hold_from_parts line id (Some operation) = Some (record { line = line; id = id; operation = operation })
 
 abbrev pub hold_in : List (List ℕ) → Option PrintedHold
 hold_in (rule ∷ line ∷ id ∷ operation ∷ verdict ∷ more) =
     if bytes_eq rule (codes "rule") && bytes_eq verdict (codes "holds")
-    then hold_of line id (operation_in operation)
+    then hold_from_parts line id (operation_in operation)
     else None
 hold_in _ = None
 
@@ -60,8 +60,8 @@ pub record IsHold (bay : Bay) (g : BoundProgram) (pairs : List (Rule × RuleAnsw
 abbrev pub HoldsAreRead : Type 0
 HoldsAreRead =
     (loaded : LoadData) (rules : List Rule) (text : List ℕ) (status : ℕ)
-    → HasWords loaded.bay → AreWords (known_of loaded)
-    → (said : Answers loaded rules text status)
+    → HasWords loaded.bay → AreWords (program_names loaded)
+    → (written : AuditText loaded rules text status)
     → (line : List ℕ) (hold : PrintedHold) → Contains (lines_in text) line
     → printed_hold line ≡ Some hold
-    → IsHold loaded.bay (program_of loaded.bay loaded.image) (zip rules said.answers) hold
+    → IsHold loaded.bay (program_of loaded.bay loaded.image) (zip rules written.answers) hold

@@ -3,7 +3,7 @@ ghost use Rattle.std.specs.Prelude.{◌≡◌, ◌++◌, OnOk};
 ghost use Rattle.cmd_audit.specs.HazardText as spec;
 
 use crate::judged::{JudgedRelease, is_safe};
-use crate::text::{put_case, put_held, put_switch_operation};
+use crate::text::{put_case, put_holds, put_switch_operation};
 use bay_audit::case::Case;
 use bay_audit_hazards::answer::HazardAnswer;
 use bay_config::bay::Bay;
@@ -58,7 +58,7 @@ fn put_hazard_answer(
         ++ spec.hazard_answer_text bay.now diagram.now release.now.answer release.now.shown) }
 {
     match &release.answer {
-        HazardAnswer::Holds { cases } => put_held(text, *cases),
+        HazardAnswer::Holds { cases } => put_holds(text, *cases),
         HazardAnswer::Broken { case } => {
             put_hazard_case(text, bay, diagram, b" broken", case, &release.shown)
         }

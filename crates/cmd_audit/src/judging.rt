@@ -73,7 +73,7 @@ fn unproved_lines(
 }
 
 // Answers rules for a program, and returns the verdict on them.
-fn verdict_on(alloc: Global, loaded: &Loaded, rules: &[Rule]) -> Result<RulesVerdict, AllocError>
+fn judge(alloc: Global, loaded: &Loaded, rules: &[Rule]) -> Result<RulesVerdict, AllocError>
     ensures { IfOk result (λ verdict. Judges loaded.now rules.now verdict) }
 {
     let bay = loaded.bay();
@@ -103,11 +103,11 @@ fn refused_verdict(fault: RuleFault) -> Result<RulesVerdict, AllocError>
 }
 
 // Reads a text of rules, and returns the verdict on them.
-fn verdict_on_text(alloc: Global, loaded: &Loaded, rules: &[u8]) -> Result<RulesVerdict, AllocError>
+fn judge_text(alloc: Global, loaded: &Loaded, rules: &[u8]) -> Result<RulesVerdict, AllocError>
     ensures { IfOk result (λ verdict. JudgesText loaded.now rules.now verdict) }
 {
     match read_rules(alloc, loaded.bay(), rules) {
-        Ok(rules) => verdict_on(alloc, loaded, rules.as_slice()),
+        Ok(rules) => judge(alloc, loaded, rules.as_slice()),
         Err(fault) => refused_verdict(fault),
     }
 }
@@ -117,7 +117,7 @@ fn verdict_on_text(alloc: Global, loaded: &Loaded, rules: &[u8]) -> Result<Rules
 pub fn judge_rules(alloc: Global, loaded: &Loaded, rules: &[u8]) -> RulesVerdict
     ensures { IsVerdictOn loaded.now rules.now result }
 {
-    match verdict_on_text(alloc, loaded, rules) {
+    match judge_text(alloc, loaded, rules) {
         Ok(verdict) => verdict,
         Err(AllocError) => RulesVerdict::OutOfMemory,
     }

@@ -7,7 +7,7 @@ ghost use Rattle.bay_report.specs.Report.{code_of};
 ghost use Rattle.cmd_audit.specs.Auditing.{AnswersIf, AreAnswered, DiagramRead, JudgementsIf, RulesRead};
 ghost use Rattle.cmd_audit.specs.Auditing as spec;
 ghost use Rattle.cmd_audit.specs.Refusals.{log_in, refusal_line};
-ghost use Rattle.cmd_audit.specs.Written.{PutsRest, PutsSaid, PutsStopped, PutsText};
+ghost use Rattle.cmd_audit.specs.Written.{PutsRest, PutsRulesText, PutsStopped, PutsText};
 
 use crate::hazards::write_judgements;
 use crate::refusal::{Refusal, put_refusal};
@@ -171,7 +171,7 @@ fn write_loaded<W: Sink>(
     effort: u32,
 ) -> Result<AuditEnd, Stopped>
     ensures { MatchResult result
-        (λ end. PutsSaid W.contents W.does loaded.now texts.now (log_in end.refused)
+        (λ end. PutsRulesText W.contents W.does loaded.now texts.now (log_in end.refused)
         (code_of end.status) writer.old writer.new)
         (λ _. PutsStopped W.contents W.does loaded.now texts.now writer.old writer.new) }
 {

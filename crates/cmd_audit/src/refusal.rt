@@ -1,7 +1,7 @@
 // The line of rules or of a diagram file that are refused, and what is logged.
 ghost use Rattle.std.specs.Prelude.{◌≡◌, option_map};
 ghost use Rattle.bay_io.specs.Sent.{Puts};
-ghost use Rattle.bay_report.specs.LogLines.{IsReported, LogsSome, PrintsLogs};
+ghost use Rattle.bay_report.specs.LogLines.{IsLoggedOutput, LogsIfAny, PrintsLogs};
 ghost use Rattle.cmd_audit.specs.Refusals as spec;
 ghost use Rattle.cmd_audit.specs.Text.{refusal_text, refused_log};
 
@@ -95,7 +95,7 @@ pub(crate) fn put_refusal<W: Sink>(writer: &mut WatchedWriter<W>, refusal: Refus
 
 // Logs why rules are refused.
 fn log_rule_fault<W: Sink>(writer: &mut WatchedWriter<W>, fault: RuleFault)
-    ensures { LogsSome W.contents W.does writer.old (refused_log fault) writer.new }
+    ensures { LogsIfAny W.contents W.does writer.old (refused_log fault) writer.new }
 {
     let Some(code) = fault.code() else {
         return;
@@ -113,7 +113,7 @@ fn log_rule_fault<W: Sink>(writer: &mut WatchedWriter<W>, fault: RuleFault)
 
 // Logs why a diagram file is refused.
 fn log_diagram_fault<W: Sink>(writer: &mut WatchedWriter<W>, fault: DiagramFault)
-    ensures { LogsSome W.contents W.does writer.old (spec.diagram_log fault) writer.new }
+    ensures { LogsIfAny W.contents W.does writer.old (spec.diagram_log fault) writer.new }
 {
     let Some(code) = fault.kind.code() else {
         return;
@@ -143,7 +143,7 @@ fn log_diagram_fault<W: Sink>(writer: &mut WatchedWriter<W>, fault: DiagramFault
 
 // Logs why rules or a diagram file are refused.
 fn log_refusal<W: Sink>(writer: &mut WatchedWriter<W>, refusal: Refusal)
-    ensures { LogsSome W.contents W.does writer.old (spec.refusal_log refusal) writer.new }
+    ensures { LogsIfAny W.contents W.does writer.old (spec.refusal_log refusal) writer.new }
 {
     match refusal {
         Refusal::Rules(fault) => log_rule_fault(writer, fault),
@@ -153,7 +153,7 @@ fn log_refusal<W: Sink>(writer: &mut WatchedWriter<W>, refusal: Refusal)
 
 /// Logs why rules or a diagram file are refused, if they are.
 pub(crate) fn log_refused<W: Sink>(writer: &mut WatchedWriter<W>, refused: Option<Refusal>)
-    ensures { LogsSome W.contents W.does writer.old (spec.log_in refused) writer.new }
+    ensures { LogsIfAny W.contents W.does writer.old (spec.log_in refused) writer.new }
 {
     if let Some(refusal) = refused {
         log_refusal(writer, refusal);
@@ -167,7 +167,7 @@ pub(crate) fn write_refusal<W: Sink>(
     refusal: Refusal,
 ) -> Result<u8, WriteFault>
     ensures { PrintsLogs W.contents W.does
-        (IsReported (spec.refusal_log refusal) (spec.refusal_line refusal) 1)
+        (IsLoggedOutput (spec.refusal_log refusal) (spec.refusal_line refusal) 1)
         writer.old writer.new result }
 {
     put_refusal(writer, refusal);

@@ -1,6 +1,6 @@
 // The names of what a program retains from scan to scan.
 ghost use Rattle.std.specs.Prelude.{◌≡◌};
-ghost use Rattle.cmd_audit.specs.Names.{known_of};
+ghost use Rattle.cmd_audit.specs.Names.{program_names};
 
 use bay_load::loaded::Loaded;
 use bay_load::names::DeclaredNames;
@@ -17,9 +17,9 @@ pub struct StateNames<'a> {
 }
 
 impl<'a> Model for StateNames<'a> {
-    ghost use Rattle.cmd_audit.specs.Names.{Known};
+    ghost use Rattle.cmd_audit.specs.Names.{ProgramNames};
 
-    ghost Value = { Known };
+    ghost Value = { ProgramNames };
 
     ghost view = { λ n. record {
       points = n.points.now;
@@ -31,7 +31,7 @@ impl<'a> Model for StateNames<'a> {
 impl<'a> StateNames<'a> {
     /// Returns the names of the program that was loaded.
     pub fn of(loaded: &'a Loaded) -> Self
-        ensures { result ≡ known_of loaded.now }
+        ensures { result ≡ program_names loaded.now }
     {
         StateNames {
             points: loaded.verified().image().points(),

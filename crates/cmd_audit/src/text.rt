@@ -84,9 +84,9 @@ fn put_name(text: &mut Vec<u8>, name: &str) -> Result<(), AllocError>
 }
 
 // Adds the positions that a case allows the switch with this id, unless it allows each.
-fn put_known(text: &mut Vec<u8>, case: &Case, switch: usize, id: &str) -> Result<(), AllocError>
+fn put_switch_positions(text: &mut Vec<u8>, case: &Case, switch: usize, id: &str) -> Result<(), AllocError>
     ensures { OnOk result
-        (text.new.items ≡ text.old.items ++ spec.known_text case.now switch id.now) }
+        (text.new.items ≡ text.old.items ++ spec.switch_positions case.now switch id.now) }
 {
     if is_any_position(case, switch) {
         return Ok(());
@@ -101,7 +101,7 @@ fn put_switch(text: &mut Vec<u8>, bay: &Bay, case: &Case, switch: usize) -> Resu
         ++ spec.switch_text case.now switch (slice_get bay.now.switches switch)) }
 {
     match bay.switches.as_slice().get(switch) {
-        Some(found) => put_known(text, case, switch, found.id.as_str()),
+        Some(found) => put_switch_positions(text, case, switch, found.id.as_str()),
         None => Ok(()),
     }
 }
@@ -252,7 +252,7 @@ fn put_dependencies(
 }
 
 // Adds a word, the id of a switch and an operation.
-fn put_way(
+fn put_operation_of(
     text: &mut Vec<u8>,
     word: &[u8],
     id: &str,
@@ -284,8 +284,8 @@ pub fn put_switch_operation(
         operation) }
 {
     match bay.switches.as_slice().get(switch) {
-        Some(found) => put_way(text, word, found.id.as_str(), operation),
-        None => put_way(text, word, "", operation),
+        Some(found) => put_operation_of(text, word, found.id.as_str(), operation),
+        None => put_operation_of(text, word, "", operation),
     }
 }
 
@@ -300,7 +300,7 @@ fn put_rule_head(text: &mut Vec<u8>, bay: &Bay, rule: &Rule) -> Result<(), Alloc
 }
 
 /// Adds that a rule or a release holds, and by how many cases. Fails only if an allocation fails.
-pub fn put_held(text: &mut Vec<u8>, cases: u32) -> Result<(), AllocError>
+pub fn put_holds(text: &mut Vec<u8>, cases: u32) -> Result<(), AllocError>
     ensures { OnOk result (text.new.items ≡ text.old.items ++ spec.holds_text cases) }
 {
     text.extend_from_slice(b" holds cases=")?;
@@ -318,7 +318,7 @@ fn put_rule_answer(
         (text.new.items ≡ text.old.items ++ spec.verdict_text bay.now names.now answer.now) }
 {
     match answer {
-        RuleAnswer::Holds { cases } => put_held(text, *cases),
+        RuleAnswer::Holds { cases } => put_holds(text, *cases),
         RuleAnswer::Broken { case } => {
             text.extend_from_slice(b" broken")?;
             put_case(text, bay, case)
@@ -329,7 +329,7 @@ fn put_rule_answer(
             put_dependencies(text, b" by", names, depends_on)
         }
         RuleAnswer::Since { timer, cases } => {
-            put_held(text, *cases)?;
+            put_holds(text, *cases)?;
             text.extend_from_slice(b" by")?;
             put_timer(text, names, *timer)
         }
@@ -426,7 +426,7 @@ fn put_release(
     ensures { OnOk result (text.new.items ≡ text.old.items
         ++ spec.release_lines bay.now names.now id.now release.now) }
 {
-    put_way(text, b"release ", id, release.operation)?;
+    put_operation_of(text, b"release ", id, release.operation)?;
     if release.left.as_slice().is_empty() {
         put_cases(text, bay, names, release.cases.as_slice())
     } else {
@@ -463,7 +463,7 @@ fn put_state(
         ≡ text.old.items ++ (spec.switch_operation_text word.now id.now operation
         ++ (spec.lost_release_text names.now release.now ++ codes "\n"))) }
 {
-    put_way(text, word, id, operation)?;
+    put_operation_of(text, word, id, operation)?;
     match release {
         CaseRelease::Released => text.extend_from_slice(b" released\n"),
         CaseRelease::Refused => text.extend_from_slice(b" blocked\n"),

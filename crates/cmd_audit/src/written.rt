@@ -2,8 +2,8 @@
 ghost use Rattle.std.specs.Prelude.{◌≡◌, ◌&&◌, [], codes, length, MatchResult};
 ghost use Rattle.bay_audit.specs.Rules.{directions};
 ghost use Rattle.bay_io.specs.Sent.{Puts};
-ghost use Rattle.cmd_audit.specs.Auditing.{Answers, status_of};
-ghost use Rattle.cmd_audit.specs.Written.{PutsAnswers, PutsFirst, PutsMaybe, PutsRelease, PutsReleases, PutsSome, PutsText};
+ghost use Rattle.cmd_audit.specs.Auditing.{AuditText, status_of};
+ghost use Rattle.cmd_audit.specs.Written.{PutsAnswers, PutsFirstAnswers, PutsReleaseIfAny, PutsRelease, PutsReleases, PutsFirstReleases, PutsText};
 
 use crate::state_names::StateNames;
 use crate::stopped::Stopped;
@@ -51,7 +51,7 @@ fn write_answers<W: Sink>(
     ensures { MatchResult result
         (λ passed. PutsAnswers W.contents W.does bay.now names.now program.now rules.now passed
         writer.old writer.new)
-        (λ _. PutsFirst W.contents W.does bay.now names.now program.now rules.now writer.old
+        (λ _. PutsFirstAnswers W.contents W.does bay.now names.now program.now rules.now writer.old
         writer.new) }
 {
     let mut passed = true;
@@ -78,7 +78,7 @@ fn write_release<W: Sink>(
     ensures { MatchResult result
         (λ r. PutsRelease W.contents W.does bay.now names.now program.now way r writer.old
         writer.new)
-        (λ _. PutsMaybe W.contents W.does bay.now names.now program.now way writer.old
+        (λ _. PutsReleaseIfAny W.contents W.does bay.now names.now program.now way writer.old
         writer.new) }
 {
     let found = release(alloc, bay, program, way.0, way.1, budget)?;
@@ -100,7 +100,7 @@ fn write_releases<W: Sink>(
     ensures { MatchResult result
         (λ releases. PutsReleases W.contents W.does bay.now names.now program.now
         (directions (length bay.now.switches)) releases.items writer.old writer.new)
-        (λ _. PutsSome W.contents W.does bay.now names.now program.now
+        (λ _. PutsFirstReleases W.contents W.does bay.now names.now program.now
         (directions (length bay.now.switches)) writer.old writer.new) }
 {
     let mut releases = Vec::new(alloc);
@@ -127,9 +127,9 @@ pub(crate) fn write_audit<W: Sink>(
     effort: u32,
 ) -> Result<bool, Stopped>
     ensures { MatchResult result
-        (λ passed. PutsText W.contents W.does (Answers loaded.now rules.now) [] (status_of passed)
+        (λ passed. PutsText W.contents W.does (AuditText loaded.now rules.now) [] (status_of passed)
         writer.old writer.new)
-        (λ _. PutsText W.contents W.does (Answers loaded.now rules.now) (codes "fault memory\n") 3
+        (λ _. PutsText W.contents W.does (AuditText loaded.now rules.now) (codes "fault memory\n") 3
         writer.old writer.new) }
 {
     let bay = loaded.bay();

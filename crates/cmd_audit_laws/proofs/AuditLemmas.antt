@@ -4,7 +4,7 @@ use Rattle.std.specs.Prelude.{MatchOption, slice_get}
 use Rattle.bay_audit.specs.Rules.{AreRightAnswers, BoundProgram, IsAnswer, IsByTimer, IsRightAnswer, RuleHolds, IsTimedAnswerOf, IsTimedAnswer, plain_demand, program_of}
 use Rattle.bay_audit.specs.declared.answer.RuleAnswer.{RuleAnswer}
 use Rattle.bay_audit.specs.declared.answer.RuleAnswer.TheVariants.{Broken, Holds, Open, Since, TooMany}
-use Rattle.cmd_audit.specs.Auditing.{AnswersIf, AreAnswered, AuditOctets, AuditReport, DiagramRead, IsTextFor, IsTextOf, IsTextWith, JudgementsIf, RulesRead, status_of}
+use Rattle.cmd_audit.specs.Auditing.{AnswersIf, AreAnswered, AuditOctets, AuditReport, DiagramRead, RulesReport, ParsedRulesReport, IsTextWith, JudgementsIf, RulesRead, status_of}
 use Rattle.bay_audit_hazards.specs.Judged.{IsHarmless}
 use Rattle.bay_base.specs.declared.switch.Operation.{Operation}
 use Rattle.bay_config.specs.Laws.{IsBay}
@@ -17,7 +17,7 @@ use Rattle.bay_diagram_file.specs.declared.fault.DiagramFault.{DiagramFault}
 use Rattle.bay_device.specs.Load.{IsLoaded, LoadsDevice, initial_device}
 use Rattle.bay_device.specs.Meaning.{Runs}
 use Rattle.bay_device.proofs.LoadedLemmas.{device-loaded, file-sound, loaded-runs}
-use Rattle.bay_load.specs.Loads.{IsCompiled, IsImageOf, LoadData, LoadsTo, file_of, text_of}
+use Rattle.bay_load.specs.Loads.{IsCompiled, IsImageOf, LoadData, LoadsTo, parsed_bay, parsed_program}
 use Rattle.bay_load.specs.declared.load.Form.{Form}
 use Rattle.bay_load.specs.declared.load.Form.TheVariants as form
 use Rattle.bay_load.proofs.LoadLemmas.{load-made}
@@ -108,7 +108,7 @@ right-timer g rule timing TooMany never timed how right = absurd how
 pub record OfOctets (How : RuleAnswer → Type 0) (bay : List ℕ) (form : Form) (program : List ℕ)
     (rule : Rule) : Type 0 where
   pub own : Bay
-  pub read : file_of bay ≡ Ok own
+  pub read : parsed_bay bay ≡ Ok own
   pub image : Image
   pub made : IsImageOf form program own image
   pub there : rule.switch < length own.switches
@@ -121,7 +121,7 @@ pub record OfOctets (How : RuleAnswer → Type 0) (bay : List ℕ) (form : Form)
 pub record HarmlessOfOctets (bay : List ℕ) (form : Form) (program : List ℕ) (net : Network)
     (k : ℕ) (operation : Operation) : Type 0 where
   pub own : Bay
-  pub read : file_of bay ≡ Ok own
+  pub read : parsed_bay bay ≡ Ok own
   pub image : Image
   pub made : IsImageOf form program own image
   pub there : k < length own.switches
@@ -136,124 +136,124 @@ pub record Within (Is : OnAnswers) (f : Form) (octets : AuditOctets) : Type 0 wh
   pub loaded : LoadData
   pub loads : LoadsTo octets.both.bay f octets.both.program (Ok loaded)
   pub rules : Option (List Rule)
-  pub means : RulesRead loaded.bay octets.rules (Ok rules)
+  pub parses : RulesRead loaded.bay octets.rules (Ok rules)
   pub drawn : Option Diagram
   pub draws : DiagramRead loaded.bay octets.diagram (Ok drawn)
   pub text : List ℕ
   pub status : ℕ
-  pub says : AreAnswered loaded rules drawn text status
-  pub is : Is loaded rules drawn text status says
+  pub prints : AreAnswered loaded rules drawn text status
+  pub is : Is loaded rules drawn text status prints
 
 module _ (Is : OnAnswers) (f : Form) (octets : AuditOctets) where
   within-drawn : (l : LoadData) → LoadsTo octets.both.bay f octets.both.program (Ok l)
       → (rules : Option (List Rule)) → RulesRead l.bay octets.rules (Ok rules)
-      → (meant : Result (Option Diagram) DiagramFault) → DiagramRead l.bay octets.diagram meant
+      → (parsed : Result (Option Diagram) DiagramFault) → DiagramRead l.bay octets.diagram parsed
       → (log : Option (List ℕ)) (text : List ℕ) (status : ℕ)
-      (says : IsTextWith l rules meant log text status)
-      → IfDrawn Is l rules meant log text status says → Within Is f octets
-  within-drawn l loads rules means (Err fault) draws log text status says h = absurd h
-  within-drawn l loads rules means (Ok d) draws log text status says h = record {
+      (prints : IsTextWith l rules parsed log text status)
+      → IfDrawn Is l rules parsed log text status prints → Within Is f octets
+  within-drawn l loads rules parses (Err fault) draws log text status prints h = absurd h
+  within-drawn l loads rules parses (Ok d) draws log text status prints h = record {
     loaded = l;
     loads = loads;
     rules = rules;
-    means = means;
+    parses = parses;
     drawn = d;
     draws = draws;
     text = text;
     status = status;
-    says = says.1;
+    prints = prints.1;
     is = h;
   }
 
   within-read : (l : LoadData) → LoadsTo octets.both.bay f octets.both.program (Ok l)
-      → (meant : Result (Option (List Rule)) RuleFault) → RulesRead l.bay octets.rules meant
+      → (parsed : Result (Option (List Rule)) RuleFault) → RulesRead l.bay octets.rules parsed
       → (log : Option (List ℕ)) (text : List ℕ) (status : ℕ)
-      (says : IsTextOf l meant octets.diagram log text status)
-      → IfRead Is l meant octets.diagram log text status says → Within Is f octets
-  within-read l loads (Err fault) means log text status says h = absurd h
-  within-read l loads (Ok rules) means log text status says h =
-      within-drawn l loads rules means says.meant says.means log text status says.says h
+      (prints : ParsedRulesReport l parsed octets.diagram log text status)
+      → IfRead Is l parsed octets.diagram log text status prints → Within Is f octets
+  within-read l loads (Err fault) parses log text status prints h = absurd h
+  within-read l loads (Ok rules) parses log text status prints h =
+      within-drawn l loads rules parses prints.parsed prints.parses log text status prints.prints h
 
   within-load : (l : LoadData) → LoadsTo octets.both.bay f octets.both.program (Ok l)
       → (Memory : Type 0) (log : Option (List ℕ)) (text : List ℕ) (status : ℕ)
-      (says : IsTextFor l octets.rules octets.diagram log text status ⊎ Memory)
-      → AfterLoad Is Memory l octets.rules octets.diagram log text status says
+      (prints : RulesReport l octets.rules octets.diagram log text status ⊎ Memory)
+      → AfterLoad Is Memory l octets.rules octets.diagram log text status prints
       → Within Is f octets
   within-load l loads Memory log text status (inr memory) h = absurd h
-  within-load l loads Memory log text status (inl says) h =
-      within-read l loads says.meant says.means log text status says.says h
+  within-load l loads Memory log text status (inl prints) h =
+      within-read l loads prints.parsed prints.parses log text status prints.prints h
 
   within : (log : Option (List ℕ)) (text : List ℕ) (status : ℕ)
       (audit : AuditReport f octets log text status) → InAudit Is f octets log text status audit
       → Within Is f octets
   within log text status (inr refused) h = absurd h
   within log text status (inl load) h =
-      within-load load.loaded load.loads _ log load.tells.rest status load.tells.says h
+      within-load load.loaded load.loads _ log load.reports.rest status load.reports.prints h
 
 module _ (bay : List ℕ) (f : Form) (program : List ℕ) where
   module _ (How : RuleAnswer → Type 0) (rule : Rule) where
     of-answers : (l : LoadData) → LoadsTo bay f program (Ok l) → (rules : List ℕ)
-        (meant : Option (List Rule)) → RulesRead l.bay (Some rules) (Ok meant) → (text : List ℕ)
-        (status : ℕ) (says : AnswersIf l meant text status)
-        → AnswersRule How rule l meant text status says → OfOctets How bay f program rule
-    of-answers l loads rules None means text status says h = absurd means
-    of-answers l loads rules (Some rs) means text status says h =
+        (parsed : Option (List Rule)) → RulesRead l.bay (Some rules) (Ok parsed) → (text : List ℕ)
+        (status : ℕ) (prints : AnswersIf l parsed text status)
+        → AnswersRule How rule l parsed text status prints → OfOctets How bay f program rule
+    of-answers l loads rules None parses text status prints h = absurd parses
+    of-answers l loads rules (Some rs) parses text status prints h =
         let made = load-made bay f program l loads in
         record {
           own = l.bay;
           read = made.read;
           image = l.image;
           made = made.made;
-          there = rule-there l.bay rules rs means h.index rule h.here;
+          there = rule-there l.bay rules rs parses h.index rule h.here;
           answer = h.answer;
           how = h.how;
-          right = right-at (program_of l.bay l.image) rs says.answers h.index rule h.answer
-              says.right h.here h.answered;
+          right = right-at (program_of l.bay l.image) rs prints.answers h.index rule h.answer
+              prints.right h.here h.answered;
         }
 
     of-both : (l : LoadData) → LoadsTo bay f program (Ok l) → (rules : List ℕ)
-        (meant : Option (List Rule)) → RulesRead l.bay (Some rules) (Ok meant)
+        (parsed : Option (List Rule)) → RulesRead l.bay (Some rules) (Ok parsed)
         → (d : Option Diagram) (text : List ℕ) (status : ℕ)
-        (says : AreAnswered l meant d text status)
-        → AnswersRuleIn How rule l meant d text status says → OfOctets How bay f program rule
-    of-both l loads rules meant means d text status (inl both) h =
-        of-answers l loads rules meant means both.answered (status_of both.passed) both.answers h
-    of-both l loads rules meant means d text status (inr cut) h =
-        of-answers l loads rules meant means text 3 cut.1 h
+        (prints : AreAnswered l parsed d text status)
+        → AnswersRuleIn How rule l parsed d text status prints → OfOctets How bay f program rule
+    of-both l loads rules parsed parses d text status (inl both) h =
+        of-answers l loads rules parsed parses both.answered (status_of both.passed) both.answers h
+    of-both l loads rules parsed parses d text status (inr cut) h =
+        of-answers l loads rules parsed parses text 3 cut.1 h
 
     -- What is answered of a rule is right.
     pub audited : (rules : List ℕ) → IsAudited How bay f program rules rule
         → OfOctets How bay f program rule
     audited rules is =
         let w = within (AnswersRuleIn How rule) f
-        (octets_with bay program (Some rules) is.diagram) is.log is.text is.status is.audit is.says
+        (octets_with bay program (Some rules) is.diagram) is.log is.text is.status is.audit is.prints
         in
-        of-both w.loaded w.loads rules w.rules w.means w.drawn w.text w.status w.says w.is
+        of-both w.loaded w.loads rules w.rules w.parses w.drawn w.text w.status w.prints w.is
 
   module _ (net : Network) (k : ℕ) (operation : Operation) where
     of-judgements : (l : LoadData) → LoadsTo bay f program (Ok l) → (d : Option Diagram)
-        (text : List ℕ) (status : ℕ) (says : JudgementsIf l d text status)
-        → JudgesRelease net k operation l d text status says
+        (text : List ℕ) (status : ℕ) (prints : JudgementsIf l d text status)
+        → JudgesRelease net k operation l d text status prints
         → HarmlessOfOctets bay f program net k operation
-    of-judgements l loads None text status says h = absurd h
-    of-judgements l loads (Some d) text status says h =
+    of-judgements l loads None text status prints h = absurd h
+    of-judgements l loads (Some d) text status prints h =
         let made = load-made bay f program l loads in
         record {
           own = l.bay;
           read = made.read;
           image = l.image;
           made = made.made;
-          there = judged-there (length l.bay.switches) says.releases k operation
-              (said-ways l.bay d says.releases text status says.said) h.1;
+          there = judged-there (length l.bay.switches) prints.releases k operation
+              (said-ways l.bay d prints.releases text status prints.written) h.1;
           harmless = subst (λ n. IsHarmless (program_of l.bay l.image) n k operation) h.0
-              (held-harmless (program_of l.bay l.image) d.network says.releases says.right k
+              (held-harmless (program_of l.bay l.image) d.network prints.releases prints.right k
               operation h.1);
         }
 
     of-drawn : (l : LoadData) → LoadsTo bay f program (Ok l) → (rules : Option (List Rule))
         (d : Option Diagram) (text : List ℕ) (status : ℕ)
-        (says : AreAnswered l rules d text status)
-        → JudgesReleaseIn net k operation l rules d text status says
+        (prints : AreAnswered l rules d text status)
+        → JudgesReleaseIn net k operation l rules d text status prints
         → HarmlessOfOctets bay f program net k operation
     of-drawn l loads rules d text status (inl both) h =
         of-judgements l loads d both.judged both.ended both.judgements h
@@ -264,9 +264,9 @@ module _ (bay : List ℕ) (f : Form) (program : List ℕ) where
         → HarmlessOfOctets bay f program net k operation
     held diagram is =
         let w = within (JudgesReleaseIn net k operation) f
-        (octets_with bay program is.rules (Some diagram)) is.log is.text is.status is.audit is.says
+        (octets_with bay program is.rules (Some diagram)) is.log is.text is.status is.audit is.prints
         in
-        of-drawn w.loaded w.loads w.rules w.drawn w.text w.status w.says w.is
+        of-drawn w.loaded w.loads w.rules w.drawn w.text w.status w.prints w.is
 
 -- ---- a device that octets load to
 
@@ -289,14 +289,14 @@ pub record Begins (own : Bay) (image : Image) (device : State) : Type 0 where
   pub steady : Steady (initial_device own image)
 
 pub text-begins : (bay program : List ℕ) (device : State)
-    (loaded : IsLoaded (file_of bay) (IsCompiled (text_of program)) device)
-    → Runs loaded.made.checked device → (own : Bay) (image : Image) → file_of bay ≡ Ok own
-    → IsCompiled (text_of program) own image → Begins own image device
+    (loaded : IsLoaded (parsed_bay bay) (IsCompiled (parsed_program program)) device)
+    → Runs loaded.made.checked device → (own : Bay) (image : Image) → parsed_bay bay ≡ Ok own
+    → IsCompiled (parsed_program program) own image → Begins own image device
 text-begins bay program device loaded runs own image read made =
-    let same : loaded.bay ≡ own = same-bay (file_of bay) loaded.bay own loaded.read read in
+    let same : loaded.bay ≡ own = same-bay (parsed_bay bay) loaded.bay own loaded.read read in
     let run : loaded.image ≡ image =
-    compiled-once (text_of program) own loaded.image image
-    (subst (λ (b : Bay). IsCompiled (text_of program) b loaded.image) same loaded.made) made in
+    compiled-once (parsed_program program) own loaded.image image
+    (subst (λ (b : Bay). IsCompiled (parsed_program program) b loaded.image) same loaded.made) made in
     let is : device ≡ initial_device own image =
     loaded.is ∙ ap (λ (b : Bay). initial_device b loaded.image) same
     ∙ ap (initial_device own) run in
@@ -308,12 +308,12 @@ text-begins bay program device loaded runs own image read made =
 
 image-begins : (bay program : List ℕ) (device : State)
     → LoadsDevice bay form.Image program device → (own : Bay) (image : Image)
-    → file_of bay ≡ Ok own → decoded_image program ≡ Ok image → AreOctets program
+    → parsed_bay bay ≡ Ok own → decoded_image program ≡ Ok image → AreOctets program
     → Begins own image device
 image-begins bay program device is own image read made octets =
     let l = is.0 in
     let load = load-made bay form.Image program l is.1 in
-    let same : l.bay ≡ own = same-bay (file_of bay) l.bay own load.read read in
+    let same : l.bay ≡ own = same-bay (parsed_bay bay) l.bay own load.read read in
     let images : Ok l.image ≡ Ok image = sym load.made ∙ made in
     let run : l.image ≡ image = cc in
     let verified : IsVerified own.points image =
@@ -328,7 +328,7 @@ image-begins bay program device is own image read made octets =
 -- so it is of octets of either form
 pub begins : (bay : List ℕ) (f : Form) (program : List ℕ) (device : State)
     → LoadsDevice bay f program device → IsFile f program → (own : Bay) (image : Image)
-    → file_of bay ≡ Ok own → IsImageOf f program own image → Begins own image device
+    → parsed_bay bay ≡ Ok own → IsImageOf f program own image → Begins own image device
 begins bay form.Logic program device loads file own image read made =
     let loaded = device-loaded bay form.Logic program device loads in
     text-begins bay program device loaded (loaded-runs bay program device loaded) own image read

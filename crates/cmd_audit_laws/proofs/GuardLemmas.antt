@@ -21,7 +21,7 @@ use Rattle.bay_device.specs.Fresh.{PastEvent}
 use Rattle.bay_device.specs.Load.{LoadsDevice, device_of}
 use Rattle.bay_files.specs.Files.{ProtectedReads, FileReads, FilesData, ReadsFile}
 use Rattle.bay_io.specs.Calls.{WriteCall}
-use Rattle.bay_load.specs.Loads.{IsImageOf, LoadData, LoadsTo, file_of}
+use Rattle.bay_load.specs.Loads.{IsImageOf, LoadData, LoadsTo, parsed_bay}
 use Rattle.bay_load.proofs.LoadLemmas.{load-made}
 use Rattle.bay_load.specs.declared.load.Form.{Form}
 use Rattle.bay_server_turn.specs.Calls.{Call}
@@ -34,7 +34,7 @@ use Rattle.cmd_audit.specs.Auditing.{ReadsOptional}
 use Rattle.cmd_audit.specs.JudgingDiagram.{IsDiagramVerdictOn, JudgesDiagramRead}
 use Rattle.cmd_audit.specs.declared.judging.RulesVerdict.TheVariants as judged
 use Rattle.cmd_audit.specs.declared.judging_diagram.DiagramVerdict.TheVariants as drawn
-use Rattle.cmd_serve.specs.Serve.{data_of, made_of}
+use Rattle.cmd_serve.specs.Serve.{data_of, new_server}
 use Rattle.cmd_serve.specs.Service.{AreTurns, DoneTurn, server_after, past_after}
 use Rattle.il_image.specs.Images.{Image}
 use Rattle.cmd_audit_laws.specs.Audited.{ByTimer, Plainly}
@@ -96,19 +96,19 @@ waits-so rule timing never first h scans past (t ∷ ts) obeys = (
 
 module _ (f : Form) (both : FilesData) (device : State)
     (loads : LoadsDevice both.bay f both.program device) (ts : List DoneTurn)
-    (are : AreTurns (made_of device) ts) (given : AreGiven ts) (file : IsFile f both.program)
+    (are : AreTurns (new_server device) ts) (given : AreGiven ts) (file : IsFile f both.program)
     (rule : Rule) where
   plainly-obeys : OfOctets Plainly both.bay f both.program rule
-      → TurnsObey rule (made_of device) ts
+      → TurnsObey rule (new_server device) ts
   plainly-obeys own = record {
     scans = λ plain. scans-obey f both device loads ts are given file rule plain own;
     obey = λ never plain. orders-obey f both device loads ts are given file rule never own;
-    wait = λ timing never timed. waits-so rule timing never device (made_of device) [] [] ts
+    wait = λ timing never timed. waits-so rule timing never device (new_server device) [] [] ts
         (orders-obey f both device loads ts are given file rule never own);
   }
 
   by-timer-obeys : (own : OfOctets ByTimer both.bay f both.program rule)
-      → (rule.timed ≡ None → ⊥) → TurnsObey rule (made_of device) ts
+      → (rule.timed ≡ None → ⊥) → TurnsObey rule (new_server device) ts
   by-timer-obeys own timed = record {
     scans = λ plain. absurd (timed plain);
     obey = λ never plain. absurd (timed plain);
@@ -116,10 +116,10 @@ module _ (f : Form) (both : FilesData) (device : State)
         time own;
   }
 
-  passed-obeys : (own : Bay) (image : Image) → file_of both.bay ≡ Ok own
+  passed-obeys : (own : Bay) (image : Image) → parsed_bay both.bay ≡ Ok own
       → IsImageOf f both.program own image → rule.switch < length own.switches
       → (answer : RuleAnswer) → is_passed answer ≡ true
-      → IsRightAnswer (program_of own image) rule answer → TurnsObey rule (made_of device) ts
+      → IsRightAnswer (program_of own image) rule answer → TurnsObey rule (new_server device) ts
   passed-obeys own image read made there (Holds cases) passed right =
       plainly-obeys (record {
         own = own;
@@ -150,50 +150,50 @@ module _ (f : Form) (both : FilesData) (device : State)
 module _ (f : Form) (both : FilesData) (l : LoadData)
     (loads : LoadsTo both.bay f both.program (Ok l)) (text : List ℕ) (count : ℕ) where
   read-obeys : (file : IsFile f both.program) (ts : List DoneTurn)
-      → AreTurns (made_of (device_of l)) ts → AreGiven ts
-      → (meant : Result (List Rule) RuleFault) → TextRead l.bay text meant
-      → JudgesRead l meant (judged.Hold count)
-      → ObeyRules both.bay text (made_of (device_of l)) ts
-  read-obeys file ts are given (Ok rules) means judges =
+      → AreTurns (new_server (device_of l)) ts → AreGiven ts
+      → (parsed : Result (List Rule) RuleFault) → TextRead l.bay text parsed
+      → JudgesRead l parsed (judged.Hold count)
+      → ObeyRules both.bay text (new_server (device_of l)) ts
+  read-obeys file ts are given (Ok rules) parses judges =
       let made = load-made both.bay f both.program l loads in
       record {
         own = l.bay;
         read = made.read;
         rules = rules;
-        means = means;
+        parses = parses;
         obeyed = λ place rule here.
             let p = passed-at (program_of l.bay l.image) rules judges.answers judges.right
             judges.judged.0 place rule here in
             passed-obeys f both (device_of l) (l, loads, refl) ts are given file rule l.bay l.image
-            made.read made.made (rule-there l.bay text rules means place rule here) p.answer
+            made.read made.made (rule-there l.bay text rules parses place rule here) p.answer
             p.passed p.right;
       }
-  read-obeys file ts are given (Err fault) means judges = absurd cc
+  read-obeys file ts are given (Err fault) parses judges = absurd cc
 
   holds-obeys : (file : IsFile f both.program) (ts : List DoneTurn)
-      → AreTurns (made_of (device_of l)) ts → AreGiven ts
+      → AreTurns (new_server (device_of l)) ts → AreGiven ts
       → IsVerdictOn l text (judged.Hold count)
-      → ObeyRules both.bay text (made_of (device_of l)) ts
+      → ObeyRules both.bay text (new_server (device_of l)) ts
   holds-obeys file ts are given (inl memory) = absurd cc
   holds-obeys file ts are given (inr judges) =
-      read-obeys file ts are given judges.meant judges.means judges.judges
+      read-obeys file ts are given judges.parsed judges.parses judges.judges
 
 -- a diagram in which each release is judged to hold
 module _ (f : Form) (both : FilesData) (l : LoadData)
     (loads : LoadsTo both.bay f both.program (Ok l)) (text : List ℕ) (count : ℕ)
-    (file : IsFile f both.program) (ts : List DoneTurn) (are : AreTurns (made_of (device_of l)) ts)
+    (file : IsFile f both.program) (ts : List DoneTurn) (are : AreTurns (new_server (device_of l)) ts)
     (given : AreGiven ts) where
-  drawn-obeys : (meant : Result Diagram DiagramFault) → diagram_of_file l.bay text ≡ meant
-      → JudgesDiagramRead l meant (drawn.Hold count)
-      → ObeyDiagram both.bay text (made_of (device_of l)) ts
-  drawn-obeys (Err fault) means judges = absurd cc
-  drawn-obeys (Ok d) means judges =
+  drawn-obeys : (parsed : Result Diagram DiagramFault) → diagram_of_file l.bay text ≡ parsed
+      → JudgesDiagramRead l parsed (drawn.Hold count)
+      → ObeyDiagram both.bay text (new_server (device_of l)) ts
+  drawn-obeys (Err fault) parses judges = absurd cc
+  drawn-obeys (Ok d) parses judges =
       let made = load-made both.bay f both.program l loads in
       record {
         own = l.bay;
         read = made.read;
         drawn = d;
-        means = means;
+        parses = parses;
         obeyed = λ k operation there.
             orders-avoid f both (device_of l) (l, loads, refl) ts are given file l.bay l.image
             made.read made.made (is_hazard_of d.network k operation) k operation there
@@ -202,7 +202,7 @@ module _ (f : Form) (both : FilesData) (l : LoadData)
       }
 
   diagram-obeys : IsDiagramVerdictOn l text (drawn.Hold count)
-      → ObeyDiagram both.bay text (made_of (device_of l)) ts
+      → ObeyDiagram both.bay text (new_server (device_of l)) ts
   diagram-obeys (inl memory) = absurd cc
   diagram-obeys (inr judges) = drawn-obeys (diagram_of_file l.bay text) refl judges
 
@@ -224,7 +224,7 @@ module _ {F L H W : Type 0} (step : L → Call → L → Type 0) (acts : H → H
     (contents : W → Option (List ℕ)) (asks : W → WriteCall → W → Type 0) (reads : FileReads F)
     (guards : ProtectedReads F) where
   pub guarded-obey : GuardedCommandsObey step acts contents asks reads guards
-  guarded-obey files named numbers before after old new answer serves name is =
+  guarded-obey files named options before after old new answer serves name is =
       files-is step acts contents asks reads guards files named
       (ObeyFile reads ObeyRules files name named.form)
       (λ loaded loads rules diagram ts are given file.
@@ -234,10 +234,10 @@ module _ {F L H W : Type 0} (step : L → Call → L → Type 0) (acts : H → H
         read.1,
         holds-obeys named.form (data_of loaded) loaded.load loads.6 read.0 hold.0 file ts are given
             hold.1,
-      )) numbers before after old new answer serves.loaded serves.loads serves.goes_on
+      )) options before after old new answer serves.loaded serves.loads serves.continuation
 
   pub guarded-harmless : GuardedCommandsAreHarmless step acts contents asks reads guards
-  guarded-harmless files named numbers before after old new answer serves name is =
+  guarded-harmless files named options before after old new answer serves name is =
       files-is step acts contents asks reads guards files named
       (ObeyFile reads ObeyDiagram files name named.form)
       (λ loaded loads rules diagram ts are given file.
@@ -247,4 +247,4 @@ module _ {F L H W : Type 0} (step : L → Call → L → Type 0) (acts : H → H
         read.1,
         diagram-obeys named.form (data_of loaded) loaded.load loads.6 read.0 hold.0 file ts are
             given hold.1,
-      )) numbers before after old new answer serves.loaded serves.loads serves.goes_on
+      )) options before after old new answer serves.loaded serves.loads serves.continuation

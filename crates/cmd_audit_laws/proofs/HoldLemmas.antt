@@ -7,8 +7,8 @@ use Rattle.std.specs.List.{Contains}
 use Rattle.std.specs.Str.{bytes_eq}
 use Rattle.bay_audit.specs.declared.answer.RuleAnswer.{RuleAnswer}
 use Rattle.bay_audit.specs.declared.answer.RuleAnswer.TheVariants.{Broken, Holds, Open, Since, TooMany}
-use Rattle.cmd_audit.specs.Auditing.{Answers, AreAnswered, AuditReport, IsTextFor, IsTextOf, IsTextWith, RulesRead, status_of}
-use Rattle.cmd_audit.specs.Names.{AreWords, known_of}
+use Rattle.cmd_audit.specs.Auditing.{AuditText, AreAnswered, AuditReport, RulesReport, ParsedRulesReport, IsTextWith, RulesRead, status_of}
+use Rattle.cmd_audit.specs.Names.{AreWords, program_names}
 use Rattle.cmd_audit.specs.Text.{is_passed, numbered_text}
 use Rattle.cmd_audit.specs.Verdicts.{PrintedHold, hold_in, printed_hold}
 use Rattle.cmd_audit.proofs.BayNameLemmas.{bays-have-words}
@@ -23,8 +23,8 @@ use Rattle.bay_load.specs.Errors as error_code
 use Rattle.bay_load.specs.Loads.{IsImageOf, LoadData, LoadsTo}
 use Rattle.bay_load.specs.declared.error.LoadError.{LoadError}
 use Rattle.bay_load.proofs.LoadLemmas.{load-made}
-use Rattle.bay_report.specs.LogLines.{IsReported}
-use Rattle.bay_report.specs.Report.{refusal_by, refusal_of, report_text}
+use Rattle.bay_report.specs.LogLines.{IsLoggedOutput}
+use Rattle.bay_report.specs.Report.{coded_refusal, load_refusal_text, report_text}
 use Rattle.bay_load.specs.declared.load.Form.{Form}
 use Rattle.bay_load.specs.declared.load.Form.TheVariants as form
 use Rattle.bay_replay_laws.specs.Printed.{lines_in, words_in}
@@ -108,11 +108,11 @@ load-lines false code line =
     (decimal-free 10 code no-end) (decimal-free 10 line no-end))
     (other-line (codes "load") (codes "refused " ++ rest) refl refl))
 
-refused-by : (code : Option ℕ) (line : ℕ) → AreLines SaysNone (refusal_by code line)
+refused-by : (code : Option ℕ) (line : ℕ) → AreLines SaysNone (coded_refusal code line)
 refused-by None line = one-line (codes "load refused memory") refl refl
 refused-by (Some code) line = load-lines (line == 0) code line
 
-refused-lines : (error : LoadError) → AreLines SaysNone (refusal_of error)
+refused-lines : (error : LoadError) → AreLines SaysNone (load_refusal_text error)
 refused-lines error = refused-by (error_code.code_of error) (error_code.line_of error)
 
 rules-lines : (code : Option ℕ) (line : ℕ) → AreLines SaysNone (numbered_text code line)
@@ -159,17 +159,17 @@ module _ (bay : List ℕ) (f : Form) (program rules : List ℕ) (log : Option (L
     (whole : List ℕ) (status : ℕ) (file : IsFile f program) (line : List ℕ) (hold : PrintedHold)
     (e : printed_hold line ≡ Some hold) where
   of-answers : (l : LoadData) → LoadsTo bay f program (Ok l) → (rs : List Rule)
-      (text : List ℕ) (ended : ℕ) (said : Answers l rs text ended) → Contains (lines_in text) line
-      → ((How : RuleAnswer → Type 0) (rule : Rule) → IsAnswered How rs said.answers rule
+      (text : List ℕ) (ended : ℕ) (written : AuditText l rs text ended) → Contains (lines_in text) line
+      → ((How : RuleAnswer → Type 0) (rule : Rule) → IsAnswered How rs written.answers rule
       → IsAudited How bay f program rules rule) → IsLineOfRule bay f program rules hold
-  of-answers l loads rs text ended said at more =
+  of-answers l loads rs text ended written at more =
       let made = load-made bay f program l loads in
       let kept : IsImage l.image = image-kept f program l.bay l.image file made.made in
-      let known : AreWords (known_of l) = names-are-words bay f program l loads kept in
+      let known : AreWords (program_names l) = names-are-words bay f program l loads kept in
       let h =
-      holds-are-read l rs text ended (bays-have-words bay l.bay made.read) known said line hold at e
+      holds-are-read l rs text ended (bays-have-words bay l.bay made.read) known written line hold at e
       in
-      let index = zip-at rs said.answers h.pair h.among in
+      let index = zip-at rs written.answers h.pair h.among in
       record {
         own = l.bay;
         read = made.read;
@@ -196,9 +196,9 @@ module _ (bay : List ℕ) (f : Form) (program rules : List ℕ) (log : Option (L
       }
 
   of-both : (l : LoadData) → LoadsTo bay f program (Ok l) → (rs : List Rule) (text : List ℕ)
-      (says : AreAnswered l (Some rs) None text status) → Contains (lines_in text) line
+      (prints : AreAnswered l (Some rs) None text status) → Contains (lines_in text) line
       → ((How : RuleAnswer → Type 0) (rule : Rule)
-      → AnswersRuleIn How rule l (Some rs) None text status says
+      → AnswersRuleIn How rule l (Some rs) None text status prints
       → IsAudited How bay f program rules rule) → IsLineOfRule bay f program rules hold
   of-both l loads rs text (inl both) at more =
       of-answers l loads rs both.answered (status_of both.passed) both.answers
@@ -208,28 +208,28 @@ module _ (bay : List ℕ) (f : Form) (program rules : List ℕ) (log : Option (L
   of-both l loads rs text (inr cut) at more = of-answers l loads rs text 3 cut.1 at more
 
   of-drawn : (l : LoadData) → LoadsTo bay f program (Ok l) → (rs : List Rule)
-      (meant : Result (Option Diagram) DiagramFault) → meant ≡ Ok None → (text : List ℕ)
-      (says : IsTextWith l (Some rs) meant log text status) → Contains (lines_in text) line
+      (parsed : Result (Option Diagram) DiagramFault) → parsed ≡ Ok None → (text : List ℕ)
+      (prints : IsTextWith l (Some rs) parsed log text status) → Contains (lines_in text) line
       → ((How : RuleAnswer → Type 0) (rule : Rule)
-      → IfDrawn (AnswersRuleIn How rule) l (Some rs) meant log text status says
+      → IfDrawn (AnswersRuleIn How rule) l (Some rs) parsed log text status prints
       → IsAudited How bay f program rules rule) → IsLineOfRule bay f program rules hold
-  of-drawn l loads rs (Ok None) none text says at more = of-both l loads rs text says.1 at more
-  of-drawn l loads rs (Ok (Some d)) none text says at more = absurd cc
-  of-drawn l loads rs (Err fault) none text says at more = absurd cc
+  of-drawn l loads rs (Ok None) none text prints at more = of-both l loads rs text prints.1 at more
+  of-drawn l loads rs (Ok (Some d)) none text prints at more = absurd cc
+  of-drawn l loads rs (Err fault) none text prints at more = absurd cc
 
   of-rules : (l : LoadData) → LoadsTo bay f program (Ok l)
-      → (meant : Result (Option (List Rule)) RuleFault) → RulesRead l.bay (Some rules) meant
-      → (text : List ℕ) (says : IsTextOf l meant None log text status)
+      → (parsed : Result (Option (List Rule)) RuleFault) → RulesRead l.bay (Some rules) parsed
+      → (text : List ℕ) (prints : ParsedRulesReport l parsed None log text status)
       → Contains (lines_in text) line
       → ((How : RuleAnswer → Type 0) (rule : Rule)
-      → IfRead (AnswersRuleIn How rule) l meant None log text status says
+      → IfRead (AnswersRuleIn How rule) l parsed None log text status prints
       → IsAudited How bay f program rules rule) → IsLineOfRule bay f program rules hold
-  of-rules l loads (Err fault) means text says at more =
+  of-rules l loads (Err fault) parses text prints at more =
       absurd (no-line text line hold
-      (subst (AreLines SaysNone) (sym says.1.0) (rules-lines (code_of fault) (line_of fault))) at e)
-  of-rules l loads (Ok None) means text says at more = absurd means
-  of-rules l loads (Ok (Some rs)) means text says at more =
-      of-drawn l loads rs says.meant says.means text says.says at more
+      (subst (AreLines SaysNone) (sym prints.1.0) (rules-lines (code_of fault) (line_of fault))) at e)
+  of-rules l loads (Ok None) parses text prints at more = absurd parses
+  of-rules l loads (Ok (Some rs)) parses text prints at more =
+      of-drawn l loads rs prints.parsed prints.parses text prints.prints at more
 
   of-load : (report : Report) (rest : List ℕ) → whole ≡ report_text report ++ rest
       → Contains (lines_in whole) line → Contains (lines_in rest) line
@@ -260,32 +260,32 @@ module _ (bay : List ℕ) (f : Form) (program rules : List ℕ) (log : Option (L
       → Contains (lines_in whole) line → IsLineOfRule bay f program rules hold
   of-audit (inr refused) at =
       absurd (no-line whole line hold
-      (subst (AreLines SaysNone) (sym refused.tells.1.0) (refused-lines refused.error)) at e)
+      (subst (AreLines SaysNone) (sym refused.reports.1.0) (refused-lines refused.error)) at e)
   of-audit (inl load) at =
-      of-says load.tells.says (of-load load.tells.report load.tells.rest load.tells.whole at)
-      (λ How rule says. record {
+      of-says load.reports.prints (of-load load.reports.report load.reports.rest load.reports.whole at)
+      (λ How rule prints. record {
         diagram = None;
         log = log;
         text = whole;
         status = status;
         audit = inl load;
-        says = says;
+        prints = prints;
       })
     where
-      of-says : (says : IsTextFor load.loaded (Some rules) None log load.tells.rest status
-          ⊎ IsReported None (codes "fault memory\n") 3 log load.tells.rest status)
-          → Contains (lines_in load.tells.rest) line
+      of-says : (prints : RulesReport load.loaded (Some rules) None log load.reports.rest status
+          ⊎ IsLoggedOutput None (codes "fault memory\n") 3 log load.reports.rest status)
+          → Contains (lines_in load.reports.rest) line
           → ((How : RuleAnswer → Type 0) (rule : Rule)
-          → AfterLoad (AnswersRuleIn How rule) _ load.loaded (Some rules) None log load.tells.rest
-          status says
+          → AfterLoad (AnswersRuleIn How rule) _ load.loaded (Some rules) None log load.reports.rest
+          status prints
           → IsAudited How bay f program rules rule)
           → IsLineOfRule bay f program rules hold
       of-says (inr memory) there more =
-          absurd (no-line load.tells.rest line hold
+          absurd (no-line load.reports.rest line hold
           (subst (AreLines SaysNone) (sym memory.1.0) (one-line (codes "fault memory") refl refl))
           there e)
-      of-says (inl says) there more =
-          of-rules load.loaded load.loads says.meant says.means load.tells.rest says.says there more
+      of-says (inl prints) there more =
+          of-rules load.loaded load.loads prints.parsed prints.parses load.reports.rest prints.prints there more
 
 pub holds-audited : HoldsAreAudited
 holds-audited bay f program rules log text status file audit line hold at e =

@@ -26,16 +26,16 @@ use Rattle.bay_audit_rules.specs.Process.{Process}
 use Rattle.bay_audit_rules.specs.declared.rule.Rule.{Rule}
 use Rattle.bay_mms_services.specs.declared.answer.Command.{Command}
 use Rattle.il_image.specs.Images.{Image}
-use Rattle.bay_server_turn.specs.Calls.{ReadOutcome, Octets, Silence, Over, Broken}
-use Rattle.bay_server_turn.specs.Turns.{ServerData, Reading, Script, after_turn, first_of}
+use Rattle.bay_server_turn.specs.Calls.{ReadOutcome, Octets, Silence, StreamEnd, Failure}
+use Rattle.bay_server_turn.specs.Turns.{ServerData, Reading, Script, after_turn, loss_event}
 use Rattle.bay_server_turn.specs.declared.process_input.ProcessEvent.{ProcessEvent}
 use Rattle.bay_server_turn.specs.declared.process_input.ProcessEvent.TheVariants as process
 use Rattle.bay_server_turn.specs.declared.process_input.ProcessReport.{ProcessReport}
-use Rattle.bay_server_turn_laws.specs.Events.{ChosenEvent, done_at, surely, turn_events}
-use Rattle.bay_server_turn_laws.specs.Order.{AreClosings, Then, received_events, open_events, open_events_at, read_at, process_events}
+use Rattle.bay_server_turn_laws.specs.Events.{ChosenEvent, outcomes_at, with_memory, turn_events}
+use Rattle.bay_server_turn_laws.specs.Order.{AreClosings, FirstThen, received_events, open_events, open_events_at, events_of_read, process_events}
 use Rattle.bay_server_turn_laws.proofs.OrderLemmas.{in-order}
 use Rattle.bay_server_turn_laws.proofs.PartLemmas.{Part-turn}
-use Rattle.cmd_serve.specs.Orders.{IsOrdered}
+use Rattle.cmd_serve.specs.Requests.{IsRequested}
 use Rattle.cmd_serve.specs.Service.{AreTurns, DoneTurn, server_after, past_after, past_of}
 use Rattle.cmd_serve.proofs.FrontLemmas.{Begins, Behind, Reads, closings-all, reads-all, then-all, why_closed}
 use Rattle.cmd_audit_laws.specs.Served.{OrdersAvoid}
@@ -69,10 +69,10 @@ of-typed Scan h = tt
 
 told-typed : (o : Option ProcessEvent) → IfSome o EventFits → AreTyped (process_events o)
 told-typed None h = All-nil IsTyped
-told-typed (Some event) h = one _ h
+reported-typed (Some event) h = one _ h
 
-first-typed : (given : ProcessReport) → AreTyped (process_events (first_of given))
-first-typed given = told-typed (first_of given) (by-lost given.is_lost)
+first-typed : (given : ProcessReport) → AreTyped (process_events (loss_event given))
+first-typed given = told-typed (loss_event given) (by-lost given.is_lost)
   where
     by-lost : (b : Bool) → IfSome (cond b (Some process.Lost) None) EventFits
     by-lost true = tt
@@ -85,14 +85,14 @@ opened-typed (Some place) (Some None) = All-nil IsTyped
 opened-typed (Some place) None = All-nil IsTyped
 opened-typed None accepted = All-nil IsTyped
 
-read-typed : (place : ℕ) (r : Reading) (d : State) → AreTyped (read_at place r d)
+read-typed : (place : ℕ) (r : Reading) (d : State) → AreTyped (events_of_read place r d)
 read-typed place r d = by-open (is_some (connection_at (Some place) d))
   where
     by-heard : (heard : ReadOutcome) → AreTyped (received_events (place + 1) r.choice heard)
     by-heard (Octets octets) = one _ tt
     by-heard Silence = All-nil IsTyped
-    by-heard Over = one _ tt
-    by-heard Broken = one _ tt
+    by-heard StreamEnd = one _ tt
+    by-heard Failure = one _ tt
 
     by-open : (b : Bool) → AreTyped (cond b (received_events (place + 1) r.choice r.heard) [])
     by-open true = by-heard r.heard
@@ -102,22 +102,22 @@ pub events-typed : (now : ℕ) (given : ProcessReport) (script : Script) (h : Se
     → length script.readings ≡ 8 → length script.offers ≡ 8 → IfSome given.event EventFits
     → AreTyped (turn_events now given script h)
 events-typed now given script h readings offers fits =
-    let told = (after_turn now given script h).noted.closed in
+    let reported = (after_turn now given script h).noted.closed in
     let why : ℕ → Bool = why_closed now given script h in
     let Last : State → List ChosenEvent → Type 0 = λ e rest. AreClosings why rest in
-    then-all now told IsTyped (λ a. tt) (open_events script.accepted h.device)
+    then-all now reported IsTyped (λ a. tt) (open_events script.accepted h.device)
     (Begins now given script h)
     h.device
     (turn_events now given script h)
     (opened-typed (position is_none h.device.connections) script.accepted)
-    (λ c begun begins. then-all now told IsTyped (λ a. tt) (process_events (first_of given))
+    (λ c begun begins. then-all now reported IsTyped (λ a. tt) (process_events (loss_event given))
     (Reads now given script h) c begun (first-typed given)
-    (λ d es reads. reads-all now told IsTyped (λ a. tt) (Behind now told why given.event)
-    (λ e behind t. then-all now told IsTyped (λ a. tt) (process_events given.event)
-    (Then now told (surely Scan ∷ []) Last) e behind (told-typed given.event fits)
-    (λ f later u. then-all now told IsTyped (λ a. tt) (surely Scan ∷ []) Last f later
-    (one (surely Scan) tt)
-    (λ g last closings. closings-all now told IsTyped (λ a. tt) why last closings) u) t)
+    (λ d es reads. reads-all now reported IsTyped (λ a. tt) (Behind now reported why given.event)
+    (λ e behind t. then-all now reported IsTyped (λ a. tt) (process_events given.event)
+    (FirstThen now reported (with_memory Scan ∷ []) Last) e behind (told-typed given.event fits)
+    (λ f later u. then-all now reported IsTyped (λ a. tt) (with_memory Scan ∷ []) Last f later
+    (one (with_memory Scan) tt)
+    (λ g last closings. closings-all now reported IsTyped (λ a. tt) why last closings) u) t)
     read-typed 0 script.readings d es reads) begins)
     (in-order now given script h readings offers)
 
@@ -180,7 +180,7 @@ module _ (bay : Bay) (image : Image) (is_bay : IsBay bay) where
   )
 
   good-events : (now : ℕ) (es : List ChosenEvent) (s : State) → AreTyped es → Good s
-      → Good (done_at now es s).after
+      → Good (outcomes_at now es s).after
   good-events now [] s typed g = g
   good-events now (e ∷ es) s typed g =
       let o = outcome e.0 now e.1 s in
@@ -212,17 +212,17 @@ module _ (bay : Bay) (image : Image) (is_bay : IsBay bay) where
         let events = turn_events t.now t.given t.script h in
         let typed : AreTyped events =
         events-typed t.now t.given t.script h are.0.all_read are.0.all_offered given.0 in
-        let avoids : (command : Command) (o : IsOrdered first h t past command)
-        → IsOutside set k operation (done_at t.now o.heard.front h.device).after command =
+        let avoids : (command : Command) (o : IsRequested first h t past command)
+        → IsOutside set k operation (outcomes_at t.now o.heard.front h.device).after command =
         λ command o.
         outside bay image set k operation there refused t.now
-        (done_at t.now o.heard.front h.device).after command
+        (outcomes_at t.now o.heard.front h.device).after command
         (good-events t.now o.heard.front h.device
         (All-weaker (λ (e : ChosenEvent). OfAssociation e.1) IsTyped (λ e of. of-typed e.1 of)
         o.heard.front o.heard.first) g).0 o.allowed in (
           avoids,
           λ printed p switch here named on.
-              by-id (done_at t.now p.ordered.heard.front h.device).after p.command p.switch switch
+              by-id (outcomes_at t.now p.ordered.heard.front h.device).after p.command p.switch switch
               (avoids p.command p.ordered)
               (ap (λ ss. slice_get ss p.command.switch) (sym of_bay) ∙ p.here)
               (ap (λ ss. slice_get ss k) (sym of_bay) ∙ here) (sym p.named ∙ named)

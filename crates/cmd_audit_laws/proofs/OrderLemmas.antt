@@ -13,17 +13,17 @@ use Rattle.bay_device.specs.declared.event.Event.TheVariants.{Open, Recv, Close,
 use Rattle.bay_device.specs.declared.event.Step.{Step}
 use Rattle.bay_device.specs.declared.fault.StepFault.{StepFault}
 use Rattle.bay_device.proofs.SameLemmas.{Parts}
-use Rattle.bay_trace.specs.Resolving.{borrowed}
+use Rattle.bay_trace.specs.Resolving.{borrow_of}
 use Rattle.bay_server_turn.specs.Calls.{Octets, Silence}
 use Rattle.bay_server_turn.specs.Offers.{Offer}
 use Rattle.bay_server_turn.specs.AssociationStates.{is_draining}
-use Rattle.bay_server_turn.specs.Turns.{ServerData, TurnState, after_event, after_first, after_line, after_scan, after_closing_full, close_at_once, first_full, lowest_free_association, is_up, offer_of, offer_one, read_one, state_at, after_octets, turn_begin}
+use Rattle.bay_server_turn.specs.Turns.{ServerData, TurnState, after_event, after_loss, after_line, after_scan, after_closing_full, close_at_once, first_full, lowest_free_association, is_open_at, queue_offer, offer_one, read_one, state_at, after_octets, turn_begin}
 use Rattle.bay_server_turn.specs.declared.turn_report.CloseReason.TheVariants as closing
 use Rattle.bay_server_turn.specs.declared.turn_report.Turn.{Turn}
-use Rattle.bay_server_turn_laws.specs.Events.{ChosenEvent, accept_events_at, done_at, events_of_each, failed_events, heard_events, offer_events, read_events, scan_events, events_closing_full, events_closing_some_full, events_closing_next_full, surely, turn_events}
-use Rattle.bay_server_turn_laws.specs.Flows.{brought_by, received_of}
+use Rattle.bay_server_turn_laws.specs.Events.{ChosenEvent, accept_events_at, outcomes_at, events_of_each, failed_events, events_on_read, offer_events, read_events, scan_events, events_closing_full, events_closing_some_full, events_closing_next_full, with_memory, turn_events}
+use Rattle.bay_server_turn_laws.specs.Flows.{event_octets, received_of}
 use Rattle.bay_server_turn_laws.proofs.GivenLemmas.{turn-brings}
-use Rattle.cmd_serve.specs.Orders.{AreOrdered, IsHeard, IsOrdered}
+use Rattle.cmd_serve.specs.Requests.{AreRequested, ReceivesOctets, IsRequested}
 use Rattle.cmd_serve.specs.Service.{DoneTurn, IsTurn}
 use Rattle.cmd_serve.proofs.FrontLemmas.{AreWithout, IsFree, IsWithout, not-told, same-events}
 use Rattle.cmd_audit_laws.specs.Orders.{octets_arrived, server_without_clients, server_with_client, octets_refused, scan_past, no_octets, turn_with}
@@ -40,7 +40,7 @@ settled-free now (suc count) s = by-first (first_full s.noted) (settled-free now
         → AreWithout (events_closing_next_full now o s (events_closing_some_full now count))
     by-first None more = All-nil IsFree
     by-first (Some place) more =
-        All-cons IsFree (surely (Close (place + 1))) _ tt
+        All-cons IsFree (with_memory (Close (place + 1))) _ tt
         (more (close_at_once now closing.QueueFull place s))
 
 all-settled-free : (now : ℕ) (s : TurnState) → AreWithout (events_closing_full now s)
@@ -53,10 +53,10 @@ silent-free : (now place count : ℕ) (s : TurnState)
     s)
 silent-free now place zero s = All-nil IsFree
 silent-free now place (suc count) s =
-    All-append IsFree (read_events now place no_octets s) _ (by-open (is_up place s))
+    All-append IsFree (read_events now place no_octets s) _ (by-open (is_open_at place s))
     (silent-free now (place + 1) count (read_one now place no_octets s))
   where
-    by-open : (b : Bool) → AreWithout (cond b (heard_events now place None Silence s) [])
+    by-open : (b : Bool) → AreWithout (cond b (events_on_read now place None Silence s) [])
     by-open true = All-nil IsFree
     by-open false = All-nil IsFree
 
@@ -69,19 +69,19 @@ offers-free now place (o ∷ os) s =
   where
     by-failed : (b : Bool) → AreWithout (failed_events now place b s)
     by-failed true =
-        All-cons IsFree (surely (Close (place + 1))) _ tt
+        All-cons IsFree (with_memory (Close (place + 1))) _ tt
         (all-settled-free now (close_at_once now closing.LinkFailed place s))
     by-failed false = All-nil IsFree
 
     by-open : (b : Bool)
-        → AreWithout (cond b (failed_events now place (offer_of place o s).failed s) [])
-    by-open true = by-failed (offer_of place o s).failed
+        → AreWithout (cond b (failed_events now place (queue_offer place o s).failed s) [])
+    by-open true = by-failed (queue_offer place o s).failed
     by-open false = All-nil IsFree
 
     by-leaving : (b : Bool) → AreWithout (cond b []
-        (cond (is_up place s) (failed_events now place (offer_of place o s).failed s) []))
+        (cond (is_open_at place s) (failed_events now place (queue_offer place o s).failed s) []))
     by-leaving true = All-nil IsFree
-    by-leaving false = by-open (is_up place s)
+    by-leaving false = by-open (is_open_at place s)
 
 -- what the associations bring, a scan, and what is offered
 abbrev all_parts : ServerData → DoneTurn → List ChosenEvent → List ChosenEvent
@@ -97,7 +97,7 @@ parts-free h t reads free =
     let u : TurnState = after_scan t.now t.given t.script h in
     All-append IsFree (reads ++ [] ++ scan_events t.now s) _
     (All-append IsFree (reads ++ []) _ (All-append IsFree reads [] free (All-nil IsFree))
-    (All-cons IsFree (surely Scan) _ tt (all-settled-free t.now (after_event t.now Scan s))))
+    (All-cons IsFree (with_memory Scan) _ tt (all-settled-free t.now (after_event t.now Scan s))))
     (offers-free t.now 0 t.script.offers u)
 
 -- none of these events brings octets
@@ -109,20 +109,20 @@ free-in es front e back free is =
     (subst (λ es. Contains es e) (sym is) (Contains-append_right front (e ∷ back) e there))
 
 -- the event by which octets are heard
-abbrev heard-event : (h : ServerData) (t : DoneTurn) → IsHeard h t → ChosenEvent
+abbrev heard-event : (h : ServerData) (t : DoneTurn) → ReceivesOctets h t → ChosenEvent
 heard-event h t i = (i.choice, Recv i.association i.octets)
 
 heard-nowhere : (h : ServerData) (t : DoneTurn) → AreWithout (turn_events t.now t.given t.script h)
-    → IsHeard h t → ⊥
+    → ReceivesOctets h t → ⊥
 heard-nowhere h t free i =
     free-in (turn_events t.now t.given t.script h) i.front (heard-event h t i) i.back free i.is
 
-pub closed-hears-none : (s : State) (octets : List ℕ) (told : Turn)
-    → IsHeard (server_without_clients s) (turn_with (octets_arrived octets) told) → ⊥
-closed-hears-none s octets told heard =
+pub closed-hears-none : (s : State) (octets : List ℕ) (reported : Turn)
+    → ReceivesOctets (server_without_clients s) (turn_with (octets_arrived octets) reported) → ⊥
+closed-hears-none s octets reported heard =
     let h : ServerData = server_without_clients s in
-    let t : DoneTurn = turn_with (octets_arrived octets) told in
-    let u : TurnState = after_first t.now t.given t.script h in
+    let t : DoneTurn = turn_with (octets_arrived octets) reported in
+    let u : TurnState = after_loss t.now t.given t.script h in
     heard-nowhere h t
     (parts-free h t (events_of_each (read_one 0) (read_events 0) 1 (replicate 7 no_octets) u)
     (silent-free 0 1 7 u)) heard
@@ -132,13 +132,13 @@ accept-none : (now : ℕ) (place : Option ℕ) (s : TurnState)
 accept-none now None s = All-nil IsFree
 accept-none now (Some place) s = All-nil IsFree
 
-pub silent-orders-none : (first : State) (h : ServerData) (told : Turn) (past : List PastEvent)
-    (command : Command) → IsOrdered first h (turn_with no_octets told) past command → ⊥
-silent-orders-none first h told past command o =
-    let t : DoneTurn = turn_with no_octets told in
+pub silent-orders-none : (first : State) (h : ServerData) (reported : Turn) (past : List PastEvent)
+    (command : Command) → IsRequested first h (turn_with no_octets reported) past command → ⊥
+silent-orders-none first h reported past command o =
+    let t : DoneTurn = turn_with no_octets reported in
     let accepts : List ChosenEvent =
     accept_events_at 0 (lowest_free_association h) None (turn_begin h) in
-    let u : TurnState = after_first t.now t.given t.script h in
+    let u : TurnState = after_loss t.now t.given t.script h in
     let reads : List ChosenEvent =
     events_of_each (read_one 0) (read_events 0) 0 (replicate 8 no_octets) u in
     heard-nowhere h t (parts-free h t (accepts ++ [] ++ reads)
@@ -149,7 +149,7 @@ silent-orders-none first h told past command o =
 
 -- ---- a turn in which octets come
 
-brings-none : (a : ℕ) (event : Event) → IsWithout event → brought_by a event ≡ []
+brings-none : (a : ℕ) (event : Event) → IsWithout event → event_octets a event ≡ []
 brings-none a (Open b) free = refl
 brings-none a (Recv b octets) free = absurd free
 brings-none a (Close b) free = refl
@@ -176,10 +176,10 @@ recv-same is = (cc, cc)
 some-same : {X : Type 0} {x y : X} → Some x ≡ Some y → y ≡ x
 some-same is = cc
 
-module _ (s : State) (choice : Option ℕ) (octets : List ℕ) (told : Turn) where
+module _ (s : State) (choice : Option ℕ) (octets : List ℕ) (reported : Turn) where
   -- a turn in which octets come of an open association
   abbrev turn : DoneTurn
-  turn = turn_with (record { heard = Octets octets; choice = choice }) told
+  turn = turn_with (record { heard = Octets octets; choice = choice }) reported
 
   abbrev events : List ChosenEvent
   events = turn_events turn.now turn.given turn.script (server_with_client s)
@@ -188,7 +188,7 @@ module _ (s : State) (choice : Option ℕ) (octets : List ℕ) (told : Turn) whe
   behind-free =
       let t : TurnState =
       after_octets 0 0 choice octets
-      (after_first turn.now turn.given turn.script (server_with_client s)) in
+      (after_loss turn.now turn.given turn.script (server_with_client s)) in
       let u : TurnState = after_closing_full 0 t in
       let later : List ChosenEvent =
       events_of_each (read_one 0) (read_events 0) 1 (replicate 7 no_octets) u in
@@ -197,10 +197,10 @@ module _ (s : State) (choice : Option ℕ) (octets : List ℕ) (told : Turn) whe
       (silent-free 0 1 7 u))
 
   abbrev came : ChosenEvent
-  came = (choice, Recv 1 (borrowed octets))
+  came = (choice, Recv 1 (borrow_of octets))
 
   -- they come first, and none do later
-  only-heard : (i : IsHeard (server_with_client s) turn)
+  only-heard : (i : ReceivesOctets (server_with_client s) turn)
       → (i.front ≡ []) × (heard-event (server_with_client s) turn i ≡ came)
   only-heard i = by-front i.front i.is
     where
@@ -216,23 +216,23 @@ module _ (s : State) (choice : Option ℕ) (octets : List ℕ) (told : Turn) whe
           ap (λ (es : List ChosenEvent). drop 1 es) is in
           absurd (free-in (drop 1 events) front it i.back behind-free rest)
 
-pub is-heard : (s : State) (octet : ℕ) (octets : List ℕ) (told : Turn)
-    → IsHeard (server_with_client s) (turn_with (octets_arrived (octet ∷ octets)) told)
-is-heard s octet octets told =
+pub is-heard : (s : State) (octet : ℕ) (octets : List ℕ) (reported : Turn)
+    → ReceivesOctets (server_with_client s) (turn_with (octets_arrived (octet ∷ octets)) reported)
+is-heard s octet octets reported =
     let h : ServerData = server_with_client s in
-    let t : DoneTurn = turn_with (octets_arrived (octet ∷ octets)) told in
+    let t : DoneTurn = turn_with (octets_arrived (octet ∷ octets)) reported in
     let back : List ChosenEvent = drop 1 (turn_events t.now t.given t.script h) in
     record {
       front = [];
       choice = None;
       association = 1;
-      octets = borrowed (octet ∷ octets);
+      octets = borrow_of (octet ∷ octets);
       back = back;
       is = refl;
       first = λ k d lt. absurd (omega arith);
       given = turn-brings 1 t.now t.given t.script h
           ∙ ap (λ l. (octet ∷ octets) ++ l)
-          (bring-none 1 back (behind-free s None (octet ∷ octets) told))
+          (bring-none 1 back (behind-free s None (octet ∷ octets) reported))
           ∙ append-nil (octet ∷ octets);
       step = _;
       answered = refl;
@@ -241,33 +241,33 @@ is-heard s octet octets told =
 -- ---- turns that order no command
 
 pub unscanned-orders-none : (first : State) (h : ServerData) (t : DoneTurn) (command : Command)
-    → IsOrdered first h t [] command → ⊥
+    → IsRequested first h t [] command → ⊥
 unscanned-orders-none first h t command o =
     none-releases _ t.now first.scan_max_age_ms command o.released
 
 pub old-orders-none : (first s : State) (h : ServerData) (t : DoneTurn) (step : Step)
     (command : Command)
-    → IsOrdered first h (record t { now = first.scan_max_age_ms + 1 }) (scan_past s step ∷ [])
+    → IsRequested first h (record t { now = first.scan_max_age_ms + 1 }) (scan_past s step ∷ [])
     command
     → ⊥
 old-orders-none first s h t step command o =
     old-releases-none s _ step first.scan_max_age_ms command o.released
 
 pub lost-orders-none : (first : State) (h : ServerData) (t : DoneTurn) (past : List PastEvent)
-    (command : Command) → h.device.is_lost ≡ true → IsOrdered first h t past command → ⊥
+    (command : Command) → h.device.is_lost ≡ true → IsRequested first h t past command → ⊥
 lost-orders-none first h t past command lost o =
-    let heard : (done_at t.now o.heard.front h.device).after.is_lost ≡ false = o.allowed.heard in
-    let same : (done_at t.now o.heard.front h.device).after.is_lost ≡ h.device.is_lost =
+    let heard : (outcomes_at t.now o.heard.front h.device).after.is_lost ≡ false = o.allowed.heard in
+    let same : (outcomes_at t.now o.heard.front h.device).after.is_lost ≡ h.device.is_lost =
     ap (λ (p : Parts). p.lost) (same-events t.now o.heard.front h.device o.heard.first) in
     let no : true ≡ false = sym lost ∙ sym same ∙ heard in absurd cc
 
 pub told-lost-orders-none : (first : State) (h : ServerData) (t : DoneTurn) (past : List PastEvent)
     (command : Command) → IsTurn h t → t.given.is_lost ≡ true
-    → IsOrdered first h t past command → ⊥
-told-lost-orders-none first h t past command is told o =
-    let i : IsHeard h t = o.heard in
+    → IsRequested first h t past command → ⊥
+told-lost-orders-none first h t past command is reported o =
+    let i : ReceivesOctets h t = o.heard in
     let no : true ≡ false =
-    sym told ∙ not-told t.now t.given t.script h i.front i.choice i.association i.octets i.back
+    sym reported ∙ not-told t.now t.given t.script h i.front i.choice i.association i.octets i.back
     is.all_read is.all_offered i.is i.first in
     absurd cc
 
@@ -281,19 +281,19 @@ nothing-there xs x none has =
 low-none : (k n : ℕ) → k < n → n ≡ 0 → ⊥
 low-none k n low none = omega (arith, low, none)
 
-pub part-orders-none : (first s : State) (told : Turn) (past : List PastEvent) (command : Command)
-    → IsOrdered first (server_with_client s) (turn_with (octets_arrived (3 ∷ [])) told) past command
+pub part-orders-none : (first s : State) (reported : Turn) (past : List PastEvent) (command : Command)
+    → IsRequested first (server_with_client s) (turn_with (octets_arrived (3 ∷ [])) reported) past command
     → ⊥
-part-orders-none first s told past command o =
+part-orders-none first s reported past command o =
     let d : State = (server_with_client s).device in
     let i = o.heard in
-    let only = only-heard s None (3 ∷ []) told i in
+    let only = only-heard s None (3 ∷ []) reported i in
     let own = recv-same (ap (λ (e : ChosenEvent). e.1) only.1) in
     let here : connection_state_at (slot_of 1) (server_with_client s).device.connections
     ≡ Some o.talk =
-    subst (λ es. connection_state_at (slot_of 1) (done_at 0 es d).after.connections ≡ Some o.talk)
+    subst (λ es. connection_state_at (slot_of 1) (outcomes_at 0 es d).after.connections ≡ Some o.talk)
     only.0
-    (subst (λ a. connection_state_at (slot_of a) (done_at 0 i.front d).after.connections
+    (subst (λ a. connection_state_at (slot_of a) (outcomes_at 0 i.front d).after.connections
     ≡ Some o.talk) own.0
     o.is_open) in
     let talk : o.talk ≡ initial_connection 1 = some-same here in
@@ -303,16 +303,16 @@ ok-same : (x y : Step) → (let r : Result Step StepFault = Ok x in r) ≡ Ok y 
 ok-same x y is = cc
 
 pub refused-orders-none : (first s : State) (octet : ℕ) (octets : List ℕ)
-    (told : Turn) (past : List PastEvent) (command : Command)
-    → IsOrdered first (server_with_client s) (turn_with (octets_refused (octet ∷ octets)) told) past
+    (reported : Turn) (past : List PastEvent) (command : Command)
+    → IsRequested first (server_with_client s) (turn_with (octets_refused (octet ∷ octets)) reported) past
     command
     → ⊥
-refused-orders-none first s octet octets told past command o =
+refused-orders-none first s octet octets reported past command o =
     let d : State = (server_with_client s).device in
     let i = o.heard in
-    let only = only-heard s (Some 0) (octet ∷ octets) told i in
+    let only = only-heard s (Some 0) (octet ∷ octets) reported i in
     let here : (outcome i.choice 0 (Recv i.association i.octets) d).answer ≡ Ok i.step =
-    subst (λ es. (outcome i.choice 0 (Recv i.association i.octets) (done_at 0 es d).after).answer
+    subst (λ es. (outcome i.choice 0 (Recv i.association i.octets) (outcomes_at 0 es d).after).answer
     ≡ Ok i.step) only.0 i.answered in
     let none : [] ≡ i.step.sent =
     ap (λ (step : Step). step.sent) (ok-same _ i.step
@@ -322,15 +322,15 @@ refused-orders-none first s octet octets told past command o =
 -- ---- lists of turns
 
 pub quiet-are-ordered : (first : State) (h : ServerData) (t u : DoneTurn) (past : List PastEvent)
-    → t.told.commands ≡ [] → u.told.commands ≡ [] → AreOrdered first h past (t ∷ u ∷ [])
+    → t.reported.commands ≡ [] → u.reported.commands ≡ [] → AreRequested first h past (t ∷ u ∷ [])
 quiet-are-ordered first h t u past none more = (
-  λ command has. absurd (nothing-there t.told.commands command none has),
-  (λ command has. absurd (nothing-there u.told.commands command more has), tt),
+  λ command has. absurd (nothing-there t.reported.commands command none has),
+  (λ command has. absurd (nothing-there u.reported.commands command more has), tt),
 )
 
 -- of turns of which the last tells a command and has no octets
-pub unordered : (first : State) (h : ServerData) (t : DoneTurn) (told : Turn) (past : List PastEvent)
-    (command : Command) → Contains told.commands command
-    → AreOrdered first h past (t ∷ turn_with no_octets told ∷ []) → ⊥
-unordered first h t told past command has all =
-    silent-orders-none first _ told _ command (all.1.0 command has)
+pub unordered : (first : State) (h : ServerData) (t : DoneTurn) (reported : Turn) (past : List PastEvent)
+    (command : Command) → Contains reported.commands command
+    → AreRequested first h past (t ∷ turn_with no_octets reported ∷ []) → ⊥
+unordered first h t reported past command has all =
+    silent-orders-none first _ reported _ command (all.1.0 command has)

@@ -14,7 +14,7 @@ use Rattle.bay_mms_services.specs.declared.answer.Command.{Command}
 use Rattle.bay_device.specs.Device.{State}
 use Rattle.bay_device.specs.Fresh.{IsSameProcess, PastEvent}
 use Rattle.bay_device.specs.declared.event.Step.{Step}
-use Rattle.cmd_serve.specs.Orders.{IsReleasedBy}
+use Rattle.cmd_serve.specs.Requests.{IsReleasedBy}
 use Rattle.cmd_audit_laws.specs.Orders.{contact_past, with_enable_value, lost_past, open_command, scan_past}
 
 -- ---- where a part of a list of one or two stands

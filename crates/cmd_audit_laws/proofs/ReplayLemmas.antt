@@ -16,10 +16,10 @@ use Rattle.bay_device.specs.declared.event.Event.{Event}
 use Rattle.bay_device.specs.declared.event.Step.{Step}
 use Rattle.bay_device.specs.declared.fault.StepFault.{StepFault}
 use Rattle.cmd_replay.specs.History.{EachPast, device_after}
-use Rattle.cmd_replay.specs.Runs.{AreOfLines, IsRun}
+use Rattle.cmd_replay.specs.Runs.{AreLineEvents, IsRun}
 use Rattle.cmd_replay.specs.Scenario.{ScenarioParts}
 use Rattle.bay_report.specs.Report.{report_text}
-use Rattle.bay_load.specs.Loads.{IsImageOf, file_of}
+use Rattle.bay_load.specs.Loads.{IsImageOf, parsed_bay}
 use Rattle.bay_load.specs.declared.load.Form.TheVariants.{Logic}
 use Rattle.bay_diagram.specs.declared.network.Network.{Network}
 use Rattle.il_image.specs.Images.{Image}
@@ -45,7 +45,7 @@ use Rattle.cmd_audit_laws.proofs.TypeLemmas.{LineFits, line-fits, placed-fits}
 use Rattle.cmd_audit_laws.proofs.WaitLemmas.{Ready, past-waits, ready-first}
 
 lines-typed : (first : State) (past : List PastEvent) (lines : List (List ℕ))
-    → AreOfLines first past lines
+    → AreLineEvents first past lines
     → EachPast (λ now event old answer new. IsOfType event) first past
 lines-typed first [] lines are = tt
 lines-typed first (p ∷ past) lines are =
@@ -133,7 +133,7 @@ module _ (parts : ScenarioParts) (first : State) (text : List ℕ) (status : ℕ
   typed-past = lines-typed first run.past run.printed.lines run.printed.events
 
   -- a program that octets come to, and the device at its begin
-  module _ (own : Bay) (image : Image) (read : file_of parts.bay ≡ Ok own)
+  module _ (own : Bay) (image : Image) (read : parsed_bay parts.bay ≡ Ok own)
       (made : IsImageOf Logic parts.logic own image) where
     begun : Begins own image first
     begun = text-begins parts.bay parts.logic first run.loaded run.runs own image read made

@@ -119,33 +119,33 @@ module _ (bay : Bay) where
 
   -- ---- rules
 
-  template-there : (line : ℕ) (said : RuleLine) → IsThere count said.named.switch
-      → IfSome (template_of line said) (λ rule. rule.switch < count)
-  template-there line said h = by-switch said.named.switch h
+  template-there : (line : ℕ) (written : RuleLine) → IsThere count written.named.switch
+      → IfSome (template_of line written) (λ rule. rule.switch < count)
+  template-there line written h = by-switch written.named.switch h
     where
       by-timing : (k : ℕ) → k < count → (o : Option (Option Timing))
           → IfSome (o >>= λ timed. option_map (λ when. record {
             line = line;
-            kind = said.kind;
+            kind = written.kind;
             switch = k;
             operation = operations.Open;
             when = when;
             timed = timed;
-          }) said.when) (λ (rule : Rule). rule.switch < count)
+          }) written.when) (λ (rule : Rule). rule.switch < count)
       by-timing k less None = tt
-      by-timing k less (Some timed) = map-some _ _ said.when (λ when. less)
+      by-timing k less (Some timed) = map-some _ _ written.when (λ when. less)
 
       by-switch : (o : Option ℕ) → IsThere count o
-          → IfSome (o >>= λ switch. timing_of said.timed >>= λ timed. option_map (λ when. record {
+          → IfSome (o >>= λ switch. timing_of written.timed >>= λ timed. option_map (λ when. record {
             line = line;
-            kind = said.kind;
+            kind = written.kind;
             switch = switch;
             operation = operations.Open;
             when = when;
             timed = timed;
-          }) said.when) (λ (rule : Rule). rule.switch < count)
+          }) written.when) (λ (rule : Rule). rule.switch < count)
       by-switch None none = tt
-      by-switch (Some k) less = by-timing k less (timing_of said.timed)
+      by-switch (Some k) less = by-timing k less (timing_of written.timed)
 
   ways-there : (rule : Rule) → rule.switch < count → (ways : List Operation)
       → AreThere count (map (rule_of rule) ways)
@@ -159,9 +159,9 @@ module _ (bay : Bay) where
   said-there line ts s (Spells.look {c = c} fact) h = map-some (AreThere count) _ c (λ is. tt)
   said-there line ts s (Spells.rule {kind = kind} {named = named} ways {timed = timed} {c = c} a b)
       h =
-      let said : RuleLine =
+      let written : RuleLine =
       record { kind = kind; named = named; ways = ways; timed = timed; when = c } in
-      by-template (template_of line said) (template-there line said h.1.0)
+      by-template (template_of line written) (template-there line written h.1.0)
     where
       by-template : (o : Option Rule) → IfSome o (λ rule. rule.switch < count)
           → IfSome (option_map (λ rule. map (rule_of rule) (operations_of ways)) o) (AreThere count)
@@ -176,11 +176,11 @@ module _ (bay : Bay) where
   tokens-there : (line : ℕ) (ts : List RuleToken) (r : Result (List Rule) RuleFault)
       → TokensRead line ts r → TokensFit count ts → IfOk r (AreThere count)
   tokens-there line ts r (TokensRead.bad_line no-rule) h = tt
-  tokens-there line ts r (TokensRead.unknown_name says e) h = tt
-  tokens-there line ts r (TokensRead.bad_value says e f) h = tt
-  tokens-there line ts r (TokensRead.too_deep says e f g) h = tt
-  tokens-there line ts r (TokensRead.rules {s = s} {rules = rules} says e f g) h =
-      some-there (rules_of line s) rules f (said-there line ts s says h)
+  tokens-there line ts r (TokensRead.unknown_name prints e) h = tt
+  tokens-there line ts r (TokensRead.bad_value prints e f) h = tt
+  tokens-there line ts r (TokensRead.too_deep prints e f g) h = tt
+  tokens-there line ts r (TokensRead.rules {s = s} {rules = rules} prints e f g) h =
+      some-there (rules_of line s) rules f (said-there line ts s prints h)
 
   line-there : (line : ℕ) (text : List ℕ) (r : Result (List Rule) RuleFault)
       → LineRead bay line text r → IfOk r (AreThere count)

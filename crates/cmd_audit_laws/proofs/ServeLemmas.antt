@@ -15,9 +15,9 @@ use Rattle.bay_server_turn.specs.Calls.{Call}
 use Rattle.bay_server_turn.specs.Turns.{ServerData}
 use Rattle.bay_server.specs.Host.{HostCall}
 use Rattle.bay_server.specs.Clock.{jump_of}
-use Rattle.bay_server.specs.ServeReport.{AfterTurn, ProcessData, Serving, ServesTurns, moment_of}
+use Rattle.bay_server.specs.ServeReport.{AfterTurn, ProcessData, ServiceState, ServesTurns, moment_of}
 use Rattle.bay_server.specs.declared.host.BindFault.{BindFault}
-use Rattle.cmd_serve.specs.Live.{InLater}
+use Rattle.cmd_serve.specs.Live.{HoldsLater}
 use Rattle.cmd_audit.specs.Judging.{IsVerdictOn}
 use Rattle.cmd_audit.specs.JudgingDiagram.{IsDiagramVerdictOn}
 use Rattle.cmd_audit.specs.declared.judging.RulesVerdict.{RulesVerdict}
@@ -25,13 +25,13 @@ use Rattle.cmd_audit.specs.declared.judging.RulesVerdict.TheVariants as judged
 use Rattle.cmd_audit.specs.declared.judging_diagram.DiagramVerdict.{DiagramVerdict}
 use Rattle.cmd_audit.specs.declared.judging_diagram.DiagramVerdict.TheVariants as drawn
 use Rattle.cmd_serve.specs.Permits.{AfterPermit, WritesOnDiagram, WritesOnRules, permit_of, releases_held, rules_held}
-use Rattle.cmd_serve.specs.Serve.{BindsPorts, BindsProcess, EndsUnserved, FileNames, IsBound, LoadsFiles, ServesBound, ServesLoaded, ServesPorts, ServesRules, data_of, made_of, served_of, state_of}
+use Rattle.cmd_serve.specs.Serve.{BindsPorts, BindsProcess, EndsUnserved, FileNames, IsBound, LoadsFiles, ServesBound, ServesLoaded, ServesPorts, ServesRules, data_of, new_server, served_of, state_of}
 use Rattle.cmd_serve.specs.Service.{AreTurns, DoneTurn, later_turns, past_of, turns_in}
 use Rattle.cmd_serve.proofs.HistoryLemmas.{stands-first}
 use Rattle.cmd_serve.proofs.TurnLemmas.{stands-turns}
-use Rattle.cmd_serve.specs.declared.serve.Bound.{Bound}
+use Rattle.cmd_serve.specs.declared.serve.BoundServer.{BoundServer}
 use Rattle.cmd_serve.specs.declared.serve.LoadedFiles.{LoadedFiles}
-use Rattle.cmd_serve.specs.declared.serve.Numbers.{Numbers}
+use Rattle.cmd_serve.specs.declared.serve.ServeOptions.{ServeOptions}
 use Rattle.cmd_serve.specs.declared.serve.ServeStartFault.{ServeStartFault}
 use Rattle.cmd_serve.specs.declared.serve.ServeStartFault.TheVariants as unserved
 use Rattle.cmd_serve.specs.declared.permit.Permit.{Permit}
@@ -45,7 +45,7 @@ use Rattle.bay_audit_laws.proofs.LawLemmas.{IsRefusedWhere, rule-refuses}
 use Rattle.bay_audit_rules.specs.Process.{Process, holds}
 use Rattle.bay_base.specs.declared.switch.Operation.{Operation}
 use Rattle.bay_config.specs.declared.bay.Bay.{Bay}
-use Rattle.bay_load.specs.Loads.{IsImageOf, LoadData, file_of}
+use Rattle.bay_load.specs.Loads.{IsImageOf, LoadData, parsed_bay}
 use Rattle.il_image.specs.Images.{Image}
 use Rattle.bay_audit_rules.specs.declared.rule.Rule.{Rule}
 use Rattle.bay_audit_rules.specs.declared.rule.RuleKind.TheVariants.{Never}
@@ -58,15 +58,15 @@ use Rattle.cmd_audit_laws.proofs.ObeyLemmas.{AreGiven, Good, good-first, past-sc
 use Rattle.cmd_audit_laws.proofs.TypeLemmas.{choice-fits}
 use Rattle.cmd_audit_laws.proofs.WaitLemmas.{Ready, ready-first, turns-wait}
 
-later-given : (Ends Goes : Type 0) (told : Result ℕ WriteFault) (rest : AfterTurn told Ends Goes)
+later-given : (Ends Goes : Type 0) (reported : Result ℕ WriteFault) (rest : AfterTurn reported Ends Goes)
     (more : Goes → List DoneTurn) → ((goes : Goes) → AreGiven (more goes))
-    → AreGiven (later_turns Ends Goes told rest more)
+    → AreGiven (later_turns Ends Goes reported rest more)
 later-given Ends Goes (Err fault) rest more each = tt
 later-given Ends Goes (Ok status) goes more each = each goes
 
 module _ {L H W : Type 0} (step : L → Call → L → Type 0) (acts : H → HostCall L → H → Type 0)
     (contents : W → Option (List ℕ)) (asks : W → WriteCall → W → Type 0) where
-  pub turns-given : (turns : ℕ) (before : Serving L H) (old : WriterState W)
+  pub turns-given : (turns : ℕ) (before : ServiceState L H) (old : WriterState W)
       (host : H) (new : WriterState W) (answer : Result ℕ WriteFault)
       (serves : ServesTurns step acts contents asks turns before old host new answer)
       → AreGiven (turns_in step acts contents asks turns before old host new answer serves)
@@ -83,55 +83,55 @@ module _ {L H W : Type 0} (step : L → Call → L → Type 0) (acts : H → Hos
 
 module _ {L H : Type 0} (acts : H → HostCall L → H → Type 0) where
   is-made : (records : Bool) (s : State) (link : L) (process : Option (ProcessData L))
-      (ports : Bound L) → IsBound records s link process (Ok ports) → ports.server ≡ made_of s
+      (ports : BoundServer L) → IsBound records s link process (Ok ports) → ports.server ≡ new_server s
   is-made records s link process ports (inl is) =
-      let same : ports ≡ record { server = made_of s; link = link; process = process } = cc in
-      ap (λ (b : Bound L). b.server) same
+      let same : ports ≡ record { server = new_server s; link = link; process = process } = cc in
+      ap (λ (b : BoundServer L). b.server) same
   is-made records s link process ports (inr is) =
-      let no : (let r : Result (Bound L) ServeStartFault = Ok ports in r) ≡ Err is.0 = is.1 in
+      let no : (let r : Result (BoundServer L) ServeStartFault = Ok ports in r) ≡ Err is.0 = is.1 in
       absurd cc
 
-  process-made : (records tells : Bool) (duties : Option SupervisionSettings) (s : State) (link : L)
+  process-made : (records sends : Bool) (settings : Option SupervisionSettings) (s : State) (link : L)
       (port : Option ℕ)
-      (before after : H) (ports : Bound L)
-      → BindsProcess acts records tells duties s link port before after (Ok ports)
-      → ports.server ≡ made_of s
-  process-made records tells duties s link None before after ports binds =
+      (before after : H) (ports : BoundServer L)
+      → BindsProcess acts records sends settings s link port before after (Ok ports)
+      → ports.server ≡ new_server s
+  process-made records sends settings s link None before after ports binds =
       is-made records s link None ports binds.1
-  process-made records tells duties s link (Some port) before after ports binds =
+  process-made records sends settings s link (Some port) before after ports binds =
       by-had binds.0 binds.2
     where
       by-had : (had : Result L BindFault)
           → MatchResult had
           (λ other. IsBound records s link
-          (Some (record { link = other; port = initial_port tells duties }))
-          (Ok ports)) (λ fault. (let r : Result (Bound L) ServeStartFault = Ok ports in r)
+          (Some (record { link = other; port = initial_port sends settings }))
+          (Ok ports)) (λ fault. (let r : Result (BoundServer L) ServeStartFault = Ok ports in r)
           ≡ Err (unserved.Unbound port fault))
-          → ports.server ≡ made_of s
+          → ports.server ≡ new_server s
       by-had (Ok other) is =
-          is-made records s link (Some (record { link = other; port = initial_port tells duties }))
+          is-made records s link (Some (record { link = other; port = initial_port sends settings }))
           ports
           is
       by-had (Err fault) is = absurd cc
 
-  pub ports-made : (numbers : Numbers) (duties : Option SupervisionSettings) (s : State)
+  pub ports-made : (options : ServeOptions) (settings : Option SupervisionSettings) (s : State)
       (before after : H)
-      (ports : Bound L) → BindsPorts acts numbers duties s before after (Ok ports)
-      → ports.server ≡ made_of s
-  ports-made numbers duties s before after ports (inr memory) = absurd (let e = memory.1 in cc)
-  ports-made numbers duties s before after ports (inl binds) = by-had binds.0 binds.3
+      (ports : BoundServer L) → BindsPorts acts options settings s before after (Ok ports)
+      → ports.server ≡ new_server s
+  ports-made options settings s before after ports (inr memory) = absurd (let e = memory.1 in cc)
+  ports-made options settings s before after ports (inl binds) = by-had binds.0 binds.3
     where
       by-had : (had : Result L BindFault)
           → MatchResult had
-          (λ link. BindsProcess acts (is_some numbers.record_most) numbers.tells_releases duties s
+          (λ link. BindsProcess acts (is_some options.record_most) options.sends_releases settings s
           link
-          numbers.process binds.1 after (Ok ports))
-          (λ fault. (after ≡ binds.1) × ((let r : Result (Bound L) ServeStartFault = Ok ports in r)
-          ≡ Err (unserved.Unbound numbers.port fault)))
-          → ports.server ≡ made_of s
+          options.process binds.1 after (Ok ports))
+          (λ fault. (after ≡ binds.1) × ((let r : Result (BoundServer L) ServeStartFault = Ok ports in r)
+          ≡ Err (unserved.Unbound options.port fault)))
+          → ports.server ≡ new_server s
       by-had (Ok link) is =
-          process-made (is_some numbers.record_most) numbers.tells_releases duties s link
-          numbers.process binds.1
+          process-made (is_some options.record_most) options.sends_releases settings s link
+          options.process binds.1
           after ports is
       by-had (Err fault) is = absurd (let e = is.1 in cc)
 
@@ -140,22 +140,22 @@ module _ {L H : Type 0} (acts : H → HostCall L → H → Type 0) where
 -- a server of a device that these octets load to, in its turns
 module _ (f : Form) (both : FilesData) (device : State)
     (loads : LoadsDevice both.bay f both.program device) (ts : List DoneTurn)
-    (are : AreTurns (made_of device) ts) (given : AreGiven ts) (file : IsFile f both.program) where
+    (are : AreTurns (new_server device) ts) (given : AreGiven ts) (file : IsFile f both.program) where
   -- avoids a set in which a release of the program is refused
-  pub orders-avoid : (own : Bay) (image : Image) → file_of both.bay ≡ Ok own
+  pub orders-avoid : (own : Bay) (image : Image) → parsed_bay both.bay ≡ Ok own
       → IsImageOf f both.program own image → (set : Process → Bool) (k : ℕ) (operation : Operation)
       → k < length own.switches → IsRefusedWhere (program_of own image) set k operation
-      → OrdersAvoid set k operation device (made_of device) [] ts
+      → OrdersAvoid set k operation device (new_server device) [] ts
   orders-avoid own image read made set k operation there refused =
       let b = begins both.bay f both.program device loads file own image read made in
       turns-avoid own image b.sound set k operation there refused device
-      (ap (λ (s : State). s.switches) b.is) ts (made_of device) [] are given
+      (ap (λ (s : State). s.switches) b.is) ts (new_server device) [] are given
       (subst (Good own image b.sound) (sym b.is) (good-first own image b.sound b.steady))
 
   -- and obeys rules that are answered to hold
   module _ (rule : Rule) where
     pub orders-obey : rule.kind ≡ Never → OfOctets Plainly both.bay f both.program rule
-        → OrdersObey rule device (made_of device) [] ts
+        → OrdersObey rule device (new_server device) [] ts
     orders-obey never own =
         orders-avoid own.own own.image own.read own.made (holds rule.when) rule.switch
         rule.operation own.there
@@ -164,37 +164,37 @@ module _ (f : Form) (both : FilesData) (device : State)
 
     pub orders-wait : (timing : Timing) → rule.kind ≡ Never → rule.timed ≡ Some timing
         → OfOctets ByTimer both.bay f both.program rule
-        → OrdersWait rule timing device (made_of device) [] [] ts
+        → OrdersWait rule timing device (new_server device) [] [] ts
     orders-wait timing never timed own =
         let b = begins both.bay f both.program device loads file own.own own.image own.read own.made
         in
         let borne = right-timer (program_of own.own own.image) rule timing own.answer never timed
         own.how own.right in
         turns-wait own.own own.image rule timing borne.timer b.sound own.there borne.bears device ts
-        (made_of device) [] [] are given
+        (new_server device) [] [] are given
         (subst (Ready own.own own.image rule timing borne.timer b.sound own.there borne.bears [])
         (sym b.is)
         (ready-first own.own own.image rule timing borne.timer b.sound own.there borne.bears
         b.steady))
 
     pub scans-obey : rule.timed ≡ None → OfOctets Plainly both.bay f both.program rule
-        → EachPast (ScanObeysAt rule) device (past_of ts (made_of device) [])
+        → EachPast (ScanObeysAt rule) device (past_of ts (new_server device) [])
     scans-obey plain own =
         let b = begins both.bay f both.program device loads file own.own own.image own.read own.made
         in
         let stands =
-        stands-turns device ts (made_of device) []
+        stands-turns device ts (new_server device) []
         (stands-first device (own.own, own.image, b.is)) in
         past-scans own.own own.image b.sound rule own.there
         (plain-rule (program_of own.own own.image) rule own.answer plain own.how own.right) device
-        (past_of ts (made_of device) []) stands.steps
-        (turns-typed device ts (made_of device) [] are given tt)
+        (past_of ts (new_server device) []) stands.steps
+        (turns-typed device ts (new_server device) [] are given tt)
         (subst (Good own.own own.image b.sound) (sym b.is)
         (good-first own.own own.image b.sound b.steady))
 
 loaded-obeys : (f : Form) (both : FilesData) (device : State)
     → LoadsDevice both.bay f both.program device → (ts : List DoneTurn)
-    → AreTurns (made_of device) ts → AreGiven ts → ObeyAuditsOf f both (made_of device) ts
+    → AreTurns (new_server device) ts → AreGiven ts → ObeyAuditsOf f both (new_server device) ts
 loaded-obeys f both device loads ts are given file = record {
   obey = λ rules rule never is. orders-obey f both device loads ts are given file rule never
       (audited both.bay f both.program Plainly rule rules is);
@@ -273,44 +273,44 @@ module _ {W : Type 0} (contents : W → Option (List ℕ)) (asks : W → WriteCa
 
 module _ {L H W : Type 0} (step : L → Call → L → Type 0) (acts : H → HostCall L → H → Type 0)
     (contents : W → Option (List ℕ)) (asks : W → WriteCall → W → Type 0) where
-  pub later-is : (Ends Goes : Type 0) (told : Result ℕ WriteFault) (rest : AfterTurn told Ends Goes)
-      (Is : Goes → Type 0) → ((goes : Goes) → Is goes) → InLater Ends Goes told rest Is
+  pub later-is : (Ends Goes : Type 0) (reported : Result ℕ WriteFault) (rest : AfterTurn reported Ends Goes)
+      (Is : Goes → Type 0) → ((goes : Goes) → Is goes) → HoldsLater Ends Goes reported rest Is
   later-is Ends Goes (Err fault) rest Is each = tt
   later-is Ends Goes (Ok status) goes Is each = each goes
 
   -- what is so of all turns of a server of this device
   module _ (Is : ServerData → List DoneTurn → Type 0) (loaded : LoadedFiles)
-      (each : (ts : List DoneTurn) → AreTurns (made_of (state_of loaded)) ts → AreGiven ts
-      → Is (made_of (state_of loaded)) ts) (numbers : Numbers) where
-    bound-is : (served : ServedFiles) (duties : Option SupervisionSettings)
+      (each : (ts : List DoneTurn) → AreTurns (new_server (state_of loaded)) ts → AreGiven ts
+      → Is (new_server (state_of loaded)) ts) (options : ServeOptions) where
+    bound-is : (served : ServedFiles) (settings : Option SupervisionSettings)
         (before host after : H) (old new : WriterState W) (answer : Result ℕ WriteFault)
-        (bound : Result (Bound L) ServeStartFault)
-        → BindsPorts acts numbers duties (state_of loaded) before host bound
+        (bound : Result (BoundServer L) ServeStartFault)
+        → BindsPorts acts options settings (state_of loaded) before host bound
         → (goes : MatchResult bound
-        (λ ports. ServesBound step acts contents asks numbers served ports loaded.trace.items host
+        (λ ports. ServesBound step acts contents asks options served ports loaded.trace.items host
         after old new answer)
         (λ why. EndsUnserved contents asks why old new answer × (after ≡ host)))
-        → HoldsIfBound step acts contents asks Is numbers served loaded.trace.items host after old new
+        → HoldsIfBound step acts contents asks Is options served loaded.trace.items host after old new
         answer bound goes
-    bound-is served duties before host after old new answer (Ok ports) binds goes =
+    bound-is served settings before host after old new answer (Ok ports) binds goes =
         let run = goes.5 in
-        let made : ports.server ≡ made_of (state_of loaded) =
-        ports-made acts numbers duties (state_of loaded) before host ports binds in
+        let made : ports.server ≡ new_server (state_of loaded) =
+        ports-made acts options settings (state_of loaded) before host ports binds in
         let given : AreGiven run.done =
         subst AreGiven (sym run.are)
-        (turns-given step acts contents asks numbers.turns _ _ after new answer run.serves) in
+        (turns-given step acts contents asks options.turns _ _ after new answer run.serves) in
         subst (λ (h : ServerData). Is h run.done) (sym made)
         (each run.done (subst (λ (h : ServerData). AreTurns h run.done) made run.run.are) given)
-    bound-is served duties before host after old new answer (Err why) binds goes = tt
+    bound-is served settings before host after old new answer (Err why) binds goes = tt
 
     pub ports-is : (held : HeldCounts) (before after : H) (old new : WriterState W)
         (answer : Result ℕ WriteFault)
-        (ports : ServesPorts step acts contents asks numbers loaded held before after old new
+        (ports : ServesPorts step acts contents asks options loaded held before after old new
         answer)
-        → HoldsIfOpened step acts contents asks Is numbers loaded held before after old new answer ports
+        → HoldsIfOpened step acts contents asks Is options loaded held before after old new answer ports
     ports-is held before after old new answer ports =
         bound-is (served_of loaded held) _ before ports.host after old new answer ports.bound
-        ports.binds ports.goes_on
+        ports.binds ports.continuation
 
   in-permit : (Ends : Result ℕ WriteFault → Type 0) (Goes : ℕ → Type 0)
       (permit : Result Permit WriteFault) (goes : AfterPermit permit Ends Goes)
@@ -324,46 +324,46 @@ module _ {L H W : Type 0} (step : L → Call → L → Type 0) (acts : H → Hos
   -- what is so of all turns of a server of what was loaded, if its rules and its diagram hold
   module _ (Is : ServerData → List DoneTurn → Type 0) (loaded : LoadedFiles)
       (each : RulesHold loaded.load loaded.rules → DiagramHolds loaded.load loaded.diagram
-      → (ts : List DoneTurn) → AreTurns (made_of (state_of loaded)) ts → AreGiven ts
-      → Is (made_of (state_of loaded)) ts) (numbers : Numbers) where
+      → (ts : List DoneTurn) → AreTurns (new_server (state_of loaded)) ts → AreGiven ts
+      → Is (new_server (state_of loaded)) ts) (options : ServeOptions) where
     rules-is : (before after : H) (old new : WriterState W) (answer : Result ℕ WriteFault)
-        (serves : ServesRules step acts contents asks numbers loaded before after old new answer)
-        → HoldsWithRules step acts contents asks Is numbers loaded before after old new answer serves
+        (serves : ServesRules step acts contents asks options loaded before after old new answer)
+        → HoldsWithRules step acts contents asks Is options loaded before after old new answer serves
     rules-is before after old new answer serves =
-        in-permit _ _ serves.permit serves.goes_on _
-        (λ rules granted drawn. in-permit _ _ drawn.permit drawn.goes_on _
+        in-permit _ _ serves.permit serves.continuation _
+        (λ rules granted drawn. in-permit _ _ drawn.permit drawn.continuation _
         (λ releases let_go ports. ports-is Is loaded
         (each
         (rules-hold contents asks loaded.load loaded.rules old serves.middle serves.permit
         serves.writes rules granted)
         (diagram-holds contents asks loaded.load loaded.diagram serves.middle drawn.middle
-        drawn.permit drawn.writes releases let_go)) numbers
+        drawn.permit drawn.writes releases let_go)) options
         (record { rules = rules; releases = releases }) before after drawn.middle new answer ports))
 
   module _ {F : Type 0} (reads : FileReads F) (guards : ProtectedReads F) (files : F)
       (named : FileNames) (Is : FilesData → ServerData → List DoneTurn → Type 0)
       (each : (loaded : LoadedFiles) → LoadsFiles reads guards files named (Ok loaded)
       → RulesHold loaded.load loaded.rules → DiagramHolds loaded.load loaded.diagram
-      → (ts : List DoneTurn) → AreTurns (made_of (state_of loaded)) ts → AreGiven ts
-      → Is (data_of loaded) (made_of (state_of loaded)) ts) where
-    pub files-is : (numbers : Numbers) (before after : H)
+      → (ts : List DoneTurn) → AreTurns (new_server (state_of loaded)) ts → AreGiven ts
+      → Is (data_of loaded) (new_server (state_of loaded)) ts) where
+    pub files-is : (options : ServeOptions) (before after : H)
         (old new : WriterState W) (answer : Result ℕ WriteFault)
         (loaded : Result LoadedFiles ServeStartFault)
         → LoadsFiles reads guards files named loaded
         → (goes : MatchResult loaded
-        (λ all. ServesLoaded step acts contents asks numbers all before after old new answer)
+        (λ all. ServesLoaded step acts contents asks options all before after old new answer)
         (λ why. EndsUnserved contents asks why old new answer × (after ≡ before)))
-        → HoldsIfRead step acts contents asks Is numbers before after old new answer loaded goes
-    files-is numbers before after old new answer (Ok loaded) loads goes =
-        later-is _ _ goes.told goes.goes_on _
-        (rules-is (Is (data_of loaded)) loaded (each loaded loads) numbers before after goes.middle
+        → HoldsIfRead step acts contents asks Is options before after old new answer loaded goes
+    files-is options before after old new answer (Ok loaded) loads goes =
+        later-is _ _ goes.reported goes.continuation _
+        (rules-is (Is (data_of loaded)) loaded (each loaded loads) options before after goes.middle
         new answer)
-    files-is numbers before after old new answer (Err why) loads goes = tt
+    files-is options before after old new answer (Err why) loads goes = tt
 
   pub served-obey : {F : Type 0} (reads : FileReads F) (guards : ProtectedReads F)
       → ServedCommandsObey step acts contents asks reads guards
-  served-obey reads guards files named numbers before after old new answer serves =
+  served-obey reads guards files named options before after old new answer serves =
       files-is reads guards files named (ObeyAuditsOf named.form)
       (λ loaded loads rules diagram. loaded-obeys named.form (data_of loaded) (state_of loaded)
-      (loaded.load, loads.6, refl)) numbers before after old new answer serves.loaded serves.loads
-      serves.goes_on
+      (loaded.load, loads.6, refl)) options before after old new answer serves.loaded serves.loads
+      serves.continuation

@@ -10,25 +10,25 @@ use Rattle.bay_base.specs.declared.point.MeterField.{MeterField}
 use Rattle.bay_device.specs.Device.{State}
 use Rattle.bay_lines.specs.FirstLines.{LineSearchData, Waiting, Overlong, Whole, first_line_of}
 use Rattle.bay_audit_laws.specs.Laws.{Has32Bits, IsOfType}
-use Rattle.bay_process_port.specs.Ports.{PortData, judged_at, reading_as, reading_by}
-use Rattle.bay_process_port.specs.Supervised.{Watched, event_in, judge_introduction, is_timely, judge_line, judge_plain_line, judge_later_line, judge_moment, word_of}
-use Rattle.bay_process_port.specs.Introduction.{introduced_at}
+use Rattle.bay_process_port.specs.Ports.{PortData, judge_port, presence_reading, judged_reading}
+use Rattle.bay_process_port.specs.Supervised.{WatchData, event_in, judge_introduction, is_timely, judge_line, judge_plain_line, judge_later_line, judge_moment, event_message}
+use Rattle.bay_process_port.specs.Introduction.{introduction_moment}
 use Rattle.bay_process_port.specs.declared.connection_event.DisconnectReason.{DisconnectReason}
 use Rattle.bay_process_port.specs.declared.connection_event.DisconnectReason.TheVariants.{OutOfOrder, Untimely}
 use Rattle.bay_process_port.specs.declared.port.Presence.{Presence}
-use Rattle.bay_process_port.specs.declared.port.Presence.TheVariants.{Away, Leaving, Dismissed, Here}
+use Rattle.bay_process_port.specs.declared.port.Presence.TheVariants.{Absent, LossPending, Dismissed, Present}
 use Rattle.bay_process_port.specs.declared.supervision.ProcessMessage.{ProcessMessage}
 use Rattle.bay_process_port.specs.declared.supervision.ProcessMessage.TheVariants.{Introduces}
 use Rattle.bay_process_port.specs.declared.supervision.TimedMessage.{TimedMessage}
 use Rattle.bay_process_port.proofs.WatchLemmas.{line-judged}
-use Rattle.bay_server_turn.specs.Served.{TurnInput, turn_input_of_line, process_event as served_event, reported_in, is_loss_line, event_in_line, input_of_event}
+use Rattle.bay_server_turn.specs.Served.{TurnInput, turn_input_of_line, process_event as served_event, report_in, is_loss_line, event_in_line, input_of_event}
 use Rattle.bay_server_turn.specs.Supervised.{text_without_end, timed_by, timed_event, timed_line_of}
 use Rattle.bay_server_turn.specs.Turns.{event_of as event_in_turn}
 use Rattle.bay_server_turn.specs.declared.process_input.ProcessEvent.{ProcessEvent}
 use Rattle.bay_server_turn.specs.declared.supervised.TimedLine.{TimedLine}
-use Rattle.bay_server.specs.ServeReport.{ProcessData, from_trace, with_loss}
-use Rattle.bay_trace.specs.Resolving.{placed_event}
-use Rattle.bay_trace.specs.Trace.{LineData, NamedData, association_event_of, association_of, at_moment, bad_measure, blank, connects, contact, disconnects, event_of, field_of, first_number, input, is_association_verb, is_space, lost, measure, measure_of, name_of, named_of, only_word, process_of, process_event, read_integer, received_of, receives, scan, measure_event_of, trace_line_of, words_line}
+use Rattle.bay_server.specs.ServeReport.{ProcessData, input_from_trace, with_loss}
+use Rattle.bay_trace.specs.Resolving.{resolved_event}
+use Rattle.bay_trace.specs.Trace.{LineData, NamedData, association_event_by_verb, association_of, at_moment, bad_measure, blank, connects, contact, disconnects, event_of, field_of, first_number, input, is_association_verb, is_space, lost, measure, measure_of, name_of, named_event_of, only_word, process_of, process_event, read_integer, received_of, receives, scan, measure_event_of, trace_line_of, words_line}
 use Rattle.bay_trace.specs.Digits.{octets_of}
 use Rattle.cmd_audit_laws.proofs.OptionLemmas.{cond-some, map-some, then-some}
 
@@ -53,7 +53,7 @@ negative-fits n = by-test (nat_le n (2 ^ 31)) refl
         record { least = omega (arith, ints, few); greatest = omega (arith, ints) }
     by-test false low = tt
 
-integer-fits : (word : List ℕ) → IfSome (read_integer word) Has32Bits
+integer-fits : (message : List ℕ) → IfSome (read_integer message) Has32Bits
 integer-fits [] = tt
 integer-fits (b ∷ bs) =
     cond-some Has32Bits (b == 45) (option_and_then negative_of (read_number bs))
@@ -80,12 +80,12 @@ abbrev pub LineFits : LineData → Type 0
 LineFits blank = Unit {0}
 LineFits (at_moment moment named) = NamedFits named
 
-told-fits : (id : List ℕ) (field : MeterField) (word : List ℕ)
-    → IfSome (measure_event_of id field word) NamedFits
-told-fits id field word =
-    cond-some NamedFits (bytes_eq word (codes "bad")) (Some (bad_measure id field))
-    (option_map (measure id field) (read_integer word)) tt
-    (number-told (read_integer word) (integer-fits word))
+told-fits : (id : List ℕ) (field : MeterField) (message : List ℕ)
+    → IfSome (measure_event_of id field message) NamedFits
+reported-fits id field message =
+    cond-some NamedFits (bytes_eq message (codes "bad")) (Some (bad_measure id field))
+    (option_map (measure id field) (read_integer message)) tt
+    (number-told (read_integer message) (integer-fits message))
   where
     number-told : (o : Option ℤ) → IfSome o Has32Bits
         → IfSome (option_map (measure id field) o) NamedFits
@@ -94,13 +94,13 @@ told-fits id field word =
 
 measure-fits : (id : List ℕ) (words : List (List ℕ)) → IfSome (measure_of id words) NamedFits
 measure-fits id [] = tt
-measure-fits id (field ∷ told) =
-    then-some NamedFits (λ f. option_and_then (measure_event_of id f) (only_word told))
+measure-fits id (field ∷ reported) =
+    then-some NamedFits (λ f. option_and_then (measure_event_of id f) (only_word reported))
     (field_of field)
-    (λ f. then-some NamedFits (measure_event_of id f) (only_word told) (told-fits id f))
+    (λ f. then-some NamedFits (measure_event_of id f) (only_word reported) (told-fits id f))
 
 named-fits : (verb name : List ℕ) (values : List (List ℕ))
-    → IfSome (named_of verb name values) NamedFits
+    → IfSome (named_event_of verb name values) NamedFits
 named-fits verb name values =
     cond-some NamedFits (bytes_eq verb (codes "contact")) _ _
     (map-some NamedFits (contact name) _ (λ x. tt))
@@ -111,14 +111,14 @@ named-fits verb name values =
 
 received-fits : (words : List (List ℕ)) → IfSome (received_of words) NamedFits
 received-fits [] = tt
-received-fits (word ∷ octets) =
+received-fits (message ∷ octets) =
     then-some NamedFits
     (λ a. option_map (receives a) (option_and_then octets_of (only_word octets)))
-    (association_of word)
+    (association_of message)
     (λ a. map-some NamedFits (receives a) (option_and_then octets_of (only_word octets)) (λ x. tt))
 
 association-fits : (verb : List ℕ) (words : List (List ℕ))
-    → IfSome (association_event_of verb words) NamedFits
+    → IfSome (association_event_by_verb verb words) NamedFits
 association-fits verb words =
     cond-some NamedFits (bytes_eq verb (codes "open")) _ _
     (map-some NamedFits connects _ (λ x. tt))
@@ -132,10 +132,10 @@ event-fits [] = tt
 event-fits (verb ∷ []) =
     cond-some NamedFits (bytes_eq verb (codes "scan")) (Some scan) _ tt
     (cond-some NamedFits (bytes_eq verb (codes "lost")) (Some lost) None tt tt)
-event-fits (verb ∷ word ∷ values) =
-    cond-some NamedFits (is_association_verb verb) (association_event_of verb (word ∷ values)) _
-    (association-fits verb (word ∷ values))
-    (then-some NamedFits (λ name. named_of verb name values) (name_of word)
+event-fits (verb ∷ message ∷ values) =
+    cond-some NamedFits (is_association_verb verb) (association_event_by_verb verb (message ∷ values)) _
+    (association-fits verb (message ∷ values))
+    (then-some NamedFits (λ name. named_event_of verb name values) (name_of message)
     (λ name. named-fits verb name values))
 
 words-fit : (words : List (List ℕ)) → IfSome (words_line words) LineFits
@@ -154,7 +154,7 @@ line-fits (b ∷ bs) = words-fit (slice_split is_space (b ∷ bs))
 
 -- the event of a device that a line tells of
 pub placed-fits : (s : State) (named : NamedData) → NamedFits named
-    → IsOfType (placed_event s named)
+    → IsOfType (resolved_event s named)
 placed-fits s (connects a) h = tt
 placed-fits s (receives a octets) h = tt
 placed-fits s (disconnects a) h = tt
@@ -196,9 +196,9 @@ process-fits scan h = tt
 
 told-of-line : (s : State) (o : Option LineData) → IfSome o LineFits
     → IfSome (option_and_then (served_event s) (process_of o)) EventFits
-told-of-line s None h = tt
-told-of-line s (Some blank) h = tt
-told-of-line s (Some (at_moment moment named)) h =
+reported-of-line s None h = tt
+reported-of-line s (Some blank) h = tt
+reported-of-line s (Some (at_moment moment named)) h =
     both (process_event named) (process-fits named h)
   where
     both : (o : Option NamedData) → IfSome o NamedFits
@@ -207,11 +207,11 @@ told-of-line s (Some (at_moment moment named)) h =
     both (Some event) k = served-fits s event k
 
 told-by-fits : (s : State) (text : List ℕ) → IfSome (event_in_line s text) EventFits
-told-by-fits s text = told-of-line s (trace_line_of text) (line-fits text)
+reported-by-fits s text = told-of-line s (trace_line_of text) (line-fits text)
 
 -- what is given is of its type
 abbrev GivenFits : TurnInput → Type 0
-GivenFits given = IfSome (reported_in given).event EventFits
+GivenFits given = IfSome (report_in given).event EventFits
 
 given-fits : (s : State) (text : List ℕ) → GivenFits (turn_input_of_line s text)
 given-fits s text = by-lost (is_loss_line (trace_line_of text))
@@ -234,7 +234,7 @@ loss-fits is_lost (Err fault) h = h
 -- ---- the port
 
 abbrev WordFits : Result TimedMessage DisconnectReason → Type 0
-WordFits said = IfOk said (λ word. IfSome (event_in word.word) EventFits)
+WordFits written = IfOk written (λ message. IfSome (event_in message.message) EventFits)
 
 abbrev TimedFits : TimedLine → Type 0
 TimedFits timed = IfSome timed.event EventFits
@@ -270,23 +270,23 @@ if-ok : (b : Bool) (x y : Result TimedMessage DisconnectReason) → WordFits x �
 if-ok true x y h k = h
 if-ok false x y h k = k
 
-timely-fits : (limit now moment : ℕ) (word : ProcessMessage) → IfSome (event_in word) EventFits
-    → WordFits (judge_moment limit now moment word)
-timely-fits limit now moment word h =
-    if-ok (is_timely limit now moment) (Ok (record { moment = moment; word = word }))
+timely-fits : (limit now moment : ℕ) (message : ProcessMessage) → IfSome (event_in message) EventFits
+    → WordFits (judge_moment limit now moment message)
+timely-fits limit now moment message h =
+    if-ok (is_timely limit now moment) (Ok (record { moment = moment; message = message }))
     (Err Untimely) h tt
 
-judged-fits : (watch : Option Watched) (s : State) (now : ℕ) (line : List ℕ)
+judged-fits : (watch : Option WatchData) (s : State) (now : ℕ) (line : List ℕ)
     → WordFits (judge_line watch s now line)
 judged-fits None s now line = plain-fits now line (event_in_line s line) (told-by-fits s line)
 judged-fits (Some w) s now line =
     if-ok w.introduced (judge_later_line line w now (timed_line_of s line))
-    (judge_introduction w.duties now (introduced_at w.duties.key s.domain s.revision line))
+    (judge_introduction w.settings now (introduction_moment w.settings.key s.domain s.revision line))
     (by-timed (timed_line_of s line) (timed-fits s line))
-    (by-moment (introduced_at w.duties.key s.domain s.revision line))
+    (by-moment (introduction_moment w.settings.key s.domain s.revision line))
   where
     word-fits : (o : Option ProcessEvent) → IfSome o EventFits
-        → IfSome (event_in (word_of o)) EventFits
+        → IfSome (event_in (event_message o)) EventFits
     word-fits None h = tt
     word-fits (Some event) h = h
 
@@ -295,44 +295,44 @@ judged-fits (Some w) s now line =
     by-timed None h = tt
     by-timed (Some timed) h =
         if-ok (nat_lt timed.moment w.last) (Err OutOfOrder)
-        (judge_moment w.duties.limit now timed.moment (word_of timed.event)) tt
-        (timely-fits w.duties.limit now timed.moment (word_of timed.event)
+        (judge_moment w.settings.limit now timed.moment (event_message timed.event)) tt
+        (timely-fits w.settings.limit now timed.moment (event_message timed.event)
         (word-fits timed.event h))
 
-    by-moment : (o : Option ℕ) → WordFits (judge_introduction w.duties now o)
+    by-moment : (o : Option ℕ) → WordFits (judge_introduction w.settings now o)
     by-moment None = tt
-    by-moment (Some moment) = timely-fits w.duties.limit now moment Introduces tt
+    by-moment (Some moment) = timely-fits w.settings.limit now moment Introduces tt
 
 taken-fits : (presence : Presence) (s : State) (now jump : ℕ) (p : PortData)
-    → IfSome (reading_as presence s now jump p).event EventFits
-taken-fits Away s now jump p = tt
-taken-fits Leaving s now jump p = tt
+    → IfSome (presence_reading presence s now jump p).event EventFits
+taken-fits Absent s now jump p = tt
+taken-fits LossPending s now jump p = tt
 taken-fits (Dismissed why) s now jump p = tt
-taken-fits Here s now jump p =
-    by-judged (judged_at s now jump p) (first_line_of p.kept) refl refl
+taken-fits Present s now jump p =
+    by-judged (judge_port s now jump p) (first_line_of p.buffer) refl refl
   where
-    by-word : (line : List ℕ) (said : TimedMessage) (r : Result TimedMessage DisconnectReason)
-        → WordFits r → r ≡ Ok said → IfSome (event_in said.word) EventFits
-    by-word line said (Err why) h e = absurd cc
-    by-word line said (Ok x) h e =
-        let same : x ≡ said = cc in
-        subst (λ (m : TimedMessage). IfSome (event_in m.word) EventFits) same h
+    by-word : (line : List ℕ) (written : TimedMessage) (r : Result TimedMessage DisconnectReason)
+        → WordFits r → r ≡ Ok written → IfSome (event_in written.message) EventFits
+    by-word line written (Err why) h e = absurd cc
+    by-word line written (Ok x) h e =
+        let same : x ≡ written = cc in
+        subst (λ (m : TimedMessage). IfSome (event_in m.message) EventFits) same h
 
     by-judged : (r : Result (Option TimedMessage) DisconnectReason) (f : LineSearchData)
-        → judged_at s now jump p ≡ r → first_line_of p.kept ≡ f
-        → IfSome (reading_by now r f p).event EventFits
+        → judge_port s now jump p ≡ r → first_line_of p.buffer ≡ f
+        → IfSome (judged_reading now r f p).event EventFits
     by-judged (Err why) f is there = tt
     by-judged (Ok None) f is there = tt
-    by-judged (Ok (Some said)) Waiting is there = tt
-    by-judged (Ok (Some said)) Overlong is there = tt
-    by-judged (Ok (Some said)) (Whole line rest) is there =
-        by-word line said (judge_line p.watch s now line) (judged-fits p.watch s now line)
-        (line-judged s now jump p line rest said there is)
+    by-judged (Ok (Some written)) Waiting is there = tt
+    by-judged (Ok (Some written)) Overlong is there = tt
+    by-judged (Ok (Some written)) (Whole line rest) is there =
+        by-word line written (judge_line p.watch s now line) (judged-fits p.watch s now line)
+        (line-judged s now jump p line rest written there is)
 
 -- what is chosen for a turn
 pub choice-fits : {L : Type 0} (s : State) (now jump : ℕ) (lines : List (ℕ × List ℕ))
     (line : Option (ℕ × List ℕ)) (process : Option (ProcessData L))
-    → IfSome (reported_in (from_trace line s now jump lines process).next.given).event EventFits
+    → IfSome (report_in (input_from_trace line s now jump lines process).next.given).event EventFits
 choice-fits s now jump lines None None = tt
 choice-fits s now jump lines None (Some p) = taken-fits p.port.presence s now jump p.port
 choice-fits s now jump lines (Some line) process =

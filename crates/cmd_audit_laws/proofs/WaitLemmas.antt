@@ -21,7 +21,7 @@ use Rattle.cmd_replay.specs.History.{EachPast, device_after}
 use Rattle.bay_audit_rules.specs.declared.rule.Rule.{Rule}
 use Rattle.bay_audit_rules.specs.declared.rule.Timing.{Timing}
 use Rattle.bay_server_turn.specs.Turns.{ServerData}
-use Rattle.bay_server_turn_laws.specs.Events.{ChosenEvent, done_at, turn_events}
+use Rattle.bay_server_turn_laws.specs.Events.{ChosenEvent, outcomes_at, turn_events}
 use Rattle.bay_server_turn_laws.proofs.PartLemmas.{Part-turn}
 use Rattle.cmd_serve.specs.Service.{AreTurns, DoneTurn, server_after, past_after}
 use Rattle.il_image.specs.Images.{Image}
@@ -56,7 +56,7 @@ module _ (bay : Bay) (image : Image) (rule : Rule) (timing : Timing) (n : ℕ) (
 
   ready-events : (now : ℕ) (es : List ChosenEvent) (s : State) (scans : List (ℕ × Bool))
       → AreTyped es → Ready scans s
-      → Ready (scans_after_events timing.condition now es s scans) (done_at now es s).after
+      → Ready (scans_after_events timing.condition now es s scans) (outcomes_at now es s).after
   ready-events now [] s scans typed r = r
   ready-events now (e ∷ es) s scans typed r =
       let o = outcome e.0 now e.1 s in
@@ -77,7 +77,7 @@ module _ (bay : Bay) (image : Image) (rule : Rule) (timing : Timing) (n : ℕ) (
         λ command o.
             has-waited bay image rule timing n is_bay there bears
             (scans_after_events timing.condition t.now o.heard.front h.device scans) t.now
-            (done_at t.now o.heard.front h.device).after command
+            (outcomes_at t.now o.heard.front h.device).after command
             (ready-events t.now o.heard.front h.device scans
             (All-weaker (λ (e : ChosenEvent). OfAssociation e.1) IsTyped (λ e of. of-typed e.1 of)
             o.heard.front o.heard.first) r).waiting o.allowed,

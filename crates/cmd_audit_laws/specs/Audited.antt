@@ -8,7 +8,7 @@ use Rattle.bay_base.specs.declared.switch.Operation.{Operation}
 use Rattle.bay_diagram.specs.declared.network.Network.{Network}
 use Rattle.bay_diagram_file.specs.declared.diagram.Diagram.{Diagram}
 use Rattle.bay_diagram_file.specs.declared.fault.DiagramFault.{DiagramFault}
-use Rattle.cmd_audit.specs.Auditing.{AnswersIf, AreAnswered, AuditOctets, AuditReport, IsTextFor, IsTextOf, IsTextWith, JudgementsIf, status_of}
+use Rattle.cmd_audit.specs.Auditing.{AnswersIf, AreAnswered, AuditOctets, AuditReport, RulesReport, ParsedRulesReport, IsTextWith, JudgementsIf, status_of}
 use Rattle.cmd_audit.specs.Judged.{is_safe, judged_way}
 use Rattle.cmd_audit.specs.declared.judged.JudgedRelease.{JudgedRelease}
 use Rattle.bay_load.specs.Loads.{LoadData}
@@ -26,34 +26,34 @@ OnAnswers =
 
 -- the statement, if the diagram is not refused
 abbrev pub IfDrawn : OnAnswers → (loaded : LoadData) (rules : Option (List Rule))
-    (meant : Result (Option Diagram) DiagramFault) (log : Option (List ℕ)) (text : List ℕ)
-    (status : ℕ) → IsTextWith loaded rules meant log text status → Type 0
-IfDrawn Is loaded rules (Ok d) log text status says = Is loaded rules d text status says.1
-IfDrawn Is loaded rules (Err fault) log text status says = ⊥
+    (parsed : Result (Option Diagram) DiagramFault) (log : Option (List ℕ)) (text : List ℕ)
+    (status : ℕ) → IsTextWith loaded rules parsed log text status → Type 0
+IfDrawn Is loaded rules (Ok d) log text status prints = Is loaded rules d text status prints.1
+IfDrawn Is loaded rules (Err fault) log text status prints = ⊥
 
 -- the statement, if neither the rules nor the diagram are refused
 abbrev pub IfRead : OnAnswers → (loaded : LoadData)
-    (meant : Result (Option (List Rule)) RuleFault) (diagram : Option (List ℕ))
+    (parsed : Result (Option (List Rule)) RuleFault) (diagram : Option (List ℕ))
     (log : Option (List ℕ)) (text : List ℕ) (status : ℕ)
-    → IsTextOf loaded meant diagram log text status → Type 0
-IfRead Is loaded (Ok rules) diagram log text status says =
-    IfDrawn Is loaded rules says.meant log text status says.says
-IfRead Is loaded (Err fault) diagram log text status says = ⊥
+    → ParsedRulesReport loaded parsed diagram log text status → Type 0
+IfRead Is loaded (Ok rules) diagram log text status prints =
+    IfDrawn Is loaded rules prints.parsed log text status prints.prints
+IfRead Is loaded (Err fault) diagram log text status prints = ⊥
 
 -- the statement on the text after the line of a load, unless memory ran out for this text
 abbrev pub AfterLoad : OnAnswers → (Memory : Type 0) (loaded : LoadData)
     (rules diagram : Option (List ℕ)) (log : Option (List ℕ)) (text : List ℕ) (status : ℕ)
-    → IsTextFor loaded rules diagram log text status ⊎ Memory → Type 0
-AfterLoad Is Memory loaded rules diagram log text status (inl says) =
-    IfRead Is loaded says.meant diagram log text status says.says
+    → RulesReport loaded rules diagram log text status ⊎ Memory → Type 0
+AfterLoad Is Memory loaded rules diagram log text status (inl prints) =
+    IfRead Is loaded prints.parsed diagram log text status prints.prints
 AfterLoad Is Memory loaded rules diagram log text status (inr memory) = ⊥
 
 -- the statement on the text of an audit, if the load is not refused
 abbrev pub InAudit : OnAnswers → (form : Form) (octets : AuditOctets) (log : Option (List ℕ))
     (text : List ℕ) (status : ℕ) → AuditReport form octets log text status → Type 0
 InAudit Is form octets log text status (inl load) =
-    AfterLoad Is _ load.loaded octets.rules octets.diagram log load.tells.rest status
-    load.tells.says
+    AfterLoad Is _ load.loaded octets.rules octets.diagram log load.reports.rest status
+    load.reports.prints
 InAudit Is form octets log text status (inr refused) = ⊥
 
 -- the octets of an audit
@@ -88,8 +88,8 @@ pub record IsAnswered (How : RuleAnswer → Type 0) (rules : List Rule) (answers
 abbrev pub AnswersRule : (How : RuleAnswer → Type 0) → Rule → (loaded : LoadData)
     (rules : Option (List Rule)) (text : List ℕ) (status : ℕ) → AnswersIf loaded rules text status
     → Type 0
-AnswersRule How rule loaded (Some rules) text status says = IsAnswered How rules says.answers rule
-AnswersRule How rule loaded None text status says = ⊥
+AnswersRule How rule loaded (Some rules) text status prints = IsAnswered How rules prints.answers rule
+AnswersRule How rule loaded None text status prints = ⊥
 
 -- the same in the text for rules and a diagram, which memory may have cut
 abbrev pub AnswersRuleIn : (How : RuleAnswer → Type 0) → Rule → OnAnswers
@@ -107,7 +107,7 @@ pub record IsAudited (How : RuleAnswer → Type 0) (bay : List ℕ) (form : Form
   pub text : List ℕ
   pub status : ℕ
   pub audit : AuditReport form (octets_with bay program (Some rules) diagram) log text status
-  pub says : InAudit (AnswersRuleIn How rule) form (octets_with bay program (Some rules) diagram)
+  pub prints : InAudit (AnswersRuleIn How rule) form (octets_with bay program (Some rules) diagram)
       log text status audit
 
 -- ---- a diagram
@@ -122,9 +122,9 @@ pub record IsHeld (releases : List JudgedRelease) (k : ℕ) (operation : Operati
 -- the release holds in the text for the diagram with this network
 abbrev pub JudgesRelease : Network → ℕ → Operation → (loaded : LoadData) (d : Option Diagram)
     (text : List ℕ) (status : ℕ) → JudgementsIf loaded d text status → Type 0
-JudgesRelease net k operation loaded (Some d) text status says =
-    (d.network ≡ net) × IsHeld says.releases k operation
-JudgesRelease net k operation loaded None text status says = ⊥
+JudgesRelease net k operation loaded (Some d) text status prints =
+    (d.network ≡ net) × IsHeld prints.releases k operation
+JudgesRelease net k operation loaded None text status prints = ⊥
 
 -- the same in the text for rules and a diagram, unless memory ran out for the rules
 abbrev pub JudgesReleaseIn : Network → ℕ → Operation → OnAnswers
@@ -141,5 +141,5 @@ pub record IsHeldByAudit (bay : List ℕ) (form : Form) (program diagram : List 
   pub text : List ℕ
   pub status : ℕ
   pub audit : AuditReport form (octets_with bay program rules (Some diagram)) log text status
-  pub says : InAudit (JudgesReleaseIn net k operation) form
+  pub prints : InAudit (JudgesReleaseIn net k operation) form
       (octets_with bay program rules (Some diagram)) log text status audit

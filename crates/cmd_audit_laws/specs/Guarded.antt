@@ -10,7 +10,7 @@ use Rattle.bay_files.specs.Files.{ProtectedReads, FileReads, FilesData, ReadsFil
 use Rattle.bay_io.specs.Calls.{WriteCall}
 use Rattle.bay_io.specs.Watched.{WriterState}
 use Rattle.bay_io.specs.declared.outbox.WriteFault.{WriteFault}
-use Rattle.bay_load.specs.Loads.{file_of}
+use Rattle.bay_load.specs.Loads.{parsed_bay}
 use Rattle.bay_load.specs.declared.load.Form.{Form}
 use Rattle.cmd_replay.specs.History.{EachPast}
 use Rattle.bay_audit_rules.specs.Meaning.{TextRead}
@@ -22,7 +22,7 @@ use Rattle.bay_server_turn.specs.Turns.{ServerData}
 use Rattle.bay_server.specs.Host.{HostCall}
 use Rattle.cmd_serve.specs.Serve.{FileNames, ServesFiles}
 use Rattle.cmd_serve.specs.Service.{DoneTurn, past_of}
-use Rattle.cmd_serve.specs.declared.serve.Numbers.{Numbers}
+use Rattle.cmd_serve.specs.declared.serve.ServeOptions.{ServeOptions}
 use Rattle.cmd_audit_laws.specs.Served.{IsFile, HoldsIfRead, OrdersAreHarmless, OrdersObey}
 use Rattle.cmd_audit_laws.specs.Waits.{OrdersWait}
 
@@ -39,9 +39,9 @@ pub record TurnsObey (rule : Rule) (begun : ServerData) (turns : List DoneTurn) 
 pub record ObeyRules (bay text : List ℕ) (begun : ServerData) (turns : List DoneTurn)
     : Type 0 where
   pub own : Bay
-  pub read : file_of bay ≡ Ok own
+  pub read : parsed_bay bay ≡ Ok own
   pub rules : List Rule
-  pub means : TextRead own text (Ok rules)
+  pub parses : TextRead own text (Ok rules)
   pub obeyed : (place : ℕ) (rule : Rule) → slice_get rules place ≡ Some rule
       → TurnsObey rule begun turns
 
@@ -50,9 +50,9 @@ pub record ObeyRules (bay text : List ℕ) (begun : ServerData) (turns : List Do
 pub record ObeyDiagram (bay text : List ℕ) (begun : ServerData) (turns : List DoneTurn)
     : Type 0 where
   pub own : Bay
-  pub read : file_of bay ≡ Ok own
+  pub read : parsed_bay bay ≡ Ok own
   pub drawn : Diagram
-  pub means : diagram_of_file own text ≡ Ok drawn
+  pub parses : diagram_of_file own text ≡ Ok drawn
   pub obeyed : (k : ℕ) (operation : Operation) → k < length own.switches
       → OrdersAreHarmless drawn.network k operation begun.device begun [] turns
 
@@ -72,12 +72,12 @@ module _ {F L H W : Type 0} (step : L → Call → L → Type 0) (acts : H → H
   abbrev pub GuardedObey : (FileNames → Option (List ℕ))
       → (List ℕ → List ℕ → ServerData → List DoneTurn → Type 0) → Type 0
   GuardedObey file_in Obey =
-      (files : F) (named : FileNames) (numbers : Numbers) (before after : H) (old new : WriterState W)
+      (files : F) (named : FileNames) (options : ServeOptions) (before after : H) (old new : WriterState W)
       (answer : Result ℕ WriteFault)
-      (serves : ServesFiles step acts contents asks reads guards files named numbers before after
+      (serves : ServesFiles step acts contents asks reads guards files named options before after
       old new answer) (name : List ℕ) → file_in named ≡ Some name
-      → HoldsIfRead step acts contents asks (ObeyFile reads Obey files name named.form) numbers before
-      after old new answer serves.loaded serves.goes_on
+      → HoldsIfRead step acts contents asks (ObeyFile reads Obey files name named.form) options before
+      after old new answer serves.loaded serves.continuation
 
   -- The turns of each service with rules obey the rules in their file.
   abbrev pub GuardedCommandsObey : Type 0

@@ -91,7 +91,7 @@ octets_refused octets = record { heard = Octets octets; choice = Some 0 }
 
 -- a turn in which association 1 brought this, and nothing else happened but a scan
 abbrev pub turn_with : Reading → Turn → DoneTurn
-turn_with reading told = record {
+turn_with reading reported = record {
   now = 0;
   given = record { is_lost = false; event = None };
   script = record {
@@ -99,5 +99,5 @@ turn_with reading told = record {
     readings = reading ∷ replicate 7 no_octets;
     offers = replicate 8 (record { takes = []; fails = false });
   };
-  told = told;
+  reported = reported;
 }

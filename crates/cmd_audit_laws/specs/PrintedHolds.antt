@@ -6,7 +6,7 @@ use Rattle.cmd_audit.specs.Auditing.{AuditReport}
 use Rattle.cmd_audit.specs.Text.{id_of}
 use Rattle.cmd_audit.specs.Verdicts.{PrintedHold, printed_hold}
 use Rattle.bay_config.specs.declared.bay.Bay.{Bay}
-use Rattle.bay_load.specs.Loads.{file_of}
+use Rattle.bay_load.specs.Loads.{parsed_bay}
 use Rattle.bay_load.specs.declared.load.Form.{Form}
 use Rattle.bay_replay_laws.specs.Printed.{lines_in}
 use Rattle.bay_audit_rules.specs.declared.rule.Rule.{Rule}
@@ -18,7 +18,7 @@ use Rattle.cmd_audit_laws.specs.Served.{IsFile}
 pub record IsLineOfRule (bay : List ℕ) (form : Form) (program rules : List ℕ) (hold : PrintedHold)
     : Type 0 where
   pub own : Bay
-  pub read : file_of bay ≡ Ok own
+  pub read : parsed_bay bay ≡ Ok own
   pub rule : Rule
   pub line : decimal rule.line ≡ hold.line
   pub switch : id_of (slice_get own.switches rule.switch) ≡ hold.id

@@ -23,17 +23,17 @@ use Rattle.bay_audit_rules.specs.declared.rule.Timing.{Timing}
 use Rattle.bay_mms_services.specs.declared.answer.Command.{Command}
 use Rattle.bay_server_turn.specs.Calls.{Call}
 use Rattle.bay_server_turn.specs.Turns.{ServerData}
-use Rattle.bay_server_turn_laws.specs.Events.{done_at, turn_events}
+use Rattle.bay_server_turn_laws.specs.Events.{outcomes_at, turn_events}
 use Rattle.bay_server.specs.Host.{HostCall}
-use Rattle.cmd_serve.specs.Live.{InLater}
-use Rattle.cmd_serve.specs.Orders.{IsOrdered}
+use Rattle.cmd_serve.specs.Live.{HoldsLater}
+use Rattle.cmd_serve.specs.Requests.{IsRequested}
 use Rattle.cmd_serve.specs.Permits.{AfterPermit}
 use Rattle.cmd_serve.specs.Serve.{EndsUnserved, FileNames, ServesBound, ServesDiagram, ServesFiles, ServesLoaded, ServesPorts, ServesRules, data_of, served_of}
 use Rattle.cmd_serve.specs.Service.{DoneTurn, server_after, past_after, past_of}
 use Rattle.cmd_serve.specs.Texts.{IsPrintedFor}
-use Rattle.cmd_serve.specs.declared.serve.Bound.{Bound}
+use Rattle.cmd_serve.specs.declared.serve.BoundServer.{BoundServer}
 use Rattle.cmd_serve.specs.declared.serve.LoadedFiles.{LoadedFiles}
-use Rattle.cmd_serve.specs.declared.serve.Numbers.{Numbers}
+use Rattle.cmd_serve.specs.declared.serve.ServeOptions.{ServeOptions}
 use Rattle.cmd_serve.specs.declared.serve.ServeStartFault.{ServeStartFault}
 use Rattle.cmd_serve.specs.declared.permit.Permit.{Permit}
 use Rattle.cmd_serve.specs.declared.permit.Permit.TheVariants.{Granted, Denied}
@@ -52,12 +52,12 @@ abbrev pub OrdersAvoid : (Process → Bool) → ℕ → Operation → State → 
     → List DoneTurn → Type 0
 OrdersAvoid set k operation first h past [] = Unit {0}
 OrdersAvoid set k operation first h past (t ∷ ts) =
-    ((command : Command) (o : IsOrdered first h t past command)
-    → IsOutside set k operation (done_at t.now o.heard.front h.device).after command)
+    ((command : Command) (o : IsRequested first h t past command)
+    → IsOutside set k operation (outcomes_at t.now o.heard.front h.device).after command)
     × ((printed : PrintedCommand) (p : IsPrintedFor first h t past printed) (switch : Switch)
     → slice_get first.switches k ≡ Some switch → printed.id ≡ switch.id
     → printed.operation ≡ operation
-    → set (process_of (done_at t.now p.ordered.heard.front h.device).after) ≡ false)
+    → set (process_of (outcomes_at t.now p.ordered.heard.front h.device).after) ≡ false)
     × OrdersAvoid set k operation first (server_after t h)
     (past_after t.now (turn_events t.now t.given t.script h) h.device past) ts
 
@@ -113,70 +113,70 @@ InPermit Ends Goes (Err fault) goes more = Unit {0}
 module _ {L H W : Type 0} (step : L → Call → L → Type 0) (acts : H → HostCall L → H → Type 0)
     (contents : W → Option (List ℕ)) (asks : W → WriteCall → W → Type 0) where
   -- the statement holds for the turns that were served, if the ports could be bound
-  abbrev pub HoldsIfBound : (Is : ServerData → List DoneTurn → Type 0) (numbers : Numbers)
+  abbrev pub HoldsIfBound : (Is : ServerData → List DoneTurn → Type 0) (options : ServeOptions)
       (served : ServedFiles) (trace : List ℕ)
       (host after : H) (old new : WriterState W) (answer : Result ℕ WriteFault)
-      (bound : Result (Bound L) ServeStartFault) → MatchResult bound
-      (λ ports. ServesBound step acts contents asks numbers served ports trace host after old new
+      (bound : Result (BoundServer L) ServeStartFault) → MatchResult bound
+      (λ ports. ServesBound step acts contents asks options served ports trace host after old new
       answer)
       (λ why. EndsUnserved contents asks why old new answer × (after ≡ host))
       → Type 0
-  HoldsIfBound Is numbers served trace host after old new answer (Ok ports) goes =
+  HoldsIfBound Is options served trace host after old new answer (Ok ports) goes =
       Is ports.server goes.5.done
-  HoldsIfBound Is numbers served trace host after old new answer (Err why) goes = Unit {0}
+  HoldsIfBound Is options served trace host after old new answer (Err why) goes = Unit {0}
 
   -- the statement holds for the turns that were served, if the ports could be opened
-  abbrev pub HoldsIfOpened : (Is : ServerData → List DoneTurn → Type 0) (numbers : Numbers)
+  abbrev pub HoldsIfOpened : (Is : ServerData → List DoneTurn → Type 0) (options : ServeOptions)
       (loaded : LoadedFiles) (held : HeldCounts)
       (before after : H) (old new : WriterState W) (answer : Result ℕ WriteFault)
-      → ServesPorts step acts contents asks numbers loaded held before after old new answer
+      → ServesPorts step acts contents asks options loaded held before after old new answer
       → Type 0
-  HoldsIfOpened Is numbers loaded held before after old new answer ports =
-      HoldsIfBound Is numbers (served_of loaded held) loaded.trace.items ports.host after old new answer
-      ports.bound ports.goes_on
+  HoldsIfOpened Is options loaded held before after old new answer ports =
+      HoldsIfBound Is options (served_of loaded held) loaded.trace.items ports.host after old new answer
+      ports.bound ports.continuation
 
   -- the statement holds for the turns that were served, if the releases hold by the diagram, or
   -- there is none
-  abbrev pub OfDiagram : (Is : ServerData → List DoneTurn → Type 0) (numbers : Numbers)
+  abbrev pub OfDiagram : (Is : ServerData → List DoneTurn → Type 0) (options : ServeOptions)
       (loaded : LoadedFiles) (rules : ℕ)
       (before after : H) (old new : WriterState W) (answer : Result ℕ WriteFault)
-      → ServesDiagram step acts contents asks numbers loaded rules before after old new answer
+      → ServesDiagram step acts contents asks options loaded rules before after old new answer
       → Type 0
-  OfDiagram Is numbers loaded rules before after old new answer serves =
-      InPermit _ _ serves.permit serves.goes_on
-      (λ releases. HoldsIfOpened Is numbers loaded (record { rules = rules; releases = releases }) before
+  OfDiagram Is options loaded rules before after old new answer serves =
+      InPermit _ _ serves.permit serves.continuation
+      (λ releases. HoldsIfOpened Is options loaded (record { rules = rules; releases = releases }) before
       after serves.middle new answer)
 
   -- the statement holds for the turns that were served, if the rules hold, or there are none
-  abbrev pub HoldsWithRules : (Is : ServerData → List DoneTurn → Type 0) (numbers : Numbers)
+  abbrev pub HoldsWithRules : (Is : ServerData → List DoneTurn → Type 0) (options : ServeOptions)
       (loaded : LoadedFiles)
       (before after : H) (old new : WriterState W) (answer : Result ℕ WriteFault)
-      → ServesRules step acts contents asks numbers loaded before after old new answer → Type 0
-  HoldsWithRules Is numbers loaded before after old new answer serves =
-      InPermit _ _ serves.permit serves.goes_on
-      (λ rules. OfDiagram Is numbers loaded rules before after serves.middle new answer)
+      → ServesRules step acts contents asks options loaded before after old new answer → Type 0
+  HoldsWithRules Is options loaded before after old new answer serves =
+      InPermit _ _ serves.permit serves.continuation
+      (λ rules. OfDiagram Is options loaded rules before after serves.middle new answer)
 
   -- the statement holds for the turns that were served, if the line of the load could be written
-  abbrev pub HoldsIfLoaded : (Is : ServerData → List DoneTurn → Type 0) (numbers : Numbers)
+  abbrev pub HoldsIfLoaded : (Is : ServerData → List DoneTurn → Type 0) (options : ServeOptions)
       (loaded : LoadedFiles)
       (before after : H) (old new : WriterState W) (answer : Result ℕ WriteFault)
-      → ServesLoaded step acts contents asks numbers loaded before after old new answer → Type 0
-  HoldsIfLoaded Is numbers loaded before after old new answer serves =
-      InLater _ _ serves.told serves.goes_on
-      (HoldsWithRules Is numbers loaded before after serves.middle new answer)
+      → ServesLoaded step acts contents asks options loaded before after old new answer → Type 0
+  HoldsIfLoaded Is options loaded before after old new answer serves =
+      HoldsLater _ _ serves.reported serves.continuation
+      (HoldsWithRules Is options loaded before after serves.middle new answer)
 
   -- the statement holds for the turns that were served, if the files could be read and loaded: with
   -- the octets of the bay file and of the program
   abbrev pub HoldsIfRead : (Is : FilesData → ServerData → List DoneTurn → Type 0)
-      (numbers : Numbers) (before after : H) (old new : WriterState W)
+      (options : ServeOptions) (before after : H) (old new : WriterState W)
       (answer : Result ℕ WriteFault) (loaded : Result LoadedFiles ServeStartFault)
       → MatchResult loaded
-      (λ all. ServesLoaded step acts contents asks numbers all before after old new answer)
+      (λ all. ServesLoaded step acts contents asks options all before after old new answer)
       (λ why. EndsUnserved contents asks why old new answer × (after ≡ before))
       → Type 0
-  HoldsIfRead Is numbers before after old new answer (Ok loaded) goes =
-      HoldsIfLoaded (Is (data_of loaded)) numbers loaded before after old new answer goes
-  HoldsIfRead Is numbers before after old new answer (Err why) goes = Unit {0}
+  HoldsIfRead Is options before after old new answer (Ok loaded) goes =
+      HoldsIfLoaded (Is (data_of loaded)) options loaded before after old new answer goes
+  HoldsIfRead Is options before after old new answer (Err why) goes = Unit {0}
 
 -- ---- the turns of the files
 
@@ -186,9 +186,9 @@ module _ {F L H W : Type 0} (step : L → Call → L → Type 0) (acts : H → H
   -- The turns of each service obey the answers of each audit of the same octets.
   abbrev pub ServedCommandsObey : Type 0
   ServedCommandsObey =
-      (files : F) (named : FileNames) (numbers : Numbers) (before after : H) (old new : WriterState W)
+      (files : F) (named : FileNames) (options : ServeOptions) (before after : H) (old new : WriterState W)
       (answer : Result ℕ WriteFault)
-      (serves : ServesFiles step acts contents asks reads guards files named numbers before after
+      (serves : ServesFiles step acts contents asks reads guards files named options before after
       old new answer)
-      → HoldsIfRead step acts contents asks (ObeyAuditsOf named.form) numbers before after old new
-      answer serves.loaded serves.goes_on
+      → HoldsIfRead step acts contents asks (ObeyAuditsOf named.form) options before after old new
+      answer serves.loaded serves.continuation

@@ -10,8 +10,8 @@ use Rattle.bay_audit_rules.specs.declared.rule.Rule.{Rule}
 use Rattle.bay_audit_rules.specs.declared.rule.Timing.{Timing}
 use Rattle.bay_mms_services.specs.declared.answer.Command.{Command}
 use Rattle.bay_server_turn.specs.Turns.{ServerData}
-use Rattle.bay_server_turn_laws.specs.Events.{ChosenEvent, done_at, turn_events}
-use Rattle.cmd_serve.specs.Orders.{IsOrdered}
+use Rattle.bay_server_turn_laws.specs.Events.{ChosenEvent, outcomes_at, turn_events}
+use Rattle.cmd_serve.specs.Requests.{IsRequested}
 use Rattle.cmd_serve.specs.Service.{DoneTurn, server_after, past_after}
 
 -- ---- turns
@@ -31,9 +31,9 @@ abbrev pub OrdersWait : Rule → Timing → State → ServerData → List (ℕ �
     → List DoneTurn → Type 0
 OrdersWait rule timing first h scans past [] = Unit {0}
 OrdersWait rule timing first h scans past (t ∷ ts) =
-    ((command : Command) (o : IsOrdered first h t past command)
+    ((command : Command) (o : IsRequested first h t past command)
     → HasWaited rule timing (scans_after_events timing.condition t.now o.heard.front h.device scans)
-    (done_at t.now o.heard.front h.device).after command)
+    (outcomes_at t.now o.heard.front h.device).after command)
     × OrdersWait rule timing first (server_after t h)
     (scans_after_events timing.condition t.now (turn_events t.now t.given t.script h) h.device
     scans)

@@ -17,10 +17,10 @@ ghost use Rattle.cmd_replay.specs.History.{EachPast};
 ghost use Rattle.cmd_audit_laws.specs.Replayed.{ReplayedCommandsObey};
 ghost use Rattle.cmd_audit_laws.specs.Served.{ServedCommandsObey};
 ghost use Rattle.cmd_audit_laws.specs.PrintedHolds.{HoldsAreAudited};
-ghost use Rattle.bay_server_turn.specs.Calls.{Called};
+ghost use Rattle.bay_server_turn.specs.Calls.{CountedCall};
 ghost use Rattle.bay_server_turn.specs.Turns.{ServerData};
 ghost use Rattle.bay_server_turn.specs.declared.turn_report.Turn.{Turn};
-ghost use Rattle.cmd_serve.specs.Orders.{AreOrdered, IsHeard, IsOrdered, IsReleasedBy};
+ghost use Rattle.cmd_serve.specs.Requests.{AreRequested, ReceivesOctets, IsRequested, IsReleasedBy};
 ghost use Rattle.cmd_serve.specs.Service.{DoneTurn, IsTurn};
 
 use bay_files::files::FileSystem;
@@ -48,7 +48,7 @@ pub fn served_commands_obey<F: FileSystem, L: Link, H: Host<L>, W: Sink>(
     _host: &H,
     _sink: &W,
 )
-    ensures { ServedCommandsObey (Called L.does L.failures) H.does W.contents W.does F.reads
+    ensures { ServedCommandsObey (CountedCall L.does L.failures) H.does W.contents W.does F.reads
         F.guards }
 {}
 
@@ -74,9 +74,9 @@ pub fn guarded_commands_obey<F: FileSystem, L: Link, H: Host<L>, W: Sink>(
     _host: &H,
     _sink: &W,
 )
-    ensures rules { GuardedCommandsObey (Called L.does L.failures) H.does W.contents W.does F.reads
+    ensures rules { GuardedCommandsObey (CountedCall L.does L.failures) H.does W.contents W.does F.reads
         F.guards }
-    ensures diagram { GuardedCommandsAreHarmless (Called L.does L.failures) H.does W.contents
+    ensures diagram { GuardedCommandsAreHarmless (CountedCall L.does L.failures) H.does W.contents
         W.does F.reads F.guards }
 {}
 
@@ -135,36 +135,36 @@ pub fn the_last_scan_releases_a_command()
 /// command QB1 off`, and the contract of a server states that each command that it prints is
 /// ordered.
 pub fn a_reported_command_needs_each_of_its_parts()
-    ensures heard { (s : State) (octet : ℕ) (octets : List ℕ) (told : Turn)
-        → IsHeard (server_with_client s) (turn_with (octets_arrived (octet ∷ octets)) told) }
-    ensures closed { (s : State) (octets : List ℕ) (told : Turn)
-        → IsHeard (server_without_clients s) (turn_with (octets_arrived octets) told) → ⊥ }
-    ensures silent { (first : State) (h : ServerData) (told : Turn) (past : List PastEvent)
-        (command : Command) → IsOrdered first h (turn_with no_octets told) past command → ⊥ }
-    ensures part { (first s : State) (told : Turn) (past : List PastEvent) (command : Command)
-        → IsOrdered first (server_with_client s) (turn_with (octets_arrived (3 ∷ [])) told) past
+    ensures heard { (s : State) (octet : ℕ) (octets : List ℕ) (reported : Turn)
+        → ReceivesOctets (server_with_client s) (turn_with (octets_arrived (octet ∷ octets)) reported) }
+    ensures closed { (s : State) (octets : List ℕ) (reported : Turn)
+        → ReceivesOctets (server_without_clients s) (turn_with (octets_arrived octets) reported) → ⊥ }
+    ensures silent { (first : State) (h : ServerData) (reported : Turn) (past : List PastEvent)
+        (command : Command) → IsRequested first h (turn_with no_octets reported) past command → ⊥ }
+    ensures part { (first s : State) (reported : Turn) (past : List PastEvent) (command : Command)
+        → IsRequested first (server_with_client s) (turn_with (octets_arrived (3 ∷ [])) reported) past
         command → ⊥ }
-    ensures refused { (first s : State) (octet : ℕ) (octets : List ℕ) (told : Turn)
+    ensures refused { (first s : State) (octet : ℕ) (octets : List ℕ) (reported : Turn)
         (past : List PastEvent) (command : Command)
-        → IsOrdered first (server_with_client s) (turn_with (octets_refused (octet ∷ octets)) told)
+        → IsRequested first (server_with_client s) (turn_with (octets_refused (octet ∷ octets)) reported)
         past
         command → ⊥ }
     ensures unscanned { (first : State) (h : ServerData) (t : DoneTurn) (command : Command)
-        → IsOrdered first h t [] command → ⊥ }
+        → IsRequested first h t [] command → ⊥ }
     ensures old { (first s : State) (h : ServerData) (t : DoneTurn) (step : Step)
         (command : Command)
-        → IsOrdered first h (record t { now = first.scan_max_age_ms + 1 })
+        → IsRequested first h (record t { now = first.scan_max_age_ms + 1 })
         (scan_past s step ∷ []) command → ⊥ }
     ensures lost { (first : State) (h : ServerData) (t : DoneTurn) (past : List PastEvent)
-        (command : Command) → h.device.is_lost ≡ true → IsOrdered first h t past command → ⊥ }
+        (command : Command) → h.device.is_lost ≡ true → IsRequested first h t past command → ⊥ }
     ensures told_lost { (first : State) (h : ServerData) (t : DoneTurn) (past : List PastEvent)
         (command : Command) → IsTurn h t → t.given.is_lost ≡ true
-        → IsOrdered first h t past command → ⊥ }
+        → IsRequested first h t past command → ⊥ }
     ensures quiet { (first : State) (h : ServerData) (t u : DoneTurn) (past : List PastEvent)
-        → t.told.commands ≡ [] → u.told.commands ≡ [] → AreOrdered first h past (t ∷ u ∷ []) }
-    ensures unordered { (first : State) (h : ServerData) (t : DoneTurn) (told : Turn)
-        (past : List PastEvent) (command : Command) → Contains told.commands command
-        → AreOrdered first h past (t ∷ turn_with no_octets told ∷ []) → ⊥ }
+        → t.reported.commands ≡ [] → u.reported.commands ≡ [] → AreRequested first h past (t ∷ u ∷ []) }
+    ensures unordered { (first : State) (h : ServerData) (t : DoneTurn) (reported : Turn)
+        (past : List PastEvent) (command : Command) → Contains reported.commands command
+        → AreRequested first h past (t ∷ turn_with no_octets reported ∷ []) → ⊥ }
 {}
 
 /// What obeys a rule, in small runs. The rule that switch 0 is never released for opening is obeyed

@@ -10,10 +10,10 @@ use Rattle.bay_device.specs.declared.fault.StepFault.{StepFault}
 use Rattle.bay_io.specs.Sent.{Finishes, Puts}
 use Rattle.bay_io.specs.Watched.{WriterState}
 use Rattle.bay_io.specs.declared.outbox.WriteFault.{WriteFault}
-use Rattle.cmd_replay.specs.Answering.{Does, FinishesLogs}
+use Rattle.cmd_replay.specs.Answering.{AppliesEvent, FinishesLogs}
 use Rattle.cmd_replay.specs.LineAnswers.{Replaying, event_answer, memory_answer, named_answer, unread}
 use Rattle.bay_report.specs.Lines.{step_text}
-use Rattle.bay_trace.specs.Resolving.{anywhere, count_of, placed_event}
+use Rattle.bay_trace.specs.Resolving.{without_address, octet_count, resolved_event}
 use Rattle.bay_trace.specs.Trace.{NamedData}
 use Rattle.bay_trace.proofs.PlacingLemmas.{same-anywhere}
 
@@ -21,9 +21,9 @@ use Rattle.bay_trace.proofs.PlacingLemmas.{same-anywhere}
 pub Does-same : {W : Type 0} (contents : W → Option (List ℕ)) (asks : W → WriteCall → W → Type 0)
     (old : WriterState W) (now : ℕ)
     (event other : Event) (before : State) (new : WriterState W) (after : State)
-    → anywhere event ≡ other → Does contents asks old now event before new after
-    → Does contents asks old now other before new after
-Does-same contents asks old now event other before new after e d =
+    → without_address event ≡ other → AppliesEvent contents asks old now event before new after
+    → AppliesEvent contents asks old now other before new after
+AppliesEvent-same contents asks old now event other before new after e d =
     let same : outcome d.choice now event before ≡ outcome d.choice now other before =
     same-anywhere d.choice now event before ∙ ap (λ f. outcome d.choice now f before) e in
     record {
@@ -31,7 +31,7 @@ Does-same contents asks old now event other before new after e d =
       text = subst (λ (o : Outcome). Puts contents asks old (step_text now o.answer o.after) new)
           same
           d.text;
-      left_is = d.left_is ∙ ap (λ (o : Outcome). o.after) same;
+      after_is = d.after_is ∙ ap (λ (o : Outcome). o.after) same;
     }
 
 -- an event is done where the text of its answer is put
@@ -41,25 +41,25 @@ pub Does-put : {W : Type 0} (contents : W → Option (List ℕ)) (asks : W → W
     → answer ≡ (outcome choice now event before).answer
     → after ≡ (outcome choice now event before).after
     → Puts contents asks old (step_text now answer after) new
-    → Does contents asks old now event before new after
-Does-put contents asks old now event before new after choice answer answered left put =
+    → AppliesEvent contents asks old now event before new after
+AppliesEvent-put contents asks old now event before new after choice answer answered left put =
     record {
       choice = choice;
       text = subst (λ t. Puts contents asks old t new) (ap₂ (step_text now) answered left) put;
-      left_is = left;
+      after_is = left;
     }
 
 -- ---- what is taken for a line
 
-pub memory-said : (now : ℕ) (event : NamedData) (r : Replaying) → r.room < count_of event
+pub memory-said : (now : ℕ) (event : NamedData) (r : Replaying) → r.room < octet_count event
     → named_answer unread now event r ≡ memory_answer r
-memory-said now event r lt = by_test (nat_lt r.room (count_of event)) refl
+memory-said now event r lt = by_test (nat_lt r.room (octet_count event)) refl
   where
-    by_test : (v : Bool) → nat_lt r.room (count_of event) ≡ v
+    by_test : (v : Bool) → nat_lt r.room (octet_count event) ≡ v
         → named_answer unread now event r ≡ memory_answer r
     by_test true is =
         ap (λ v. cond v (memory_answer r)
-        (event_answer None now (placed_event r.device event) (count_of event) r)) is
+        (event_answer None now (resolved_event r.device event) (octet_count event) r)) is
     by_test false is = absurd (grind (arith, nat_tests))
 
 -- ---- the last line of a trace

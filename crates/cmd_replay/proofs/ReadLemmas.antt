@@ -4,7 +4,7 @@ use Rattle.bay_io.specs.Calls.{ReadCall}
 use Rattle.bay_io.specs.Input.{FailsAs, IsEnded, is_read_failure, octets_of}
 use Rattle.bay_io.specs.declared.input.ReadFault.{ReadFault}
 use Rattle.bay_io.specs.declared.input.ReadFault.TheVariants.{TooLong, Failed, OutOfMemory}
-use Rattle.cmd_replay.specs.Replay.{IsReplay, IsReport, UnreadInput}
+use Rattle.cmd_replay.specs.Replay.{ReplayReport, IsReport, UnreadInputReport}
 use Rattle.cmd_replay.specs.Scenario.{scenario_limit}
 use Rattle.bay_report.proofs.ReportLemmas.{chosen, other}
 
@@ -12,7 +12,7 @@ use Rattle.bay_report.proofs.ReportLemmas.{chosen, other}
 pub read-replay : (input : Option (List ℕ)) (scenario : List ℕ) (failed : Bool) → failed ≡ false
     → IfSome input (λ octets. scenario ≡ octets) → length scenario ≤ scenario_limit
     → (log : Option (List ℕ)) (text : List ℕ) (status : ℕ) → IsReport scenario log text status
-    → IsReplay input failed log text status
+    → ReplayReport input failed log text status
 read-replay input scenario failed off is within log text status told =
     other _ failed off (inl (scenario, is, within, inl told))
 
@@ -21,8 +21,8 @@ pub unread-replay : (input : Option (List ℕ)) (fault : ReadFault) (failed : Bo
     → failed ≡ is_read_failure {A = List ℕ} (Err fault)
     → (fault ≡ TooLong → IfSome input (λ octets. scenario_limit < length octets))
     → (fault ≡ OutOfMemory → IfSome input (λ octets. length octets ≤ scenario_limit))
-    → (log : Option (List ℕ)) (text : List ℕ) (status : ℕ) → UnreadInput fault log text status
-    → IsReplay input failed log text status
+    → (log : Option (List ℕ)) (text : List ℕ) (status : ℕ) → UnreadInputReport fault log text status
+    → ReplayReport input failed log text status
 unread-replay input TooLong failed off over few log text status told =
     other _ failed off (inr (told, over refl))
 unread-replay input (Failed kind) failed on over few log text status told =

@@ -13,21 +13,21 @@ use Rattle.bay_device.proofs.LoadedLemmas.{device-loaded, loaded-idle, loaded-ru
 use Rattle.bay_device.proofs.MeaningLemmas.{means-step}
 use Rattle.bay_device.proofs.RunLemmas.{tells-backed}
 use Rattle.bay_device.proofs.ToldLemmas.{idle-talks}
-use Rattle.bay_load.specs.Loads.{IsCompiled, LoadData, file_of, load_of, text_of}
+use Rattle.bay_load.specs.Loads.{IsCompiled, LoadData, parsed_bay, load_of, parsed_program}
 use Rattle.bay_load.specs.declared.load.Form.TheVariants.{Logic}
 use Rattle.bay_report.specs.Report.{report_text}
 use Rattle.bay_report.specs.TextLines.{lines_of}
-use Rattle.cmd_replay.specs.Replay.{DeviceReport, LoadReport, LoadsReport}
+use Rattle.cmd_replay.specs.Replay.{DeviceReport, LoadedTraceReport, PartsLoadReport}
 use Rattle.cmd_replay.specs.Scenario.{ScenarioParts}
 use Rattle.cmd_replay.specs.History.{EachPast, answers_of, device_after, events_of}
-use Rattle.cmd_replay.specs.Runs.{IsBlank, IsOfRun, IsOneRun, IsRun}
+use Rattle.cmd_replay.specs.Runs.{IsBlank, IsTextOfRun, IsGuardedRun, IsRun}
 use Rattle.cmd_replay.proofs.BudgetLemmas.{step-halts}
 use Rattle.cmd_replay.proofs.HistoryLemmas.{past-came, past-does, past-fresh, past-remote, past-so, past-tells}
 use Rattle.cmd_replay.proofs.TraceLemmas.{goes}
 
 -- what has happened to a device since load is one run of it
 pub one-run : (first : State) (past : List PastEvent) → IsHistory [] first → IsIdle first
-    → EachPast Steps first past → IsOneRun first past (device_after first past)
+    → EachPast Steps first past → IsGuardedRun first past (device_after first past)
 one-run first past begin idle steps =
     let tells =
     past-tells first past (ap (λ talks. length talks) idle.closed) (idle-talks first idle) steps
@@ -46,9 +46,9 @@ one-run first past begin idle steps =
     }
 
 module _ (bay logic : List ℕ) (first : State)
-    (loaded : IsLoaded (file_of bay) (IsCompiled (text_of logic)) first) where
+    (loaded : IsLoaded (parsed_bay bay) (IsCompiled (parsed_program logic)) first) where
   pub idle : IsIdle first
-  idle = loaded-idle (file_of bay) (IsCompiled (text_of logic)) first loaded
+  idle = loaded-idle (parsed_bay bay) (IsCompiled (parsed_program logic)) first loaded
 
   pub run-of : (trace : List ℕ) (log : Option (List ℕ)) (text : List ℕ) (status : ℕ)
       → DeviceReport first (lines_of trace) log text status
@@ -78,14 +78,14 @@ module _ (bay logic : List ℕ) (first : State)
 
 -- the device of a program's text
 pub run-loaded : (bay logic : List ℕ) (l : LoadData) → load_of bay logic ≡ Ok l
-    → IsLoaded (file_of bay) (IsCompiled (text_of logic)) (device_of l)
+    → IsLoaded (parsed_bay bay) (IsCompiled (parsed_program logic)) (device_of l)
 run-loaded bay logic l loads = device-loaded bay Logic logic (device_of l) (l, loads, refl)
 
 -- What is printed for parts that load is of a run.
 pub of-run : (parts : ScenarioParts) (log : Option (List ℕ)) (text : List ℕ) (status : ℕ)
-    → LoadsReport parts log text status → IsOfRun parts log text status
+    → PartsLoadReport parts log text status → IsTextOfRun parts log text status
 of-run parts log text status (inl told) l loads =
     inr (run-of parts.bay parts.logic (device_of l) (run-loaded parts.bay parts.logic l loads)
     parts.trace log text status
-    (subst (λ loaded. LoadReport loaded parts.trace log text status) loads told))
+    (subst (λ loaded. LoadedTraceReport loaded parts.trace log text status) loads told))
 of-run parts log text status (inr refused) l loads = inl refused

@@ -7,14 +7,14 @@ use Rattle.bay_device.specs.Fresh.{PastEvent}
 use Rattle.bay_device.specs.Outcomes.{Outcome, outcome}
 use Rattle.bay_device.specs.Steps.{Steps}
 use Rattle.bay_device.specs.declared.event.Event.{Event}
-use Rattle.bay_trace.specs.Resolving.{count_of, placed_event}
+use Rattle.bay_trace.specs.Resolving.{octet_count, resolved_event}
 use Rattle.bay_trace.specs.Trace.{LineData, NamedData, at_moment, blank, trace_line_of}
 use Rattle.bay_report.specs.Lines.{step_text}
 use Rattle.cmd_replay.specs.LineAnswers.{Choice, LineAnswer, Replaying, event_answer, heard, line_answer, memory_answer, named_answer, unread}
-use Rattle.bay_report.specs.LogLines.{IsReported}
+use Rattle.bay_report.specs.LogLines.{IsLoggedOutput}
 use Rattle.cmd_replay.specs.Replay.{TraceReport, last_log}
 use Rattle.cmd_replay.specs.History.{EachPast, device_after}
-use Rattle.cmd_replay.specs.Runs.{AreOfLines, EndsAs, IsBlank, printed_of}
+use Rattle.cmd_replay.specs.Runs.{AreLineEvents, EndsAs, IsBlank, past_text}
 
 -- ---- one more line
 
@@ -23,7 +23,7 @@ only P line is zero d within = is
 only P line is (suc k) d within = absurd (omega arith)
 
 blank-more : (first : State) (past : List PastEvent) (done : List (List ℕ)) (line : List ℕ)
-    → IsBlank line → AreOfLines first past done → AreOfLines first past (done ++ line ∷ [])
+    → IsBlank line → AreLineEvents first past done → AreLineEvents first past (done ++ line ∷ [])
 blank-more first [] done line is of =
     All-append IsBlank done (line ∷ []) of (only IsBlank line is)
 blank-more first (p ∷ past) done line is of = (
@@ -51,10 +51,10 @@ pub record Ends (first : State) (past : List PastEvent) (done lines : List (List
   pub all : List (List ℕ)
   pub rest : List (List ℕ)
   pub split : done ++ lines ≡ all ++ rest
-  pub events : AreOfLines first whole all
+  pub events : AreLineEvents first whole all
   pub ending : List ℕ
   pub ends : EndsAs (length all) rest ending status
-  pub printed : printed_of past ++ text ≡ printed_of whole ++ ending
+  pub printed : past_text past ++ text ≡ past_text whole ++ ending
 
 -- a device that a trace has come to
 abbrev at : State → List PastEvent → ℕ → Replaying
@@ -64,14 +64,14 @@ at first past room = record { device = device_after first past; room = room }
 abbrev Later : Option (List ℕ) → State → List (List ℕ) → List (List ℕ) → Type 0
 Later log first done lines =
     (past : List PastEvent) (room : ℕ) (text : List ℕ) (status : ℕ) → EachPast Steps first past
-    → AreOfLines first past done
+    → AreLineEvents first past done
     → TraceReport (at first past room) (length done + 1) lines log text status
     → Ends first past done lines text status
 
 -- what a line's answer comes to
 abbrev Told : List ℕ → LineAnswer → ℕ → List (List ℕ) → Option (List ℕ) → List ℕ → ℕ → Type 0
 Told line answer k lines log text status =
-    MatchBool answer.is_last (IsReported (last_log k line) answer.text 3 log text status)
+    MatchBool answer.is_last (IsLoggedOutput (last_log k line) answer.text 3 log text status)
     ((rest : List ℕ) × (text ≡ answer.text ++ rest)
     × TraceReport answer.after (k + 1) lines log rest status)
 
@@ -81,7 +81,7 @@ count-more done line = omega (arith, length-append done (line ∷ []))
 
 module _ (log : Option (List ℕ)) (first : State) (done : List (List ℕ)) (line : List ℕ)
     (lines : List (List ℕ)) (later : Later log first (done ++ line ∷ []) lines) (past : List PastEvent)
-    (steps : EachPast Steps first past) (of : AreOfLines first past done) (room : ℕ) where
+    (steps : EachPast Steps first past) (of : AreLineEvents first past done) (room : ℕ) where
   -- the trace ends at the line
   stops : (text : List ℕ) (status : ℕ) → EndsAs (length done) (line ∷ lines) text status
       → Ends first past done (line ∷ lines) text status
@@ -124,7 +124,7 @@ module _ (log : Option (List ℕ)) (first : State) (done : List (List ℕ)) (lin
   module _ (m : ℕ) (named : NamedData) (reads : trace_line_of line ≡ Some (at_moment m named))
     where
       abbrev event : Event
-      event = placed_event (device_after first past) named
+      event = resolved_event (device_after first past) named
 
       abbrev done_by : Option ℕ → Outcome
       done_by choice = outcome choice m event (device_after first past)
@@ -138,7 +138,7 @@ module _ (log : Option (List ℕ)) (first : State) (done : List (List ℕ)) (lin
       }
 
       goes-event : (choice : Option ℕ) (text : List ℕ) (status : ℕ)
-          → Told line (event_answer choice m event (count_of named) (at first past room))
+          → Told line (event_answer choice m event (octet_count named) (at first past room))
           (length done + 1) lines log text status
           → Ends first past done (line ∷ lines) text status
       goes-event choice text status told =
@@ -146,7 +146,7 @@ module _ (log : Option (List ℕ)) (first : State) (done : List (List ℕ)) (lin
           let more : List ℕ = step_text m p.answer p.after in
           let rest : List ℕ = told.0 in
           let e =
-          later (p ∷ past) (max room (count_of named)) rest status
+          later (p ∷ past) (max room (octet_count named)) rest status
           (record { choice = choice; answered = refl; left = refl }, steps) (
             done,
             record {
@@ -160,7 +160,7 @@ module _ (log : Option (List ℕ)) (first : State) (done : List (List ℕ)) (lin
             },
             of,
           )
-          (subst (λ k. TraceReport (at first (p ∷ past) (max room (count_of named))) k lines log
+          (subst (λ k. TraceReport (at first (p ∷ past) (max room (octet_count named))) k lines log
           rest
           status) (count-more done line) told.2) in
           on text status (record {
@@ -172,13 +172,13 @@ module _ (log : Option (List ℕ)) (first : State) (done : List (List ℕ)) (lin
             events = e.events;
             ending = e.ending;
             ends = e.ends;
-            printed = ap (λ t. printed_of past ++ t) told.1
-                ∙ sym (append_assoc (printed_of past) more rest) ∙ e.printed;
+            printed = ap (λ t. past_text past ++ t) told.1
+                ∙ sym (append_assoc (past_text past) more rest) ∙ e.printed;
           })
 
       goes-room : (b : Bool) (text : List ℕ) (status : ℕ)
           → Told line (cond b (memory_answer (at first past room))
-          (event_answer None m event (count_of named) (at first past room))) (length done + 1) lines
+          (event_answer None m event (octet_count named) (at first past room))) (length done + 1) lines
           log text status
           → Ends first past done (line ∷ lines) text status
       goes-room true text status told =
@@ -191,7 +191,7 @@ module _ (log : Option (List ℕ)) (first : State) (done : List (List ℕ)) (lin
           text status
           → Ends first past done (line ∷ lines) text status
       goes-named unread text status told =
-          goes-room (nat_lt room (count_of named)) text status told
+          goes-room (nat_lt room (octet_count named)) text status told
       goes-named (heard choice) text status told = goes-event choice text status told
 
   goes-line : (choice : Choice) (d : Option LineData) (text : List ℕ) (status : ℕ)
@@ -218,7 +218,7 @@ goes log first done [] past room text status steps of told = record {
   events = of;
   ending = [];
   ends = (refl, told.1.1);
-  printed = ap (λ t. printed_of past ++ t) told.1.0;
+  printed = ap (λ t. past_text past ++ t) told.1.0;
 }
 goes log first done (line ∷ lines) past room text status steps of told =
     goes-line log first done line lines (goes log first (done ++ line ∷ []) lines) past steps of

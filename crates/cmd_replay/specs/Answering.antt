@@ -11,7 +11,7 @@ use Rattle.cmd_replay.specs.LineAnswers.{Choice, LineAnswer, Replaying}
 use Rattle.cmd_replay.specs.declared.answer.ReplayEnd.{ReplayEnd}
 use Rattle.cmd_replay.specs.declared.answer.ReplayEnd.TheVariants.{Unreadable, OutOfMemory}
 use Rattle.bay_report.specs.Lines.{step_text}
-use Rattle.bay_report.specs.LogLines.{LogsSome}
+use Rattle.bay_report.specs.LogLines.{LogsIfAny}
 
 -- a replay ended at a line that is not valid
 abbrev pub is_unreadable : ReplayEnd → Bool
@@ -19,25 +19,25 @@ is_unreadable Unreadable = true
 is_unreadable OutOfMemory = false
 
 -- an event was applied, and its lines were put into the writer
-pub record Does {W : Type 0} (contents : W → Option (List ℕ)) (asks : W → WriteCall → W → Type 0)
+pub record AppliesEvent {W : Type 0} (contents : W → Option (List ℕ)) (asks : W → WriteCall → W → Type 0)
     (old : WriterState W) (now : ℕ)
     (event : Event) (before : State) (new : WriterState W) (after : State) : Type 0 where
   pub choice : Option ℕ
   pub text : Puts contents asks old
       (step_text now (outcome choice now event before).answer
       (outcome choice now event before).after) new
-  pub left_is : after ≡ (outcome choice now event before).after
+  pub after_is : after ≡ (outcome choice now event before).after
 
 -- a line was answered, with some choice: its text was put into the writer, and if the answer is not
 -- the last, the state after it is the one that results
-pub record Answers {W : Type 0} (contents : W → Option (List ℕ)) (asks : W → WriteCall → W → Type 0)
+pub record AnswersLine {W : Type 0} (contents : W → Option (List ℕ)) (asks : W → WriteCall → W → Type 0)
     (old : WriterState W)
     (said : Choice → LineAnswer) (new : WriterState W) (after : Replaying) (is_last : Bool)
     : Type 0 where
   pub choice : Choice
   pub text : Puts contents asks old (said choice).text new
   pub last : is_last ≡ (said choice).is_last
-  pub left_is : is_last ≡ false → after ≡ (said choice).after
+  pub after_is : is_last ≡ false → after ≡ (said choice).after
 
 -- a writer was flushed, with this status, and then a line was logged, if there is one; after a
 -- failure nothing was logged
@@ -47,5 +47,5 @@ pub record FinishesLogs {W : Type 0} (contents : W → Option (List ℕ))
   pub between : WriterState W
   pub finishes : Finishes contents asks old between result
   pub status_is : IfOk result (λ answered. answered ≡ status)
-  pub logged : MatchResult result (λ answered. LogsSome contents asks between line new)
+  pub logged : MatchResult result (λ answered. LogsIfAny contents asks between line new)
       (λ fault. new ≡ between)

@@ -16,9 +16,9 @@ device_after first (p ∷ past) = p.after
 -- the device after it.
 abbrev pub EachPast : (ℕ → Event → State → Result Step StepFault → State → Type 0) → State
     → List PastEvent → Type 0
-EachPast Does first [] = Unit {0}
-EachPast Does first (p ∷ past) =
-    Does p.now p.event (device_after first past) p.answer p.after × EachPast Does first past
+EachPast Holds first [] = Unit {0}
+EachPast Holds first (p ∷ past) =
+    Holds p.now p.event (device_after first past) p.answer p.after × EachPast Holds first past
 
 -- Each command follows a fresh scan among the events before it.
 abbrev pub AllFresh : ℕ → List PastEvent → Type 0

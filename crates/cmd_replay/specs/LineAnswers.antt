@@ -3,7 +3,7 @@ use Rattle.std.specs.Prelude.{ℕ, max, nat_lt, Bool, true, false, List, codes, 
 use Rattle.bay_device.specs.Device.{State}
 use Rattle.bay_device.specs.Outcomes.{outcome}
 use Rattle.bay_device.specs.declared.event.Event.{Event}
-use Rattle.bay_trace.specs.Resolving.{count_of, placed_event}
+use Rattle.bay_trace.specs.Resolving.{octet_count, resolved_event}
 use Rattle.bay_trace.specs.Trace.{NamedData, LineData, blank, at_moment}
 use Rattle.bay_report.specs.Lines.{step_text, unreadable_text}
 
@@ -42,11 +42,11 @@ memory_answer r = record { text = codes "fault memory\n"; is_last = true; after 
 -- buffer holds
 abbrev pub named_answer : Choice → ℕ → NamedData → Replaying → LineAnswer
 named_answer unread now event r =
-    if nat_lt r.room (count_of event)
+    if nat_lt r.room (octet_count event)
     then memory_answer r
-    else event_answer None now (placed_event r.device event) (count_of event) r
+    else event_answer None now (resolved_event r.device event) (octet_count event) r
 named_answer (heard choice) now event r =
-    event_answer choice now (placed_event r.device event) (count_of event) r
+    event_answer choice now (resolved_event r.device event) (octet_count event) r
 
 -- the answer to line k of the trace
 abbrev pub line_answer : Choice → ℕ → Option LineData → Replaying → LineAnswer

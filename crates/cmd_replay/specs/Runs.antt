@@ -10,14 +10,14 @@ use Rattle.bay_device.specs.Meaning.{HaltsAt, MeansAt, Runs}
 use Rattle.bay_device.specs.Operates.{AllOperate}
 use Rattle.bay_device.specs.Steps.{Steps}
 use Rattle.bay_device.specs.ObservedRuns.{observed_in_run}
-use Rattle.bay_load.specs.Loads.{IsCompiled, LoadData, file_of, load_of, text_of}
+use Rattle.bay_load.specs.Loads.{IsCompiled, LoadData, parsed_bay, load_of, parsed_program}
 use Rattle.bay_load.specs.Report.{IsReport as IsReportOf}
 use Rattle.bay_load.specs.declared.error.LoadError.TheVariants.{OutOfMemory}
 use Rattle.bay_load.specs.declared.report.Report.{Report}
-use Rattle.bay_trace.specs.Resolving.{placed_event}
+use Rattle.bay_trace.specs.Resolving.{resolved_event}
 use Rattle.bay_trace.specs.Trace.{NamedData, at_moment, blank, trace_line_of}
 use Rattle.bay_report.specs.Lines.{step_text, unreadable_text}
-use Rattle.bay_report.specs.LogLines.{Refuses}
+use Rattle.bay_report.specs.LogLines.{RefusalReport}
 use Rattle.bay_report.specs.Report.{report_text}
 use Rattle.bay_report.specs.TextLines.{lines_of}
 use Rattle.cmd_replay.specs.History.{AllFresh, AllRemote, EachPast, answers_of, device_after, events_of}
@@ -31,28 +31,28 @@ IsBlank line = trace_line_of line ≡ Some blank
 
 -- The last of some lines that is not empty has this event at its moment, by the names of the device
 -- before it; `before` are the lines before it, and all lines after it are empty.
-pub record IsLast (s : State) (p : PastEvent) (before lines : List (List ℕ)) : Type 0 where
+pub record IsLastEvent (s : State) (p : PastEvent) (before lines : List (List ℕ)) : Type 0 where
   pub line : List ℕ
   pub blanks : List (List ℕ)
   pub split : lines ≡ before ++ line ∷ blanks
   pub named : NamedData
   pub reads : trace_line_of line ≡ Some (at_moment p.now named)
-  pub event : p.event ≡ placed_event s named
+  pub event : p.event ≡ resolved_event s named
   pub blank : All IsBlank blanks
 
 -- The events are those of these lines, one for each line that is not empty.
-abbrev pub AreOfLines : State → List PastEvent → List (List ℕ) → Type 0
-AreOfLines first [] lines = All IsBlank lines
-AreOfLines first (p ∷ past) lines =
-    (before : List (List ℕ)) × IsLast (device_after first past) p before lines
-    × AreOfLines first past before
+abbrev pub AreLineEvents : State → List PastEvent → List (List ℕ) → Type 0
+AreLineEvents first [] lines = All IsBlank lines
+AreLineEvents first (p ∷ past) lines =
+    (before : List (List ℕ)) × IsLastEvent (device_after first past) p before lines
+    × AreLineEvents first past before
 
 -- ---- the text
 
 -- what is printed for events, one after the other
-abbrev pub printed_of : List PastEvent → List ℕ
-printed_of [] = []
-printed_of (p ∷ past) = printed_of past ++ step_text p.now p.answer p.after
+abbrev pub past_text : List PastEvent → List ℕ
+past_text [] = []
+past_text (p ∷ past) = past_text past ++ step_text p.now p.answer p.after
 
 -- How a trace ends after `done` lines: after its last line; or at a line that is not valid, whose
 -- number is printed, or for whose octets memory ran out.
@@ -65,22 +65,22 @@ EndsAs done (line ∷ lines) ending status =
 
 -- The text and the status of a trace that is replayed on a device, by these events: the line of its
 -- load, what is printed for the events, and how it ends.
-pub record IsTextOf (first : State) (past : List PastEvent) (trace text : List ℕ) (status : ℕ)
+pub record IsRunText (first : State) (past : List PastEvent) (trace text : List ℕ) (status : ℕ)
     : Type 0 where
   pub report : Report
   pub reported : IsReportOf first.machine.image report
   pub lines : List (List ℕ)
   pub rest : List (List ℕ)
   pub split : lines_of trace ≡ lines ++ rest
-  pub events : AreOfLines first past lines
+  pub events : AreLineEvents first past lines
   pub ending : List ℕ
   pub ends : EndsAs (length lines) rest ending status
-  pub whole : text ≡ report_text report ++ (printed_of past ++ ending)
+  pub whole : text ≡ report_text report ++ (past_text past ++ ending)
 
 -- ---- a run
 
 -- The events of a device since load, which led from the first state to the last.
-pub record IsOneRun (first : State) (past : List PastEvent) (last : State) : Type 0 where
+pub record IsGuardedRun (first : State) (past : List PastEvent) (last : State) : Type 0 where
   pub came : IsHistory past last
   -- Each command is one that the interlocking releases, on a fresh scan, while no switch is
   -- operating, and something is sent with it;
@@ -104,16 +104,16 @@ pub record IsOneRun (first : State) (past : List PastEvent) (last : State) : Typ
 -- scenario.
 pub record IsRun (parts : ScenarioParts) (first : State) (text : List ℕ) (status : ℕ)
     : Type 0 where
-  pub loaded : IsLoaded (file_of parts.bay) (IsCompiled (text_of parts.logic)) first
+  pub loaded : IsLoaded (parsed_bay parts.bay) (IsCompiled (parsed_program parts.logic)) first
   pub past : List PastEvent
   pub steps : EachPast Steps first past
-  pub printed : IsTextOf first past parts.trace text status
+  pub printed : IsRunText first past parts.trace text status
   pub runs : Runs loaded.made.checked first
-  pub guarded : IsOneRun first past (device_after first past)
+  pub guarded : IsGuardedRun first past (device_after first past)
 
 -- If the parts of a scenario load to a device, the text and the status are those of a run of it, or
 -- those of a load for which memory ran out.
-abbrev pub IsOfRun : ScenarioParts → Option (List ℕ) → List ℕ → ℕ → Type 0
-IsOfRun parts log text status =
+abbrev pub IsTextOfRun : ScenarioParts → Option (List ℕ) → List ℕ → ℕ → Type 0
+IsTextOfRun parts log text status =
     (loaded : LoadData) → load_of parts.bay parts.logic ≡ Ok loaded
-    → Refuses OutOfMemory log text status ⊎ IsRun parts (device_of loaded) text status
+    → RefusalReport OutOfMemory log text status ⊎ IsRun parts (device_of loaded) text status

@@ -1,9 +1,9 @@
 // Answers a line of the trace: applies its event, and writes the lines of the answer.
 ghost use Rattle.std.specs.Prelude.{◌≡◌, Some, IfSome, is_none, is_some};
 ghost use Rattle.bay_device.specs.declared.event.Event.TheVariants.{Scan};
-ghost use Rattle.cmd_replay.specs.Answering.{Answers, Does, is_unreadable};
+ghost use Rattle.cmd_replay.specs.Answering.{AnswersLine, AppliesEvent, is_unreadable};
 ghost use Rattle.cmd_replay.specs.LineAnswers.{line_answer, named_answer};
-ghost use Rattle.bay_trace.specs.Resolving.{placed_event};
+ghost use Rattle.bay_trace.specs.Resolving.{resolved_event};
 ghost use Rattle.bay_trace.specs.Trace.{at_moment, contact, scan, trace_line_of};
 ghost use Rattle.bay_trace.specs.TraceView.{named_view};
 
@@ -35,7 +35,7 @@ fn answer_event<W: Sink>(
     moment: u64,
     event: Event<'_>,
 )
-    ensures { Does W.contents W.does writer.old moment event.entry device.old writer.new
+    ensures { AppliesEvent W.contents W.does writer.old moment event.entry device.old writer.new
         device.new }
 {
     let answer = device.step(moment, event);
@@ -50,8 +50,8 @@ fn answer_contact<W: Sink>(
     id: &str,
     position: Dbpos,
 )
-    ensures { Does W.contents W.does writer.old moment
-        (placed_event device.old (contact id.now position)) device.old writer.new device.new }
+    ensures { AppliesEvent W.contents W.does writer.old moment
+        (resolved_event device.old (contact id.now position)) device.old writer.new device.new }
 {
     let switch = resolve_switch(device, id);
     let answer = device.contact(moment, switch, position);
@@ -67,7 +67,7 @@ fn answer_scan<W: Sink>(
     moment: u64,
 )
     requires { trace_line_of line.now ≡ Some (at_moment moment scan) }
-    ensures { Does W.contents W.does writer.old moment Scan device.old writer.new device.new }
+    ensures { AppliesEvent W.contents W.does writer.old moment Scan device.old writer.new device.new }
 {
     let digits = scan_digits(line);
     let answer = device.scan(moment);
@@ -83,7 +83,7 @@ fn answer_any<W: Sink>(
     moment: u64,
     event: NamedEvent<'_>,
 ) -> bool
-    ensures { Answers W.contents W.does writer.old
+    ensures { AnswersLine W.contents W.does writer.old
         (λ choice. named_answer choice moment (named_view event.entry)
         (record { device = device.old; room = octets.old.room })) writer.new
         (record { device = device.new; room = octets.new.room }) result }
@@ -113,7 +113,7 @@ fn answer_named<W: Sink>(
     event: NamedEvent<'_>,
 ) -> bool
     requires { trace_line_of line.now ≡ Some (at_moment moment (named_view event)) }
-    ensures { Answers W.contents W.does writer.old
+    ensures { AnswersLine W.contents W.does writer.old
         (λ choice. named_answer choice moment (named_view event.entry)
         (record { device = device.old; room = octets.old.room })) writer.new
         (record { device = device.new; room = octets.new.room }) result }
@@ -140,7 +140,7 @@ pub fn replay_line<W: Sink>(
     number: usize,
     line: &[u8],
 ) -> Option<ReplayEnd>
-    ensures answers { Answers W.contents W.does writer.old
+    ensures answers { AnswersLine W.contents W.does writer.old
         (λ choice. line_answer choice number (trace_line_of line.now)
         (record { device = device.old; room = octets.old.room })) writer.new
         (record { device = device.new; room = octets.new.room }) (is_some result) }

@@ -1,7 +1,7 @@
 // Reads a scenario, replays it, and writes its report.
 ghost use Rattle.std.specs.Prelude.{◌≡◌, ◌+◌, ◌≤◌, length, is_none};
 ghost use Rattle.cmd_replay.specs.Answering.{FinishesLogs, is_unreadable};
-ghost use Rattle.cmd_replay.specs.Replay.{DeviceReport, LoadsReport, IsReport, IsReplay, Replays, ReplaysReads, last_log};
+ghost use Rattle.cmd_replay.specs.Replay.{DeviceReport, PartsLoadReport, IsReport, ReplayReport, Replays, ReplaysReads, last_log};
 ghost use Rattle.bay_report.specs.LogLines.{PrintsLogs};
 ghost use Rattle.cmd_replay.specs.Scenario.{scenario_limit};
 ghost use Rattle.bay_report.specs.TextLines.{lines_of};
@@ -30,7 +30,7 @@ const SCENARIO_LIMIT: usize = 16_777_216;
 
 // Flushes the report at the line with this number, at which the replay ends, and logs the line if
 // it is not valid.
-fn end_at<W: Sink>(
+fn end_replay<W: Sink>(
     writer: &mut WatchedWriter<W>,
     number: usize,
     line: &[u8],
@@ -68,7 +68,7 @@ fn replay_device<W: Sink>(
     while !rest.is_empty() {
         let (line, after) = split_line(rest);
         match replay_line(writer, device, &mut octets, number, line) {
-            Some(end) => return end_at(writer, number, line, end),
+            Some(end) => return end_replay(writer, number, line, end),
             None => {}
         }
         if writer.has_failed() {
@@ -87,7 +87,7 @@ fn replay_parts<W: Sink>(
     writer: &mut WatchedWriter<W>,
 ) -> Result<u8, WriteFault>
     requires { length scenario.trace.now ≤ scenario_limit }
-    ensures { PrintsLogs W.contents W.does (LoadsReport (scenario_view scenario.entry)) writer.old
+    ensures { PrintsLogs W.contents W.does (PartsLoadReport (scenario_view scenario.entry)) writer.old
         writer.new
         result }
 {
@@ -123,7 +123,7 @@ fn replay_scenario<W: Sink>(
 /// Logs the refusal or the fault, unless memory ran out.
 ///
 /// Fails if a write or a flush fails. A reader or a writer that has already failed is not called.
-pub fn run_replay<R: OctetSource, W: Sink>(
+pub fn replay_reader<R: OctetSource, W: Sink>(
     alloc: Global,
     reader: &mut WatchedReader<R>,
     writer: &mut WatchedWriter<W>,
@@ -132,7 +132,7 @@ pub fn run_replay<R: OctetSource, W: Sink>(
     // a write or a flush has failed, and a prefix of such a text was written. After a whole text
     // the line that goes with it is logged, if there is one.
     ensures printed { PrintsLogs W.contents W.does
-        (IsReplay (R.remaining reader.old.inner) reader.new.has_failed) writer.old writer.new
+        (ReplayReport (R.remaining reader.old.inner) reader.new.has_failed) writer.old writer.new
         result }
     // The scenario is what these reads of the reader returned.
     ensures given { ReplaysReads R.does W.contents W.does reader.old reader.new writer.old
@@ -155,5 +155,5 @@ pub fn replay_run<R: OctetSource + Drop, W: Sink + Drop>(
 {
     let mut reader = WatchedReader::new(reader);
     let mut writer = WatchedWriter::new(writer);
-    run_replay(alloc, &mut reader, &mut writer)
+    replay_reader(alloc, &mut reader, &mut writer)
 }

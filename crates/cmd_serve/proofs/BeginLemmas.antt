@@ -7,7 +7,7 @@ use Rattle.bay_load.specs.declared.load.Form.{Form}
 use Rattle.bay_server_turn.specs.Turns.{ServerData}
 use Rattle.bay_server_turn_laws.specs.Flows.{IsTidy}
 use Rattle.bay_server_turn_laws.proofs.RoomLemmas.{made-tidy}
-use Rattle.cmd_serve.specs.Orders.{AreOrdered}
+use Rattle.cmd_serve.specs.Requests.{AreRequested}
 use Rattle.cmd_serve.specs.Service.{AreTurns, DoneTurn, IsBegun}
 use Rattle.cmd_serve.proofs.HistoryLemmas.{stands-first}
 use Rattle.cmd_serve.proofs.OrderLemmas.{all-ordered}
@@ -30,7 +30,7 @@ begun-tidy begun is =
 
 pub ordered-from : (begun : ServerData) (turns : List DoneTurn) → IsBegun begun
     → AreTurns begun turns
-    → AreOrdered begun.device begun [] turns
+    → AreRequested begun.device begun [] turns
 ordered-from begun turns is are =
     all-ordered begun.device begun [] turns are (begun-tidy begun is)
     (stands-first begun.device is.loaded)

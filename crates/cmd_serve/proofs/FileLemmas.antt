@@ -16,17 +16,17 @@ use Rattle.bay_io.specs.Calls.{WriteCall}
 use Rattle.bay_io.specs.Watched.{WriterState}
 use Rattle.bay_io.specs.declared.outbox.WriteFault.{WriteFault}
 use Rattle.bay_device.proofs.LoadedLemmas.{device-loaded, loaded-runs}
-use Rattle.bay_report.specs.Report.{IsLast, Prints, report_text}
+use Rattle.bay_report.specs.Report.{IsOutput, Prints, report_text}
 use Rattle.bay_load.specs.declared.load.Form.{Form}
 use Rattle.bay_load.specs.declared.load.Form.TheVariants.{Logic, Image}
 use Rattle.bay_replay_laws.specs.ReadBack.{HaveIds}
 use Rattle.bay_server_turn.specs.Calls.{Call}
 use Rattle.bay_server.specs.Host.{HostCall}
-use Rattle.bay_server.specs.ServeReport.{Serving, ServesTurns}
+use Rattle.bay_server.specs.ServeReport.{ServiceState, ServesTurns}
 use Rattle.cmd_serve.specs.Serve.{RunsText, key_of, ServesLoaded, ServesRun}
 use Rattle.cmd_serve.specs.declared.permit.Permit.{Permit}
 use Rattle.cmd_serve.specs.declared.serve.LoadedFiles.{LoadedFiles}
-use Rattle.cmd_serve.specs.declared.serve.Numbers.{Numbers}
+use Rattle.cmd_serve.specs.declared.serve.ServeOptions.{ServeOptions}
 use Rattle.cmd_serve.specs.Service.{DoneTurn, IsBegun, turns_in}
 use Rattle.cmd_serve.proofs.BeginLemmas.{ordered-from}
 use Rattle.cmd_serve.proofs.LiveLemmas.{commands-live}
@@ -85,7 +85,7 @@ answer-fails (Err f) fault e = refl
 module _ {L H W : Type 0} (step : L → Call → L → Type 0) (acts : H → HostCall L → H → Type 0)
     (contents : W → Option (List ℕ)) (asks : W → WriteCall → W → Type 0) where
   -- turns of a server as it was made are one run
-  pub one-run : (turns : ℕ) (before : Serving L H) (old : WriterState W)
+  pub one-run : (turns : ℕ) (before : ServiceState L H) (old : WriterState W)
       (host : H) (new : WriterState W) (answer : Result ℕ WriteFault)
       → ServesTurns step acts contents asks turns before old host new answer
       → IsBegun before.held → HaveIds before.held.device.switches
@@ -103,23 +103,23 @@ module _ {L H W : Type 0} (step : L → Call → L → Type 0) (acts : H → Hos
             begun.loaded;
         ordered = ordered-from before.held done begun are;
         printed = printed-from before.held done begun ids are;
-        live = λ duties supervised. commands-live step acts contents asks duties turns before old
+        live = λ settings supervised. commands-live step acts contents asks settings turns before old
             host new answer serves begun supervised;
       }
 
   -- the line of a load could not be written
-  pub line-fails : (numbers : Numbers) (loaded : LoadedFiles) (report : Report)
+  pub line-fails : (options : ServeOptions) (loaded : LoadedFiles) (report : Report)
       → IsReport loaded.load.image report → (host : H) (old middle : WriterState W)
-      (fault : WriteFault) → Prints contents asks (IsLast (report_text report) 0) old middle
+      (fault : WriteFault) → Prints contents asks (IsOutput (report_text report) 0) old middle
       (Err fault)
       → (answer : Result ℕ WriteFault) → IsErr answer
-      → ServesLoaded step acts contents asks numbers loaded host host old middle answer
-  line-fails numbers loaded report is host old middle fault printed (Ok n) e = absurd cc
-  line-fails numbers loaded report is host old middle fault printed (Err f) e = record {
+      → ServesLoaded step acts contents asks options loaded host host old middle answer
+  line-fails options loaded report is host old middle fault printed (Ok n) e = absurd cc
+  line-fails options loaded report is host old middle fault printed (Err f) e = record {
     report = report;
     is = is;
     middle = middle;
-    told = Err f;
+    reported = Err f;
     printed = printed;
-    goes_on = (refl, refl, refl);
+    continuation = (refl, refl, refl);
   }

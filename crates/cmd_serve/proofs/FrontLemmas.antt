@@ -12,16 +12,16 @@ use Rattle.bay_device.specs.Steps.{OfAssociation}
 use Rattle.bay_device.specs.declared.event.Event.{Event}
 use Rattle.bay_device.specs.declared.event.Event.TheVariants.{Open, Recv, Close, Contact, Input, Measure, BadMeasure, Lost, Scan}
 use Rattle.bay_device.proofs.SameLemmas.{Parts, Same, same-outcome}
-use Rattle.bay_server_turn.specs.Calls.{ReadOutcome, Octets, Silence, Over, Broken}
-use Rattle.bay_server_turn.specs.Turns.{ServerData, Reading, Script, turn_calls, after_turn, event_of, first_of}
+use Rattle.bay_server_turn.specs.Calls.{ReadOutcome, Octets, Silence, StreamEnd, Failure}
+use Rattle.bay_server_turn.specs.Turns.{ServerData, Reading, Script, turn_calls, after_turn, event_of, loss_event}
 use Rattle.bay_server_turn.specs.declared.process_input.ProcessEvent.{ProcessEvent}
 use Rattle.bay_server_turn.specs.declared.process_input.ProcessEvent.TheVariants as process
 use Rattle.bay_server_turn.specs.declared.process_input.ProcessReport.{ProcessReport}
 use Rattle.bay_server_turn.specs.declared.turn_report.CloseReason.{CloseReason}
 use Rattle.bay_server_turn_laws.specs.Causes.{fails_for, has_some, is_queue_full, reports_close}
-use Rattle.bay_server_turn_laws.specs.Events.{ChosenEvent, done_at, surely, turn_events}
+use Rattle.bay_server_turn_laws.specs.Events.{ChosenEvent, outcomes_at, with_memory, turn_events}
 use Rattle.bay_server_turn_laws.specs.Flows.{IsInTime}
-use Rattle.bay_server_turn_laws.specs.Order.{AreClosings, IsClosing, Then, ThenReads, received_events, open_events, open_events_at, read_at, process_events}
+use Rattle.bay_server_turn_laws.specs.Order.{AreClosings, IsClosing, FirstThen, ReadsThen, received_events, open_events, open_events_at, events_of_read, process_events}
 use Rattle.bay_server_turn_laws.proofs.OrderLemmas.{in-order}
 use Rattle.bay_server_turn_laws.proofs.QuietLemmas.{at_any_moment}
 use Rattle.bay_server_turn_laws.proofs.UpLemmas.{outcome-moment}
@@ -79,10 +79,10 @@ brought-of : (a : ℕ) (choice : Option ℕ) (heard : ReadOutcome)
     → AreEarly (received_events a choice heard)
 brought-of a choice (Octets octets) = one-of _ (inl tt)
 brought-of a choice Silence = All-nil IsEarly
-brought-of a choice Over = one-of _ (inl tt)
-brought-of a choice Broken = one-of _ (inl tt)
+brought-of a choice StreamEnd = one-of _ (inl tt)
+brought-of a choice Failure = one-of _ (inl tt)
 
-read-of : (place : ℕ) (r : Reading) (d : State) → AreEarly (read_at place r d)
+read-of : (place : ℕ) (r : Reading) (d : State) → AreEarly (events_of_read place r d)
 read-of place r d = by-open (is_some (connection_at (Some place) d))
   where
     by-open : (b : Bool) → AreEarly (cond b (received_events (place + 1) r.choice r.heard) [])
@@ -118,7 +118,7 @@ event-without process.Lost = tt
 
 pub told-without : (line : Option ProcessEvent) → AreWithout (process_events line)
 told-without None = All-nil IsFree
-told-without (Some event) = All-cons IsFree _ [] (event-without event) (All-nil IsFree)
+reported-without (Some event) = All-cons IsFree _ [] (event-without event) (All-nil IsFree)
 
 -- ---- two halves
 
@@ -134,15 +134,15 @@ without-halves : (es : List ChosenEvent) → AreWithout es → Halves es
 without-halves es without =
     record { reads = []; rest = es; is = refl; of = All-nil IsEarly; without = without }
 
-module _ (now : ℕ) (told : List (ℕ × CloseReason)) where
+module _ (now : ℕ) (reported : List (ℕ × CloseReason)) where
   then-front : (first : List ChosenEvent) (Rest : State → List ChosenEvent → Type 0) (d : State)
       (events : List ChosenEvent) → AreEarly first
       → ((s : State) (rest : List ChosenEvent) → Rest s rest → Halves rest)
-      → Then now told first Rest d events → Halves events
+      → FirstThen now reported first Rest d events → Halves events
   then-front first Rest d events of more t =
-      let h : Halves t.rest = more (done_at now (first ++ t.cut) d).after t.rest t.goes_on in
+      let h : Halves t.rest = more (outcomes_at now (first ++ t.cut) d).after t.rest t.rest_holds in
       let cut : AreEarly t.cut =
-      closing-of (λ a. reports_close is_queue_full a told) t.cut t.closings
+      closing-of (λ a. reports_close is_queue_full a reported) t.cut t.closings
       in
       record {
         reads = first ++ (t.cut ++ h.reads);
@@ -159,14 +159,14 @@ module _ (now : ℕ) (told : List (ℕ × CloseReason)) where
   reads-front : (Rest : State → List ChosenEvent → Type 0)
       → ((s : State) (rest : List ChosenEvent) → Rest s rest → Halves rest)
       → (place : ℕ) (rs : List Reading) (d : State) (events : List ChosenEvent)
-      → ThenReads now told place rs Rest d events → Halves events
+      → ReadsThen now reported place rs Rest d events → Halves events
   reads-front Rest more place [] d events t = more d events t
   reads-front Rest more place (r ∷ rs) d events t =
-      then-front (read_at place r d) (ThenReads now told (place + 1) rs Rest) d events
+      then-front (events_of_read place r d) (ReadsThen now reported (place + 1) rs Rest) d events
       (read-of place r d) (reads-front Rest more (place + 1) rs) t
 
   -- what holds of closings, and of each part of a turn, holds of each of its events
-  module _ (P : ChosenEvent → Type 0) (closed : (a : ℕ) → P (surely (Close a))) where
+  module _ (P : ChosenEvent → Type 0) (closed : (a : ℕ) → P (with_memory (Close a))) where
     pub closings-all : (why : ℕ → Bool) (es : List ChosenEvent) → AreClosings why es → All P es
     closings-all why es closings k d low =
         let c : IsClosing why _ = closings k d low in subst P (sym c.1) (closed c.0)
@@ -174,44 +174,44 @@ module _ (now : ℕ) (told : List (ℕ × CloseReason)) where
     pub then-all : (first : List ChosenEvent) (Rest : State → List ChosenEvent → Type 0) (d : State)
         (events : List ChosenEvent) → All P first
         → ((s : State) (rest : List ChosenEvent) → Rest s rest → All P rest)
-        → Then now told first Rest d events → All P events
+        → FirstThen now reported first Rest d events → All P events
     then-all first Rest d events all more t =
-        let rest : All P t.rest = more (done_at now (first ++ t.cut) d).after t.rest t.goes_on in
+        let rest : All P t.rest = more (outcomes_at now (first ++ t.cut) d).after t.rest t.rest_holds in
         subst (All P) (sym (t.is ∙ grouped first t.cut t.rest))
         (All-append P first (t.cut ++ t.rest) all (All-append P t.cut t.rest
-        (closings-all (λ a. reports_close is_queue_full a told) t.cut t.closings) rest))
+        (closings-all (λ a. reports_close is_queue_full a reported) t.cut t.closings) rest))
       where
         grouped : (w x y : List ChosenEvent) → w ++ x ++ y ≡ w ++ (x ++ y)
         grouped w x y = simp append_assoc
 
     pub reads-all : (Rest : State → List ChosenEvent → Type 0)
         → ((s : State) (rest : List ChosenEvent) → Rest s rest → All P rest)
-        → ((place : ℕ) (r : Reading) (d : State) → All P (read_at place r d))
+        → ((place : ℕ) (r : Reading) (d : State) → All P (events_of_read place r d))
         → (place : ℕ) (rs : List Reading) (d : State) (events : List ChosenEvent)
-        → ThenReads now told place rs Rest d events → All P events
+        → ReadsThen now reported place rs Rest d events → All P events
     reads-all Rest more each place [] d events t = more d events t
     reads-all Rest more each place (r ∷ rs) d events t =
-        then-all (read_at place r d) (ThenReads now told (place + 1) rs Rest) d events
+        then-all (events_of_read place r d) (ReadsThen now reported (place + 1) rs Rest) d events
         (each place r d) (reads-all Rest more each (place + 1) rs) t
 
 -- what comes behind the reads of a turn
 abbrev pub Behind : ℕ → List (ℕ × CloseReason) → (ℕ → Bool) → Option ProcessEvent → State
     → List ChosenEvent → Type 0
-Behind now told why line d =
-    Then now told (process_events line)
-    (Then now told (surely Scan ∷ []) (λ e rest. AreClosings why rest)) d
+Behind now reported why line d =
+    FirstThen now reported (process_events line)
+    (FirstThen now reported (with_memory Scan ∷ []) (λ e rest. AreClosings why rest)) d
 
-pub behind-without : (now : ℕ) (told : List (ℕ × CloseReason)) (why : ℕ → Bool)
+pub behind-without : (now : ℕ) (reported : List (ℕ × CloseReason)) (why : ℕ → Bool)
     (line : Option ProcessEvent) (d : State) (rest : List ChosenEvent)
-    → Behind now told why line d rest → AreWithout rest
-behind-without now told why line d rest t =
+    → Behind now reported why line d rest → AreWithout rest
+behind-without now reported why line d rest t =
     let Last : State → List ChosenEvent → Type 0 = λ e rest. AreClosings why rest in
-    then-all now told IsFree (λ a. tt) (process_events line) (Then now told (surely Scan ∷ []) Last)
+    then-all now reported IsFree (λ a. tt) (process_events line) (FirstThen now reported (with_memory Scan ∷ []) Last)
     d
     rest
     (told-without line)
-    (λ e later u. then-all now told IsFree (λ a. tt) (surely Scan ∷ []) Last e later
-    (All-cons IsFree (surely Scan) [] tt (All-nil IsFree))
+    (λ e later u. then-all now reported IsFree (λ a. tt) (with_memory Scan ∷ []) Last e later
+    (All-cons IsFree (with_memory Scan) [] tt (All-nil IsFree))
     (λ f last closings. closing-without why last closings) u) t
 
 -- why an association may be closed at the end of a turn
@@ -223,30 +223,30 @@ why_closed now given script h a =
 -- the reads of a turn, and what comes behind them
 abbrev pub Reads : ℕ → ProcessReport → Script → ServerData → State → List ChosenEvent → Type 0
 Reads now given script h d events =
-    let told = (after_turn now given script h).noted.closed in
-    ThenReads now told 0 script.readings
-    (Behind now told (why_closed now given script h) given.event) d events
+    let reported = (after_turn now given script h).noted.closed in
+    ReadsThen now reported 0 script.readings
+    (Behind now reported (why_closed now given script h) given.event) d events
 
 -- what comes behind the connection that is taken: whether the process is lost, and the reads
 abbrev pub Begins : ℕ → ProcessReport → Script → ServerData → State → List ChosenEvent → Type 0
 Begins now given script h d events =
-    Then now (after_turn now given script h).noted.closed (process_events (first_of given))
+    FirstThen now (after_turn now given script h).noted.closed (process_events (loss_event given))
     (Reads now given script h) d events
 
 halves : (now : ℕ) (given : ProcessReport) (script : Script) (h : ServerData)
     → length script.readings ≡ 8 → length script.offers ≡ 8
     → Halves (turn_events now given script h)
 halves now given script h readings offers =
-    let told = (after_turn now given script h).noted.closed in
+    let reported = (after_turn now given script h).noted.closed in
     let why : ℕ → Bool = why_closed now given script h in
-    then-front now told (open_events script.accepted h.device) (Begins now given script h) h.device
+    then-front now reported (open_events script.accepted h.device) (Begins now given script h) h.device
     (turn_events now given script h)
     (opened-of (position is_none h.device.connections) script.accepted)
-    (λ c rest begins. then-front now told (process_events (first_of given))
+    (λ c rest begins. then-front now reported (process_events (loss_event given))
     (Reads now given script h) c
     rest (lost-early given.is_lost)
-    (reads-front now told (Behind now told why given.event)
-    (λ d rest t. without-halves rest (behind-without now told why given.event d rest t)) 0
+    (reads-front now reported (Behind now reported why given.event)
+    (λ d rest t. without-halves rest (behind-without now reported why given.event d rest t)) 0
     script.readings) begins)
     (in-order now given script h readings offers)
 
@@ -284,12 +284,12 @@ early-before now given script h front choice a octets back readings offers split
 -- ---- what they leave
 
 pub same-events : (now : ℕ) (es : List ChosenEvent) (s : State) → OfAssociations es
-    → Same s (done_at now es s).after
+    → Same s (outcomes_at now es s).after
 same-events now [] s of = refl
 same-events now (e ∷ es) s of =
     let t : State = (outcome e.0 now e.1 s).after in
     let one : Same s t = same-outcome now s e.0 e.1 (All-head IsOf e es of) in
-    let more : Same t (done_at now es t).after = same-events now es t (All-tail IsOf e es of) in
+    let more : Same t (outcomes_at now es t).after = same-events now es t (All-tail IsOf e es of) in
     more ∙ one
 
 module _ (now : ℕ) (soon : now ≤ last_moment) where
@@ -310,7 +310,7 @@ module _ (now : ℕ) (soon : now ≤ last_moment) where
 
   -- and it stays so until octets are heard
   stays-lost : (es : List ChosenEvent) (s : State) → s.moment ≤ now → AreEarly es
-      → s.is_lost ≡ true → (done_at now es s).after.is_lost ≡ true
+      → s.is_lost ≡ true → (outcomes_at now es s).after.is_lost ≡ true
   stays-lost [] s time early lost = lost
   stays-lost (e ∷ es) s time early lost =
       stays-lost es (outcome e.0 now e.1 s).after (outcome-moment e.0 now e.1 s time)
@@ -322,7 +322,7 @@ module _ (now : ℕ) (soon : now ≤ last_moment) where
 
   -- so where it is not lost then, it was not told to be
   none-lost : (es : List ChosenEvent) (s : State) → s.moment ≤ now → AreEarly es
-      → (done_at now es s).after.is_lost ≡ false → OfAssociations es
+      → (outcomes_at now es s).after.is_lost ≡ false → OfAssociations es
   none-lost [] s time early heard = All-nil IsOf
   none-lost (e ∷ es) s time early heard =
       let t : State = (outcome e.0 now e.1 s).after in
@@ -345,7 +345,7 @@ pub before-octets : (now : ℕ) (given : ProcessReport) (script : Script) (h : S
     (back : List ChosenEvent)
     → length script.readings ≡ 8 → length script.offers ≡ 8 → IsInTime now h
     → turn_events now given script h ≡ front ++ (choice, Recv a octets) ∷ back
-    → (done_at now front h.device).after.is_lost ≡ false → OfAssociations front
+    → (outcomes_at now front h.device).after.is_lost ≡ false → OfAssociations front
 before-octets now given script h front choice a octets back readings offers time split heard =
     none-lost now time.not_past front h.device time.not_before
     (early-before now given script h front choice a octets back readings offers split) heard
@@ -397,36 +397,36 @@ pub not-told : (now : ℕ) (given : ProcessReport) (script : Script) (h : Server
 not-told now given script h front choice a octets back readings offers split of =
     by-lost given.is_lost refl
   where
-    told : List (ℕ × CloseReason)
-    told = (after_turn now given script h).noted.closed
+    reported : List (ℕ × CloseReason)
+    reported = (after_turn now given script h).noted.closed
 
     first : List ChosenEvent
     first = open_events script.accepted h.device
 
-    t : Then now told first (Begins now given script h) h.device (turn_events now given script h)
+    t : FirstThen now reported first (Begins now given script h) h.device (turn_events now given script h)
     t = in-order now given script h readings offers
 
-    u : Begins now given script h (done_at now (first ++ t.cut) h.device).after t.rest
-    u = t.goes_on
+    u : Begins now given script h (outcomes_at now (first ++ t.cut) h.device).after t.rest
+    u = t.rest_holds
 
     by-lost : (v : Bool) → given.is_lost ≡ v → given.is_lost ≡ false
     by-lost false e = e
     by-lost true e =
         let free : AreWithout (first ++ t.cut) = All-append IsFree first t.cut
         (opened-free (position is_none h.device.connections) script.accepted)
-        (closing-without (λ b. reports_close is_queue_full b told) t.cut t.closings) in
+        (closing-without (λ b. reports_close is_queue_full b reported) t.cut t.closings) in
         let l = behind-front (first ++ t.cut) t.rest front (choice, Recv a octets) back
         (sym t.is ∙ split) free (λ none. none) in
-        let told_is : process_events (first_of given) ≡ surely Lost ∷ [] =
+        let told_is : process_events (loss_event given) ≡ with_memory Lost ∷ [] =
         ap (λ b. process_events (if b then Some process.Lost else None)) e in
-        let begins : t.rest ≡ surely Lost ∷ (u.cut ++ u.rest) =
+        let begins : t.rest ≡ with_memory Lost ∷ (u.cut ++ u.rest) =
         u.is ∙ ap (λ l. l ++ u.cut ++ u.rest) told_is in
-        let has : Contains l.more (surely Lost) =
-        starts-with (surely Lost) (u.cut ++ u.rest) l.more (choice, Recv a octets) back
+        let has : Contains l.more (with_memory Lost) =
+        starts-with (with_memory Lost) (u.cut ++ u.rest) l.more (choice, Recv a octets) back
         (sym begins ∙ l.rest) tt (λ none. none) in
-        absurd (All-contains IsOf front (surely Lost) of
-        (subst (λ es. Contains es (surely Lost)) (sym l.is)
-        (Contains-append_right (first ++ t.cut) l.more (surely Lost) has)))
+        absurd (All-contains IsOf front (with_memory Lost) of
+        (subst (λ es. Contains es (with_memory Lost)) (sym l.is)
+        (Contains-append_right (first ++ t.cut) l.more (with_memory Lost) has)))
 
 -- ---- a turn in which nothing happens to the process
 
@@ -443,23 +443,23 @@ mute-turn : (now : ℕ) (given : ProcessReport) (script : Script) (h : ServerDat
     → length script.readings ≡ 8 → length script.offers ≡ 8 → given.event ≡ None
     → AreMute (turn_events now given script h)
 mute-turn now given script h readings offers none =
-    then-all now told IsMute closed (open_events script.accepted h.device)
+    then-all now reported IsMute closed (open_events script.accepted h.device)
     (Begins now given script h)
     h.device (turn_events now given script h)
     (early-mute _ (opened-of (position is_none h.device.connections) script.accepted))
-    (λ c rest begins. then-all now told IsMute closed (process_events (first_of given))
+    (λ c rest begins. then-all now reported IsMute closed (process_events (loss_event given))
     (Reads now given script h) c rest (early-mute _ (lost-early given.is_lost))
-    (reads-all now told IsMute closed (Behind now told why given.event) behind
+    (reads-all now reported IsMute closed (Behind now reported why given.event) behind
     (λ place r d. early-mute _ (read-of place r d)) 0 script.readings) begins)
     (in-order now given script h readings offers)
   where
-    told : List (ℕ × CloseReason)
-    told = (after_turn now given script h).noted.closed
+    reported : List (ℕ × CloseReason)
+    reported = (after_turn now given script h).noted.closed
 
     why : ℕ → Bool
     why = why_closed now given script h
 
-    closed : (a : ℕ) → IsMute (surely (Close a))
+    closed : (a : ℕ) → IsMute (with_memory (Close a))
     closed a = inl (inl tt)
 
     Last : State → List ChosenEvent → Type 0
@@ -468,15 +468,15 @@ mute-turn now given script h readings offers none =
     quiet : AreMute (process_events given.event)
     quiet = subst (λ event. AreMute (process_events event)) (sym none) (All-nil IsMute)
 
-    behind : (d : State) (rest : List ChosenEvent) → Behind now told why given.event d rest
+    behind : (d : State) (rest : List ChosenEvent) → Behind now reported why given.event d rest
         → AreMute rest
     behind d rest t =
-        then-all now told IsMute closed (process_events given.event)
-        (Then now told (surely Scan ∷ []) Last)
+        then-all now reported IsMute closed (process_events given.event)
+        (FirstThen now reported (with_memory Scan ∷ []) Last)
         d rest quiet
-        (λ e later u. then-all now told IsMute closed (surely Scan ∷ []) Last e later
-        (All-cons IsMute (surely Scan) [] (inr refl) (All-nil IsMute))
-        (λ f last closings. closings-all now told IsMute closed why last closings) u) t
+        (λ e later u. then-all now reported IsMute closed (with_memory Scan ∷ []) Last e later
+        (All-cons IsMute (with_memory Scan) [] (inr refl) (All-nil IsMute))
+        (λ f last closings. closings-all now reported IsMute closed why last closings) u) t
 
 -- one of these events tells of the loss
 abbrev TellsLoss : List ChosenEvent → Type 0
@@ -491,13 +491,13 @@ turn-loss : (now : ℕ) (given : ProcessReport) (script : Script) (h : ServerDat
     → length script.readings ≡ 8 → length script.offers ≡ 8 → given.is_lost ≡ true
     → TellsLoss (turn_events now given script h)
 turn-loss now given script h readings offers lost =
-    let told = (after_turn now given script h).noted.closed in
+    let reported = (after_turn now given script h).noted.closed in
     let first : List ChosenEvent = open_events script.accepted h.device in
-    let t : Then now told first (Begins now given script h) h.device
+    let t : FirstThen now reported first (Begins now given script h) h.device
     (turn_events now given script h) = in-order now given script h readings offers in
-    let u : Begins now given script h (done_at now (first ++ t.cut) h.device).after t.rest =
-    t.goes_on in
-    let told_is : process_events (first_of given) ≡ surely Lost ∷ [] =
+    let u : Begins now given script h (outcomes_at now (first ++ t.cut) h.device).after t.rest =
+    t.rest_holds in
+    let told_is : process_events (loss_event given) ≡ with_memory Lost ∷ [] =
     ap (λ b. process_events (if b then Some process.Lost else None)) lost in
     subst TellsLoss (sym t.is) (loss-behind (first ++ t.cut) t.rest
     (subst TellsLoss (sym (u.is ∙ ap (λ l. l ++ u.cut ++ u.rest) told_is)) (inl refl)))
@@ -517,12 +517,12 @@ module _ (now : ℕ) (soon : now ≤ last_moment) where
       ap (λ event. (outcome e.0 now event s).after.is_lost) is ∙ scan-keeps e.0 s lost
 
   ends-lost : (es : List ChosenEvent) (s : State) → s.moment ≤ now → AreMute es
-      → (s.is_lost ≡ true) ⊎ TellsLoss es → (done_at now es s).after.is_lost ≡ true
+      → (s.is_lost ≡ true) ⊎ TellsLoss es → (outcomes_at now es s).after.is_lost ≡ true
   ends-lost [] s time mute (inl lost) = lost
   ends-lost [] s time mute (inr reports_close) = absurd reports_close
-  ends-lost (e ∷ es) s time mute told =
+  ends-lost (e ∷ es) s time mute reported =
       ends-lost es (outcome e.0 now e.1 s).after (outcome-moment e.0 now e.1 s time)
-      (All-tail IsMute e es mute) (one told)
+      (All-tail IsMute e es mute) (one reported)
     where
       one : (s.is_lost ≡ true) ⊎ TellsLoss (e ∷ es)
           → ((outcome e.0 now e.1 s).after.is_lost ≡ true) ⊎ TellsLoss es
@@ -534,7 +534,7 @@ module _ (now : ℕ) (soon : now ≤ last_moment) where
 pub turn-ends-lost : (now : ℕ) (given : ProcessReport) (script : Script) (h : ServerData)
     → length script.readings ≡ 8 → length script.offers ≡ 8 → IsInTime now h
     → given.event ≡ None → (h.device.is_lost ≡ true) ⊎ (given.is_lost ≡ true)
-    → (done_at now (turn_events now given script h) h.device).after.is_lost ≡ true
+    → (outcomes_at now (turn_events now given script h) h.device).after.is_lost ≡ true
 turn-ends-lost now given script h readings offers time none lost =
     ends-lost now time.not_past (turn_events now given script h) h.device time.not_before
     (mute-turn now given script h readings offers none) (by-kind lost)
@@ -542,11 +542,11 @@ turn-ends-lost now given script h readings offers time none lost =
     by-kind : (h.device.is_lost ≡ true) ⊎ (given.is_lost ≡ true)
         → (h.device.is_lost ≡ true) ⊎ TellsLoss (turn_events now given script h)
     by-kind (inl was) = inl was
-    by-kind (inr told) = inr (turn-loss now given script h readings offers told)
+    by-kind (inr reported) = inr (turn-loss now given script h readings offers reported)
 
 -- the device is not behind the turn's moment
 pub events-on-time : (now : ℕ) (es : List ChosenEvent) (s : State) → s.moment ≤ now
-    → (done_at now es s).after.moment ≤ now
+    → (outcomes_at now es s).after.moment ≤ now
 events-on-time now [] s time = time
 events-on-time now (e ∷ es) s time =
     events-on-time now es (outcome e.0 now e.1 s).after (outcome-moment e.0 now e.1 s time)

@@ -14,8 +14,8 @@ use Rattle.bay_device.proofs.RemoteLemmas.{Follows, follows-first, follows-step}
 use Rattle.bay_device.proofs.ToldLemmas.{idle-talks, telling}
 use Rattle.cmd_replay.specs.History.{EachPast, device_after}
 use Rattle.cmd_replay.proofs.HistoryLemmas.{past-fixed}
-use Rattle.bay_server_turn_laws.specs.Events.{ChosenEvent, done_at}
-use Rattle.cmd_replay.specs.Runs.{IsOneRun}
+use Rattle.bay_server_turn_laws.specs.Events.{ChosenEvent, outcomes_at}
+use Rattle.cmd_replay.specs.Runs.{IsGuardedRun}
 use Rattle.cmd_replay.proofs.RunLemmas.{one-run as past-run}
 use Rattle.cmd_serve.specs.Service.{past_after}
 
@@ -61,7 +61,7 @@ module _ (first : State) (now : ℕ) where
       let o = outcome e.0 now e.1 s in
       let steps : Steps now e.1 s o.answer o.after =
       record { choice = e.0; answered = refl; left = refl } in
-      let told = telling (bay_of first) now e.1 s o.answer o.after at.alike at.sized
+      let reported = telling (bay_of first) now e.1 s o.answer o.after at.alike at.sized
       (leading now e.1 s o.answer o.after at.eight steps) in
       record {
         steps = (
@@ -70,8 +70,8 @@ module _ (first : State) (now : ℕ) where
         );
         last = refl;
         unscanned = at.unscanned;
-        alike = told.alike;
-        sized = told.sized;
+        alike = reported.alike;
+        sized = reported.sized;
         eight = eight-places now e.1 s o.answer o.after at.eight steps;
         tracks = tracks-event past s at.tracks now e.0 e.1;
         follows = follows-step
@@ -81,7 +81,7 @@ module _ (first : State) (now : ℕ) where
 
   -- those of a turn
   pub stands-events : (es : List ChosenEvent) (s : State) (past : List PastEvent) → Stands first past s
-      → Stands first (past_after now es s past) (done_at now es s).after
+      → Stands first (past_after now es s past) (outcomes_at now es s).after
   stands-events [] s past at = at
   stands-events (e ∷ es) s past at =
       stands-events es (outcome e.0 now e.1 s).after (past_after now (e ∷ []) s past)
@@ -90,6 +90,6 @@ module _ (first : State) (now : ℕ) where
 -- ---- one run
 
 pub one-run : (first : State) (past : List PastEvent) (last : State) → IsHistory [] first
-    → Stands first past last → IsOneRun first past last
+    → Stands first past last → IsGuardedRun first past last
 one-run first past last begin at =
-    subst (IsOneRun first past) at.last (past-run first past begin (idle first begin) at.steps)
+    subst (IsGuardedRun first past) at.last (past-run first past begin (idle first begin) at.steps)

@@ -22,8 +22,8 @@ use Rattle.bay_device.specs.declared.fault.StepFault.TheVariants.{MomentTooLarge
 use Rattle.bay_device.proofs.CommandLemmas.{step-commanded}
 use Rattle.bay_device.proofs.OperateLemmas.{step-operates}
 use Rattle.bay_server_turn.specs.Turns.{ServerData}
-use Rattle.bay_server_turn_laws.specs.Events.{ChosenEvent, commands_in, commands_of, done_at, turn_events}
-use Rattle.bay_server_turn_laws.specs.Flows.{IsTidy, answer_to, end_to, sent_to}
+use Rattle.bay_server_turn_laws.specs.Events.{ChosenEvent, answer_commands, commands_of, outcomes_at, turn_events}
+use Rattle.bay_server_turn_laws.specs.Flows.{IsTidy, answer_to, end_to, replies_to}
 use Rattle.bay_server_turn_laws.proofs.DoneLemmas.{IsBoth, done-append}
 use Rattle.bay_server_turn_laws.proofs.GivenLemmas.{turn-brings}
 use Rattle.bay_server_turn_laws.proofs.MoveLemmas.{sent-append}
@@ -32,7 +32,7 @@ use Rattle.bay_server_turn_laws.proofs.TurnFlows.{loses-nothing}
 use Rattle.bay_server_turn_laws.proofs.UpLemmas.{number-of}
 use Rattle.std.proofs.lemmas.Bool.{and_parts}
 use Rattle.std.proofs.lemmas.Bool.Decides.{nat_tests}
-use Rattle.cmd_serve.specs.Orders.{AreOrdered, IsHeard, IsOrdered, StandIn}
+use Rattle.cmd_serve.specs.Requests.{AreRequested, ReceivesOctets, IsRequested, IsPartOf}
 use Rattle.cmd_serve.specs.Service.{AreTurns, DoneTurn, IsTurn, server_after, past_after}
 use Rattle.cmd_serve.proofs.FrontLemmas.{OfAssociations, before-octets, same-events}
 use Rattle.cmd_serve.proofs.HistoryLemmas.{Stands, aged, stands-events}
@@ -52,9 +52,9 @@ record Found (first : State) (now : ℕ) (es : List ChosenEvent) (s : State) (pa
   pub event : ChosenEvent
   pub back : List ChosenEvent
   pub split : es ≡ front ++ event ∷ back
-  pub stands : Stands first (past_after now front s past) (done_at now front s).after
+  pub stands : Stands first (past_after now front s past) (outcomes_at now front s).after
   pub step : Step
-  pub answered : (outcome event.0 now event.1 (done_at now front s).after).answer ≡ Ok step
+  pub answered : (outcome event.0 now event.1 (outcomes_at now front s).after).answer ≡ Ok step
   pub has : Contains step.commands command
 
 record Here (answer : Result Step StepFault) (command : Command) : Type 0 where
@@ -63,18 +63,18 @@ record Here (answer : Result Step StepFault) (command : Command) : Type 0 where
   has : Contains step.commands command
 
 here : (answer : Result Step StepFault) (command : Command)
-    → Contains (commands_in answer) command → Here answer command
+    → Contains (answer_commands answer) command → Here answer command
 here (Ok step) command has = record { step = step; is = refl; has = has }
 here (Err fault) command has = absurd (omega (arith, has.1))
 
 module _ (first : State) (now : ℕ) (command : Command) where
   found : (es : List ChosenEvent) (s : State) (past : List PastEvent) → Stands first past s
-      → Contains (commands_of (done_at now es s).answers) command
+      → Contains (commands_of (outcomes_at now es s).answers) command
       → Found first now es s past command
   found [] s past at has = absurd (omega (arith, has.1))
   found (e ∷ es) s past at has =
-      elim (Contains-append_cases (commands_in (outcome e.0 now e.1 s).answer)
-      (commands_of (done_at now es (outcome e.0 now e.1 s).after).answers) command has) [
+      elim (Contains-append_cases (answer_commands (outcome e.0 now e.1 s).answer)
+      (commands_of (outcomes_at now es (outcome e.0 now e.1 s).after).answers) command has) [
         | inl now_has ↦ at-once (here (outcome e.0 now e.1 s).answer command now_has)
         | inr later_has ↦
             later (found es (outcome e.0 now e.1 s).after (past_after now (e ∷ []) s past)
@@ -109,8 +109,8 @@ module _ (first : State) (now : ℕ) (command : Command) where
 
 -- ---- octets among octets
 
-wider : (octets : List ℕ) (before all after : List ℕ) → StandIn octets all
-    → StandIn octets (before ++ (all ++ after))
+wider : (octets : List ℕ) (before all after : List ℕ) → IsPartOf octets all
+    → IsPartOf octets (before ++ (all ++ after))
 wider octets before all after stands = (
   before ++ stands.0,
   stands.1 ++ after,
@@ -122,7 +122,7 @@ wider octets before all after stands = (
     grouped v w x y z = simp append_assoc
 
 answer-stands : (a : ℕ) (step : Step) (sent : Sent) → Contains step.sent sent
-    → sent.association ≡ a → StandIn sent.octets (answer_to a (Ok step))
+    → sent.association ≡ a → IsPartOf sent.octets (answer_to a (Ok step))
 answer-stands a step sent has to =
     let in_all = stands-in a step.sent sent has to in (
       end_to a step.ended ++ in_all.0,
@@ -136,17 +136,17 @@ answer-stands a step sent has to =
 
 sent-there : (a now : ℕ) (front : List ChosenEvent) (e : ChosenEvent) (back : List ChosenEvent)
     (s : State) (octets : List ℕ)
-    → StandIn octets (answer_to a (outcome e.0 now e.1 (done_at now front s).after).answer)
-    → StandIn octets (sent_to a (done_at now (front ++ e ∷ back) s).answers)
+    → IsPartOf octets (answer_to a (outcome e.0 now e.1 (outcomes_at now front s).after).answer)
+    → IsPartOf octets (replies_to a (outcomes_at now (front ++ e ∷ back) s).answers)
 sent-there a now front e back s octets stands =
     let both : IsBoth now front (e ∷ back) s = done-append now front (e ∷ back) s in
-    let mid : State = (done_at now front s).after in
+    let mid : State = (outcomes_at now front s).after in
     let answer = (outcome e.0 now e.1 mid).answer in
-    let rest = sent_to a (done_at now back (outcome e.0 now e.1 mid).after).answers in
-    subst (StandIn octets)
-    (sym (ap (sent_to a) both.answers
-    ∙ sent-append a (done_at now front s).answers (done_at now (e ∷ back) mid).answers))
-    (wider octets (sent_to a (done_at now front s).answers) (answer_to a answer) rest stands)
+    let rest = replies_to a (outcomes_at now back (outcome e.0 now e.1 mid).after).answers in
+    subst (IsPartOf octets)
+    (sym (ap (replies_to a) both.answers
+    ∙ sent-append a (outcomes_at now front s).answers (outcomes_at now (e ∷ back) mid).answers))
+    (wider octets (replies_to a (outcomes_at now front s).answers) (answer_to a answer) rest stands)
 
 -- ---- the queue
 
@@ -190,10 +190,10 @@ module _ (first : State) (h : ServerData) (t : DoneTurn) (past : List PastEvent)
     (choice : Option ℕ)
     (back : List ChosenEvent)
     (stands : Stands first (past_after t.now front h.device past)
-    (done_at t.now front h.device).after) (step : Step)
+    (outcomes_at t.now front h.device).after) (step : Step)
     (has : Contains step.commands command) where
   abbrev mid : State
-  mid = (done_at t.now front h.device).after
+  mid = (outcomes_at t.now front h.device).after
 
   -- the event is one of octets
   asked : (event : Event)
@@ -201,7 +201,7 @@ module _ (first : State) (h : ServerData) (t : DoneTurn) (past : List PastEvent)
       → (outcome choice t.now event mid).answer ≡ Ok step
       → AreRepliedForEvent t.now event (bay_of first) mid.connections step
       → IsReleasedAt t.now mid command
-      → IsOrdered first h t past command
+      → IsRequested first h t past command
   asked (Open a) split answered replied allowed = absurd (none-among _ command replied has)
   asked (Recv a octets) split answered replied allowed =
       by-talk (connection_state_at (slot_of a) mid.connections) refl replied
@@ -211,7 +211,7 @@ module _ (first : State) (h : ServerData) (t : DoneTurn) (past : List PastEvent)
           before-octets t.now t.given t.script h front choice a octets back is.all_read
           is.all_offered is.in_time split allowed.heard
 
-      heard : IsHeard h t
+      heard : ReceivesOctets h t
       heard = record {
         front = front;
         choice = choice;
@@ -231,7 +231,7 @@ module _ (first : State) (h : ServerData) (t : DoneTurn) (past : List PastEvent)
 
       by-talk : (o : Option ConnectionState) → connection_state_at (slot_of a) mid.connections ≡ o
           → AreReplied t.now a (bay_of first) octets.now o step
-          → IsOrdered first h t past command
+          → IsRequested first h t past command
       by-talk None spoken replied = absurd (none-among _ command replied has)
       by-talk (Some talk) spoken replied =
           let r : IsReplied t.now a (bay_of first) (indications talk octets.now)
@@ -250,10 +250,10 @@ module _ (first : State) (h : ServerData) (t : DoneTurn) (past : List PastEvent)
             sent = m.item;
             answers = m.among;
             to = to;
-            stands = subst (λ es. StandIn m.item.octets
-                (sent_to a (done_at t.now es h.device).answers)) (sym split)
+            stands = subst (λ es. IsPartOf m.item.octets
+                (replies_to a (outcomes_at t.now es h.device).answers)) (sym split)
                 (sent-there a t.now front (choice, Recv a octets) back h.device m.item.octets
-                (subst (λ r. StandIn m.item.octets (answer_to a r)) (sym answered)
+                (subst (λ r. IsPartOf m.item.octets (answer_to a r)) (sym answered)
                 (answer-stands a step m.item m.among to)));
             place = there.0;
             number = there.1;
@@ -282,15 +282,15 @@ module _ (first : State) (h : ServerData) (t : DoneTurn) (past : List PastEvent)
 
 -- what stands behind a command of a turn
 pub ordered : (first : State) (h : ServerData) (t : DoneTurn) (past : List PastEvent) (command : Command)
-    → IsTurn h t → IsTidy h → Stands first past h.device → Contains t.told.commands command
-    → IsOrdered first h t past command
+    → IsTurn h t → IsTidy h → Stands first past h.device → Contains t.reported.commands command
+    → IsRequested first h t past command
 ordered first h t past command is tidy at has =
     let events : List ChosenEvent = turn_events t.now t.given t.script h in
     let commands = is.commands ∙ (Part-turn t.now t.given t.script h).commands in
     let f : Found first t.now events h.device past command =
     found first t.now command events h.device past at
     (subst (λ cs. Contains cs command) commands has) in
-    let mid : State = (done_at t.now f.front h.device).after in
+    let mid : State = (outcomes_at t.now f.front h.device).after in
     let o = outcome f.event.0 t.now f.event.1 mid in
     let steps : Steps t.now f.event.1 mid o.answer o.after =
     record { choice = f.event.0; answered = refl; left = refl } in
@@ -306,7 +306,7 @@ ordered first h t past command is tidy at has =
     (All-contains (IsReleasedAt t.now mid) f.step.commands command commanded.released f.has)
 
 pub all-ordered : (first : State) (h : ServerData) (past : List PastEvent) (ts : List DoneTurn)
-    → AreTurns h ts → IsTidy h → Stands first past h.device → AreOrdered first h past ts
+    → AreTurns h ts → IsTidy h → Stands first past h.device → AreRequested first h past ts
 all-ordered first h past [] are tidy at = tt
 all-ordered first h past (t ∷ ts) are tidy at =
     let events : List ChosenEvent = turn_events t.now t.given t.script h in
@@ -320,6 +320,6 @@ all-ordered first h past (t ∷ ts) are tidy at =
 
 -- its turn is at a moment that the device does not refuse
 pub ordered-on-time : (first : State) (h : ServerData) (t : DoneTurn) (past : List PastEvent)
-    (command : Command) → IsOrdered first h t past command → t.now ≤ last_moment
+    (command : Command) → IsRequested first h t past command → t.now ≤ last_moment
 ordered-on-time first h t past command order =
     on-time (nat_lt last_moment t.now) t.now _ _ order.heard.step refl order.heard.answered

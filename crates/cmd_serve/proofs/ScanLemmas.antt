@@ -23,7 +23,7 @@ use Rattle.cmd_replay.specs.History.{device_after}
 use Rattle.cmd_replay.proofs.HistoryLemmas.{past-settings}
 use Rattle.cmd_replay.proofs.KeptLemmas.{scan_told}
 use Rattle.bay_replay_laws.proofs.ScanLemmas.{LastScan, last-scan, same-since}
-use Rattle.cmd_serve.specs.Orders.{IsReleasedBy}
+use Rattle.cmd_serve.specs.Requests.{IsReleasedBy}
 use Rattle.cmd_serve.proofs.HistoryLemmas.{Stands}
 
 -- ---- no scan since

@@ -16,8 +16,8 @@ use Rattle.bay_device.specs.declared.fault.StepFault.{StepFault}
 use Rattle.bay_device.specs.declared.fault.StepFault.TheVariants.{MomentTooLarge, TimeWentBack}
 use Rattle.std.specs.Borrow.{Bor}
 use Rattle.std.proofs.Common.{nat_lt, false}
-use Rattle.bay_server_turn_laws.specs.Flows.{all_to, octets_to}
-use Rattle.cmd_serve.specs.Orders.{StandIn}
+use Rattle.bay_server_turn_laws.specs.Flows.{sends_to, octets_to}
+use Rattle.cmd_serve.specs.Requests.{IsPartOf}
 
 -- ---- lists
 
@@ -130,16 +130,16 @@ to-itself a sent to =
     ap (λ b. cond b sent.octets []) (eq-eqb sent.association a to)
 
 pub stands-in : (a : ℕ) (all : List Sent) (sent : Sent) → Contains all sent
-    → sent.association ≡ a → StandIn sent.octets (all_to a all)
+    → sent.association ≡ a → IsPartOf sent.octets (sends_to a all)
 stands-in a all sent has to = at all has.0 has.1 has.2
   where
     at : (all : List Sent) (k : ℕ) → k < length all → slice_index_or all k sent ≡ sent
-        → StandIn sent.octets (all_to a all)
+        → IsPartOf sent.octets (sends_to a all)
     at [] k low is = absurd (omega (arith, low))
     at (x ∷ all) zero low is = (
       [],
-      all_to a all,
-      ap (λ l. l ++ all_to a all) (ap (octets_to a) is ∙ to-itself a sent to),
+      sends_to a all,
+      ap (λ l. l ++ sends_to a all) (ap (octets_to a) is ∙ to-itself a sent to),
     )
     at (x ∷ all) (suc k) low is =
         let later = at all k (omega (arith, low)) is in (

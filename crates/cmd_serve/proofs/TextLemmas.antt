@@ -32,7 +32,7 @@ use Rattle.bay_server_turn.specs.declared.turn_report.Turn.{Turn}
 use Rattle.bay_server_turn_laws.specs.Events.{ChosenEvent, turn_events}
 use Rattle.bay_server_turn_laws.proofs.PartLemmas.{Part-turn}
 use Rattle.bay_server.specs.TurnLines.{closings_text, memory_closings_text, turn_text}
-use Rattle.cmd_serve.specs.Orders.{AreOrdered, IsOrdered}
+use Rattle.cmd_serve.specs.Requests.{AreRequested, IsRequested}
 use Rattle.cmd_serve.specs.Texts.{ArePrinted, IsPrintedFor, IsTurnLine}
 use Rattle.cmd_serve.specs.Service.{AreTurns, DoneTurn, IsBegun, server_after, past_after}
 use Rattle.cmd_serve.proofs.BeginLemmas.{ordered-from}
@@ -81,7 +81,7 @@ module _ (now : ℕ) (commands : List Command) (s : State) (ids : HaveIds s.swit
 
   other-only : (line : List ℕ) → IsLineOf now none s line → Is line
   other-only line (inl scan) =
-      absurd (let no : ◌≡◌ {A = Option ℕ} None (Some scan.steps) = scan.told in cc)
+      absurd (let no : ◌≡◌ {A = Option ℕ} None (Some scan.steps) = scan.reported in cc)
   other-only line (inr (inl command)) =
       absurd (let no : none ≡ Ok command.step = command.done in cc)
   other-only line (inr (inr other)) = inr other
@@ -125,17 +125,17 @@ turn-lines now turn s ids =
 -- A line that reads as a command is that of one.
 read-line : (t : DoneTurn) (s : State) → HaveIds s.switches → (line : List ℕ)
     (printed : PrintedCommand) → IsTurnLine t s line → printed_command line ≡ Some printed
-    → IsCommandLine t.now t.told.commands s line
+    → IsCommandLine t.now t.reported.commands s line
 read-line t s ids line printed has reads = elim has [
-  | inl out ↦ by-kind (each-line (turn-lines t.now t.told s ids) no line out)
-  | inr told ↦ by-kind (each-line (told-lines t.now t.told s ids) no line told)
+  | inl out ↦ by-kind (each-line (turn-lines t.now t.reported s ids) no line out)
+  | inr reported ↦ by-kind (each-line (told-lines t.now t.reported s ids) no line reported)
 ]
   where
-    no : Is t.now t.told.commands s ids []
+    no : Is t.now t.reported.commands s ids []
     no = inr (record { no_scan = refl; no_command = refl })
 
-    by-kind : IsCommandLine t.now t.told.commands s line ⊎ IsOther line
-        → IsCommandLine t.now t.told.commands s line
+    by-kind : IsCommandLine t.now t.reported.commands s line ⊎ IsOther line
+        → IsCommandLine t.now t.reported.commands s line
     by-kind (inl command) = command
     by-kind (inr other) =
         absurd (let no : ◌≡◌ {A = Option PrintedCommand} None (Some printed) =
@@ -151,17 +151,17 @@ module _ (first : State) (ids : HaveIds first.switches) where
 
   printed-for : (h : ServerData) (t : DoneTurn) (past : List PastEvent)
       → (server_after t h).device.switches ≡ first.switches
-      → ((command : Command) → Contains t.told.commands command
-      → IsOrdered first h t past command)
+      → ((command : Command) → Contains t.reported.commands command
+      → IsRequested first h t past command)
       → (line : List ℕ) (printed : PrintedCommand)
       → IsTurnLine t (server_after t h).device line → printed_command line ≡ Some printed
       → IsPrintedFor first h t past printed
   printed-for h t past same orders line printed has reads =
       let s : State = (server_after t h).device in
       let named : HaveIds s.switches = subst HaveIds (sym same) ids in
-      let c : IsCommandLine t.now t.told.commands s line =
+      let c : IsCommandLine t.now t.reported.commands s line =
       read-line t s named line printed has reads in
-      let order : IsOrdered first h t past c.command = orders c.command c.has in
+      let order : IsRequested first h t past c.command = orders c.command c.has in
       let within : t.now ≤ last_moment = ordered-on-time first h t past c.command order in
       let small : t.now < 2 ^ 64 = omega arith in
       let is : ◌≡◌ {A = Option PrintedCommand}
@@ -175,7 +175,7 @@ module _ (first : State) (ids : HaveIds first.switches) where
       cc in
       record {
         command = c.command;
-        told = c.has;
+        reported = c.has;
         moment = sym (ap (λ (p : PrintedCommand). p.moment) same_line);
         switch = c.switch;
         here = ap (λ ss. slice_get ss c.command.switch) (sym same) ∙ c.here;
@@ -186,7 +186,7 @@ module _ (first : State) (ids : HaveIds first.switches) where
 
   all-printed : (h : ServerData) (past : List PastEvent) (ts : List DoneTurn)
       → Stands first past h.device
-      → AreOrdered first h past ts → ArePrinted first h past ts
+      → AreRequested first h past ts → ArePrinted first h past ts
   all-printed h past [] at orders = tt
   all-printed h past (t ∷ ts) at orders =
       let events : List ChosenEvent = turn_events t.now t.given t.script h in

@@ -16,14 +16,14 @@ use Rattle.bay_server_turn_laws.specs.Flows.{IsInTime}
 use Rattle.bay_server_turn_laws.proofs.PartLemmas.{Part-turn}
 use Rattle.bay_server.specs.Clock.{moment_read}
 use Rattle.bay_server.specs.Host.{HostCall}
-use Rattle.bay_server.specs.ServeReport.{AfterTurn, MayPause, Serving, ServesTurns, TurnGoes, choice_of}
-use Rattle.cmd_serve.specs.Service.{AreTurns, DoneTurn, IsService, IsTurn, held_after, server_after, later_turns, past_after, past_of, turn_in, turns_in}
+use Rattle.bay_server.specs.ServeReport.{AfterTurn, MayPause, ServiceState, ServesTurns, TurnServed, chosen_input}
+use Rattle.cmd_serve.specs.Service.{AreTurns, DoneTurn, IsService, IsTurn, server_after_all, server_after, later_turns, past_after, past_of, turn_in, turns_in}
 use Rattle.cmd_serve.proofs.HistoryLemmas.{Stands, one-run, stands-events, stands-first}
 
 -- ---- all turns
 
 pub stands-turns : (first : State) (ts : List DoneTurn) (h : ServerData) (past : List PastEvent)
-    → Stands first past h.device → Stands first (past_of ts h past) (held_after ts h).device
+    → Stands first past h.device → Stands first (past_of ts h past) (server_after_all ts h).device
 stands-turns first [] h past at = at
 stands-turns first (t ∷ ts) h past at =
     let events = turn_events t.now t.given t.script h in
@@ -45,34 +45,34 @@ in-time clock (Ok event) h e = by-late (nat_lt last_moment (moment_at clock h)) 
     by-late false is e =
         record { not_before = omega arith; not_past = grind (arith, nat_tests) }
 
-later-are : (Ends Goes : Type 0) (h : ServerData) (told : Result ℕ WriteFault)
-    (rest : AfterTurn told Ends Goes) (more : Goes → List DoneTurn)
+later-are : (Ends Goes : Type 0) (h : ServerData) (reported : Result ℕ WriteFault)
+    (rest : AfterTurn reported Ends Goes) (more : Goes → List DoneTurn)
     → ((goes : Goes) → AreTurns h (more goes))
-    → AreTurns h (later_turns Ends Goes told rest more)
+    → AreTurns h (later_turns Ends Goes reported rest more)
 later-are Ends Goes h (Err fault) rest more each = tt
 later-are Ends Goes h (Ok status) goes more each = each goes
 
 module _ {L H W : Type 0} (step : L → Call → L → Type 0) (acts : H → HostCall L → H → Type 0)
     (contents : W → Option (List ℕ)) (asks : W → WriteCall → W → Type 0) where
-  pub paused-held : (after next : Serving L H) → MayPause acts after next → next.held ≡ after.held
-  paused-held after next (inl same) = ap (λ (b : Serving L H). b.held) same
-  paused-held after next (inr paused) = ap (λ (b : Serving L H). b.held) paused.1
+  pub paused-held : (after next : ServiceState L H) → MayPause acts after next → next.held ≡ after.held
+  paused-held after next (inl same) = ap (λ (b : ServiceState L H). b.held) same
+  paused-held after next (inr paused) = ap (λ (b : ServiceState L H). b.held) paused.1
 
-  pub is-turn : (before : Serving L H) (old : WriterState W) (after : Serving L H) (new : WriterState W)
+  pub is-turn : (before : ServiceState L H) (old : WriterState W) (after : ServiceState L H) (new : WriterState W)
       (answer : Result ℕ WriteFault)
-      (goes : TurnGoes step acts contents asks before old after new answer)
+      (goes : TurnServed step acts contents asks before old after new answer)
       → IsTurn before.held (turn_in step acts contents asks before old after new answer goes)
   is-turn before old after new answer goes = record {
     all_read = goes.serves.all_read;
     all_offered = goes.serves.all_offered;
     in_time =
-        in-time (moment_read goes.clocks before.clock) (choice_of goes.clocks before).next.given
+        in-time (moment_read goes.clocks before.clock) (chosen_input goes.clocks before).next.given
         before.held
         goes.right;
     commands = goes.serves.commands;
   }
 
-  pub turned : (turns : ℕ) (before : Serving L H) (old : WriterState W)
+  pub turned : (turns : ℕ) (before : ServiceState L H) (old : WriterState W)
       (host : H) (new : WriterState W) (answer : Result ℕ WriteFault)
       (serves : ServesTurns step acts contents asks turns before old host new answer)
       → AreTurns before.held
@@ -87,7 +87,7 @@ module _ {L H W : Type 0} (step : L → Call → L → Type 0) (acts : H → Hos
         (turned turns rest.0 _ host new answer rest.2)),
   )
 
-  pub service-of : (turns : ℕ) (before : Serving L H)
+  pub service-of : (turns : ℕ) (before : ServiceState L H)
       (old new : WriterState W) (host : H) (answer : Result ℕ WriteFault)
       (serves : ServesTurns step acts contents asks turns before old host new answer)
       → IsHistory [] before.held.device → IsService before.held
@@ -97,6 +97,6 @@ module _ {L H W : Type 0} (step : L → Call → L → Type 0) (acts : H → Hos
       let first : State = before.held.device in
       record {
         are = turned turns before old host new answer serves;
-        run = one-run first (past_of ts before.held []) (held_after ts before.held).device begin
+        run = one-run first (past_of ts before.held []) (server_after_all ts before.held).device begin
             (stands-turns first ts before.held [] (stands-first first begin));
       }

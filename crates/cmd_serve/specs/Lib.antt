@@ -8,7 +8,7 @@
 -- is logged of the files that are served.
 --
 -- `Service`: the turns that were served, one after the other, and all events of the device in them
--- since load, which are one run of it. `Orders`: the request, the answer and the scan of each
+-- since load, which are one run of it. `Requests`: the request, the answer and the scan of each
 -- command that a turn reports; `Texts`: the same for the lines that are printed. `Live`: a
 -- supervised process was alive when a turn with a command began.
 
@@ -41,7 +41,7 @@ pub use Rattle.bay_server.specs.LogLines
 pub use Rattle.bay_server.specs.ServeReport
 -- Its own definitions.
 pub mod Live
-pub mod Orders
+pub mod Requests
 pub mod Permits
 pub mod Serve
 pub mod Service

@@ -16,37 +16,37 @@ use Rattle.bay_io.specs.Watched.{WriterState}
 use Rattle.bay_io.specs.declared.outbox.WriteFault.{WriteFault}
 use Rattle.bay_process_port.specs.Ports.{initial_port}
 use Rattle.bay_process_port.specs.Supervised.{SupervisionSettings}
-use Rattle.bay_load.specs.Loads.{IsCompiled, LoadsTo, MayLoadTo, file_of, text_of}
+use Rattle.bay_load.specs.Loads.{IsCompiled, LoadsTo, MayLoadTo, parsed_bay, parsed_program}
 use Rattle.bay_load.specs.Report.{IsReport as IsReportOf}
 use Rattle.bay_load.specs.declared.load.Form.{Form}
 use Rattle.bay_load.specs.declared.load.Form.TheVariants.{Logic, Image}
 use Rattle.bay_load.specs.declared.report.Report.{Report}
-use Rattle.bay_report.specs.LogLines.{IsReported, PrintsLogs, Refuses, UnreadReport, unwritten_line}
-use Rattle.bay_report.specs.Report.{IsLast, Prints, report_text}
+use Rattle.bay_report.specs.LogLines.{IsLoggedOutput, PrintsLogs, RefusalReport, UnreadReport, unwritten_line}
+use Rattle.bay_report.specs.Report.{IsOutput, Prints, report_text}
 use Rattle.bay_report.specs.TextLines.{lines_of}
 use Rattle.bay_server_turn.specs.Calls.{Call}
 use Rattle.bay_server_turn.specs.Served.{text_in}
 use Rattle.bay_server_turn.specs.Turns.{ServerData}
 use Rattle.bay_server.specs.Clock.{initial_clock}
 use Rattle.bay_server.specs.ConnectionLines.{no_lines}
-use Rattle.bay_server.specs.Host.{HostCall, Binds, Tells}
+use Rattle.bay_server.specs.Host.{HostCall, Binds, ReadsTimes}
 use Rattle.bay_server.specs.LogLines.{ports_log, unbound_log}
 use Rattle.bay_server.specs.Logging.{LogsAll}
 use Rattle.bay_server.specs.RecordLine.{room_log}
-use Rattle.bay_server.specs.ServeReport.{AfterTurn, ProcessData, Serving, ServesTurns, numbered_lines}
+use Rattle.bay_server.specs.ServeReport.{AfterTurn, ProcessData, ServiceState, ServesTurns, numbered_lines}
 use Rattle.bay_server.specs.declared.clock.Clocks.{Clocks}
 use Rattle.bay_server.specs.declared.host.BindFault.{BindFault}
 use Rattle.cmd_audit.specs.Auditing.{ReadsOptional}
 use Rattle.cmd_serve.specs.Live.{CommandsLive, IsSupervised}
-use Rattle.cmd_serve.specs.Orders.{AreOrdered}
+use Rattle.cmd_serve.specs.Requests.{AreRequested}
 use Rattle.cmd_serve.specs.Permits.{AfterPermit, WritesOnDiagram, WritesOnRules}
 use Rattle.cmd_serve.specs.Service.{DoneTurn, IsService, turns_in}
 use Rattle.cmd_serve.specs.Sums.{sums_log}
 use Rattle.cmd_serve.specs.Texts.{ArePrinted}
-use Rattle.cmd_serve.specs.declared.serve.Bound.{Bound}
+use Rattle.cmd_serve.specs.declared.serve.BoundServer.{BoundServer}
 use Rattle.cmd_serve.specs.declared.serve.LoadedFiles.{LoadedFiles}
 use Rattle.cmd_serve.specs.declared.serve.NamedFiles.{NamedFiles}
-use Rattle.cmd_serve.specs.declared.serve.Numbers.{Numbers}
+use Rattle.cmd_serve.specs.declared.serve.ServeOptions.{ServeOptions}
 use Rattle.cmd_serve.specs.declared.serve.ServeStartFault.{ServeStartFault}
 use Rattle.cmd_serve.specs.declared.permit.Permit.{Permit}
 use Rattle.cmd_serve.specs.declared.sums.HeldCounts.{HeldCounts}
@@ -80,21 +80,21 @@ names_of named = record {
 abbrev pub KeylessReport : List ℕ → KeyFault → Option (List ℕ) → List ℕ → ℕ → Type 0
 KeylessReport name (keyless.Unread fault) = UnreadReport name fault
 KeylessReport name keyless.Exposed =
-    IsReported
+    IsLoggedOutput
     (Some (codes "bayctl: fault 121: " ++ (name ++ codes ": only its owner may read it\n")))
     (codes "fault 121\n") 3
 KeylessReport name keyless.Malformed =
-    IsReported (Some (codes "bayctl: fault 121: "
+    IsLoggedOutput (Some (codes "bayctl: fault 121: "
     ++ (name ++ codes ": a key has 32 to 64 hexadecimal digits\n"))) (codes "fault 121\n") 3
 
 -- why no turn is served: the log line, the text and the status
 abbrev pub UnservedReport : ServeStartFault → Option (List ℕ) → List ℕ → ℕ → Type 0
 UnservedReport (unserved.Unread unread) = UnreadReport unread.name.now unread.fault
 UnservedReport (unserved.KeyFileFault none) = KeylessReport none.name.now none.fault
-UnservedReport (unserved.Refused error) = Refuses error
+UnservedReport (unserved.Refused error) = RefusalReport error
 UnservedReport (unserved.Unbound port fault) =
-    IsReported (Some (unbound_log port fault)) (codes "fault 121\n") 3
-UnservedReport unserved.OutOfMemory = IsReported None (codes "fault memory\n") 3
+    IsLoggedOutput (Some (unbound_log port fault)) (codes "fault 121\n") 3
+UnservedReport unserved.OutOfMemory = IsLoggedOutput None (codes "fault memory\n") 3
 UnservedReport (unserved.Unrecorded name kind) = λ logged text status. ⊥
 
 -- the file of the record can't be created: this is logged, and the command fails as at a failed
@@ -123,7 +123,7 @@ EndsUnserved contents asks unserved.OutOfMemory old new answer =
 -- a device that was loaded from the text of a program runs what the text means
 abbrev pub RunsText : Form → FilesData → State → Type 0
 RunsText Logic both s =
-    (loaded : IsLoaded (file_of both.bay) (IsCompiled (text_of both.program)) s)
+    (loaded : IsLoaded (parsed_bay both.bay) (IsCompiled (parsed_program both.program)) s)
     × Runs loaded.made.checked s
 RunsText Image both s = Unit {0}
 
@@ -183,8 +183,8 @@ abbrev pub settings_of : Option ℕ → List ℕ → Option SupervisionSettings
 settings_of limit key = option_map (λ ms. record { limit = ms; key = key }) limit
 
 -- a server as it is created of a device: its queues are empty
-abbrev pub made_of : State → ServerData
-made_of s = record { device = s; queues = replicate associations [] }
+abbrev pub new_server : State → ServerData
+new_server s = record { device = s; queues = replicate associations [] }
 
 -- the record could not be started, if there is to be one
 abbrev pub IsRecordFault : Bool → ServeStartFault → Type 0
@@ -198,44 +198,44 @@ IsRecordFault records (unserved.Unbound port fault) = ⊥
 -- a server of a device is created, with the link of its clients and the process; or memory runs
 -- out, or the record can't be started
 abbrev pub IsBound : {L : Type 0} → Bool → State → L → Option (ProcessData L)
-    → Result (Bound L) ServeStartFault
+    → Result (BoundServer L) ServeStartFault
     → Type 0
 IsBound records s link process bound =
-    (bound ≡ Ok (record { server = made_of s; link = link; process = process }))
+    (bound ≡ Ok (record { server = new_server s; link = link; process = process }))
     ⊎ ((why : ServeStartFault) × (bound ≡ Err why) × IsRecordFault records why)
 
 module _ {L H : Type 0} (acts : H → HostCall L → H → Type 0) where
   -- the port of the process is opened, if there is one
   abbrev pub BindsProcess : Bool → Bool → Option SupervisionSettings → State → L → Option ℕ → H
-      → H → Result (Bound L) ServeStartFault → Type 0
-  BindsProcess records tells duties s link None before after bound =
+      → H → Result (BoundServer L) ServeStartFault → Type 0
+  BindsProcess records sends settings s link None before after bound =
       (after ≡ before) × IsBound records s link None bound
-  BindsProcess records tells duties s link (Some port) before after bound =
+  BindsProcess records sends settings s link (Some port) before after bound =
       (had : Result L BindFault) × acts before (Binds port None had) after
       × MatchResult had
       (λ other. IsBound records s link
-      (Some (record { link = other; port = initial_port tells duties })) bound)
+      (Some (record { link = other; port = initial_port sends settings })) bound)
       (λ fault. bound ≡ Err (unserved.Unbound port fault))
 
   -- the port of the clients is opened, and then that of the process; or memory runs out for the
   -- device, before a port is opened
-  abbrev pub BindsPorts : Numbers → Option SupervisionSettings → State → H → H
-      → Result (Bound L) ServeStartFault
+  abbrev pub BindsPorts : ServeOptions → Option SupervisionSettings → State → H → H
+      → Result (BoundServer L) ServeStartFault
       → Type 0
-  BindsPorts numbers duties s before after bound =
+  BindsPorts options settings s before after bound =
       ((had : Result L BindFault) × (mid : H)
-      × acts before (Binds numbers.port numbers.idle_s had) mid
+      × acts before (Binds options.port options.idle_s had) mid
       × MatchResult had
-      (λ link. BindsProcess (is_some numbers.record_most) numbers.tells_releases duties s link
-      numbers.process mid after bound)
-      (λ fault. (after ≡ mid) × (bound ≡ Err (unserved.Unbound numbers.port fault))))
+      (λ link. BindsProcess (is_some options.record_most) options.sends_releases settings s link
+      options.process mid after bound)
+      (λ fault. (after ≡ mid) × (bound ≡ Err (unserved.Unbound options.port fault))))
       ⊎ ((after ≡ before) × (bound ≡ Err unserved.OutOfMemory))
 
 -- what is logged before the first turn: the ports, the room of the record, if there is one, and the
 -- sums of the files that are served
-abbrev pub start_log : ℕ → Numbers → ServedFiles → List (List ℕ)
-start_log now numbers served =
-    ports_log now numbers.port numbers.process ∷ room_log now numbers.record_most
+abbrev pub start_log : ℕ → ServeOptions → ServedFiles → List (List ℕ)
+start_log now options served =
+    ports_log now options.port options.process ∷ room_log now options.record_most
     ++ sums_log now served
 
 -- the files that are served, with the numbers of the rules and of the releases that hold
@@ -255,26 +255,26 @@ module _ {L H W : Type 0} (step : L → Call → L → Type 0) (acts : H → Hos
   -- this client, and the last scan of an earlier turn, which released it; and so before each line
   -- that is printed, or sent to the process, and reads as one. If the process is supervised, it is
   -- live in each turn that reports a command.
-  pub record ServesRun (turns : ℕ) (before : Serving L H) (old new : WriterState W) (host : H)
+  pub record ServesRun (turns : ℕ) (before : ServiceState L H) (old new : WriterState W) (host : H)
       (answer : Result ℕ WriteFault) : Type 0 where
     pub serves : ServesTurns step acts contents asks turns before old host new answer
     pub done : List DoneTurn
     pub are : done ≡ turns_in step acts contents asks turns before old host new answer serves
     pub run : IsService before.held done
-    pub ordered : AreOrdered before.held.device before.held [] done
+    pub ordered : AreRequested before.held.device before.held [] done
     pub printed : ArePrinted before.held.device before.held [] done
-    pub live : (duties : SupervisionSettings) → IsSupervised duties before
-        → CommandsLive step acts contents asks duties turns before old host new answer serves
+    pub live : (settings : SupervisionSettings) → IsSupervised settings before
+        → CommandsLive step acts contents asks settings turns before old host new answer serves
 
   -- the server's clock is started, the ports, the record's room and the sums of the files are
   -- logged, and turns are served
-  abbrev pub ServesBound : Numbers → ServedFiles → Bound L → List ℕ → H → H → WriterState W → WriterState W
+  abbrev pub ServesBound : ServeOptions → ServedFiles → BoundServer L → List ℕ → H → H → WriterState W → WriterState W
       → Result ℕ WriteFault → Type 0
-  ServesBound numbers served bound trace host after old new answer =
+  ServesBound options served bound trace host after old new answer =
       (clocks : Clocks) × (began : H) × (mid : WriterState W)
-      × acts host (Tells clocks.system clocks.steady) began
-      × LogsAll contents asks old (start_log clocks.system numbers served) mid
-      × ServesRun numbers.turns
+      × acts host (ReadsTimes clocks.system clocks.steady) began
+      × LogsAll contents asks old (start_log clocks.system options served) mid
+      × ServesRun options.turns
       (record {
         link = bound.link;
         held = bound.server;
@@ -287,15 +287,15 @@ module _ {L H W : Type 0} (step : L → Call → L → Type 0) (acts : H → Hos
 
   -- the ports are opened, and the device is served, with these numbers of rules and releases that
   -- hold; or it is reported why no turn is served
-  pub record ServesPorts (numbers : Numbers) (loaded : LoadedFiles) (held : HeldCounts)
+  pub record ServesPorts (options : ServeOptions) (loaded : LoadedFiles) (held : HeldCounts)
       (before after : H) (old new : WriterState W) (answer : Result ℕ WriteFault) : Type 0 where
-    pub bound : Result (Bound L) ServeStartFault
+    pub bound : Result (BoundServer L) ServeStartFault
     pub host : H
-    pub binds : BindsPorts acts numbers
-        (settings_of numbers.limit_ms (key_of (option_map (λ digits. digits.items) loaded.key)))
+    pub binds : BindsPorts acts options
+        (settings_of options.limit_ms (key_of (option_map (λ digits. digits.items) loaded.key)))
         (state_of loaded) before host bound
-    pub goes_on : MatchResult bound
-        (λ ports. ServesBound numbers (served_of loaded held) ports loaded.trace.items host after
+    pub continuation : MatchResult bound
+        (λ ports. ServesBound options (served_of loaded held) ports loaded.trace.items host after
         old new answer)
         (λ why. EndsUnserved contents asks why old new answer × (after ≡ host))
 
@@ -307,46 +307,46 @@ module _ {L H W : Type 0} (step : L → Call → L → Type 0) (acts : H → Hos
     pub permit : Result Permit WriteFault
     pub middle : WriterState W
     pub writes : Writes old middle permit
-    pub goes_on : AfterPermit permit
-        (λ told. (new ≡ middle) × (after ≡ before) × (answer ≡ told))
+    pub continuation : AfterPermit permit
+        (λ reported. (new ≡ middle) × (after ≡ before) × (answer ≡ reported))
         (λ count. Goes count middle)
 
   -- the releases are judged by the diagram, if one was named, and then the ports are served
-  abbrev pub ServesDiagram : Numbers → LoadedFiles → ℕ → H → H → WriterState W → WriterState W
+  abbrev pub ServesDiagram : ServeOptions → LoadedFiles → ℕ → H → H → WriterState W → WriterState W
       → Result ℕ WriteFault → Type 0
-  ServesDiagram numbers loaded rules before after old new answer =
+  ServesDiagram options loaded rules before after old new answer =
       ServesPermitted (WritesOnDiagram contents asks loaded.load loaded.diagram)
-      (λ releases middle. ServesPorts numbers loaded
+      (λ releases middle. ServesPorts options loaded
       (record { rules = rules; releases = releases }) before after middle new answer) before after
       old new answer
 
   -- the rules are judged, if they were named, and then the diagram
-  abbrev pub ServesRules : Numbers → LoadedFiles → H → H → WriterState W → WriterState W
+  abbrev pub ServesRules : ServeOptions → LoadedFiles → H → H → WriterState W → WriterState W
       → Result ℕ WriteFault → Type 0
-  ServesRules numbers loaded before after old new answer =
+  ServesRules options loaded before after old new answer =
       ServesPermitted (WritesOnRules contents asks loaded.load loaded.rules)
-      (λ rules middle. ServesDiagram numbers loaded rules before after middle new answer) before
+      (λ rules middle. ServesDiagram options loaded rules before after middle new answer) before
       after old new answer
 
   -- the line of a load is printed, then the rules and the diagram are judged, and the ports are
   -- served
-  pub record ServesLoaded (numbers : Numbers) (loaded : LoadedFiles) (before after : H)
+  pub record ServesLoaded (options : ServeOptions) (loaded : LoadedFiles) (before after : H)
       (old new : WriterState W) (answer : Result ℕ WriteFault) : Type 0 where
     pub report : Report
     pub is : IsReportOf loaded.load.image report
     pub middle : WriterState W
-    pub told : Result ℕ WriteFault
-    pub printed : Prints contents asks (IsLast (report_text report) 0) old middle told
-    pub goes_on : AfterTurn told ((new ≡ middle) × (after ≡ before) × (answer ≡ told))
-        (ServesRules numbers loaded before after middle new answer)
+    pub reported : Result ℕ WriteFault
+    pub printed : Prints contents asks (IsOutput (report_text report) 0) old middle reported
+    pub continuation : AfterTurn reported ((new ≡ middle) × (after ≡ before) × (answer ≡ reported))
+        (ServesRules options loaded before after middle new answer)
 
   -- Files are read and loaded, and their contents are served; or it is reported why no turn is
   -- served.
   pub record ServesFiles {F : Type 0} (reads : FileReads F) (guards : ProtectedReads F) (files : F)
-      (named : FileNames) (numbers : Numbers) (before after : H) (old new : WriterState W)
+      (named : FileNames) (options : ServeOptions) (before after : H) (old new : WriterState W)
       (answer : Result ℕ WriteFault) : Type 0 where
     pub loaded : Result LoadedFiles ServeStartFault
     pub loads : LoadsFiles reads guards files named loaded
-    pub goes_on : MatchResult loaded
-        (λ all. ServesLoaded numbers all before after old new answer)
+    pub continuation : MatchResult loaded
+        (λ all. ServesLoaded options all before after old new answer)
         (λ why. EndsUnserved contents asks why old new answer × (after ≡ before))

@@ -7,16 +7,16 @@ use Rattle.bay_device.specs.Outcomes.{associations, outcome}
 use Rattle.bay_io.specs.Calls.{WriteCall}
 use Rattle.bay_io.specs.Watched.{WriterState}
 use Rattle.bay_io.specs.declared.outbox.WriteFault.{WriteFault}
-use Rattle.cmd_replay.specs.Runs.{IsOneRun}
+use Rattle.cmd_replay.specs.Runs.{IsGuardedRun}
 use Rattle.bay_server_turn.specs.Calls.{Call}
-use Rattle.bay_server_turn.specs.Served.{reported_in}
+use Rattle.bay_server_turn.specs.Served.{report_in}
 use Rattle.bay_server_turn.specs.Turns.{ServerData, Script, after_turn}
 use Rattle.bay_server_turn.specs.declared.process_input.ProcessReport.{ProcessReport}
 use Rattle.bay_server_turn.specs.declared.turn_report.Turn.{Turn}
 use Rattle.bay_server_turn_laws.specs.Events.{ChosenEvent, turn_events}
 use Rattle.bay_server_turn_laws.specs.Flows.{IsInTime}
 use Rattle.bay_server.specs.Host.{HostCall}
-use Rattle.bay_server.specs.ServeReport.{AfterTurn, Serving, ServesTurns, TurnGoes, choice_of, moment_of}
+use Rattle.bay_server.specs.ServeReport.{AfterTurn, ServiceState, ServesTurns, TurnServed, chosen_input, moment_of}
 
 -- ---- a new server
 
@@ -33,16 +33,16 @@ pub record DoneTurn : Type 0 where
   pub now : ℕ
   pub given : ProcessReport
   pub script : Script
-  pub told : Turn
+  pub reported : Turn
 
 -- the server after a turn
 abbrev pub server_after : DoneTurn → ServerData → ServerData
 server_after t h = (after_turn t.now t.given t.script h).server
 
 -- the server after all of them
-abbrev pub held_after : List DoneTurn → ServerData → ServerData
-held_after [] h = h
-held_after (t ∷ ts) h = held_after ts (server_after t h)
+abbrev pub server_after_all : List DoneTurn → ServerData → ServerData
+server_after_all [] h = h
+server_after_all (t ∷ ts) h = server_after_all ts (server_after t h)
 
 -- A turn was done on a server: the script has the results of eight reads and eight offers, the
 -- moment is not before the last nor too large, and the turn reported the commands that it
@@ -51,7 +51,7 @@ pub record IsTurn (h : ServerData) (t : DoneTurn) : Type 0 where
   pub all_read : length t.script.readings ≡ associations
   pub all_offered : length t.script.offers ≡ associations
   pub in_time : IsInTime t.now h
-  pub commands : t.told.commands ≡ (after_turn t.now t.given t.script h).noted.commands
+  pub commands : t.reported.commands ≡ (after_turn t.now t.given t.script h).noted.commands
 
 -- Each turn was done so, on the server after the turns before it.
 abbrev pub AreTurns : ServerData → List DoneTurn → Type 0
@@ -61,25 +61,25 @@ AreTurns h (t ∷ ts) = IsTurn h t × AreTurns (server_after t h) ts
 -- ---- the turns that were served
 
 -- the turns after one, if its lines could be written
-abbrev pub later_turns : (Ends Goes : Type 0) (told : Result ℕ WriteFault)
-    → AfterTurn told Ends Goes → (Goes → List DoneTurn) → List DoneTurn
+abbrev pub later_turns : (Ends Goes : Type 0) (reported : Result ℕ WriteFault)
+    → AfterTurn reported Ends Goes → (Goes → List DoneTurn) → List DoneTurn
 later_turns Ends Goes (Err fault) ends more = []
 later_turns Ends Goes (Ok status) goes more = more goes
 
 module _ {L H W : Type 0} (step : L → Call → L → Type 0) (acts : H → HostCall L → H → Type 0)
     (contents : W → Option (List ℕ)) (asks : W → WriteCall → W → Type 0) where
-  abbrev pub turn_in : (before : Serving L H) (old : WriterState W) (after : Serving L H)
+  abbrev pub turn_in : (before : ServiceState L H) (old : WriterState W) (after : ServiceState L H)
       (new : WriterState W) (answer : Result ℕ WriteFault)
-      → TurnGoes step acts contents asks before old after new answer → DoneTurn
+      → TurnServed step acts contents asks before old after new answer → DoneTurn
   turn_in before old after new answer goes = record {
     now = moment_of goes.clocks before;
-    given = reported_in (choice_of goes.clocks before).next.given;
+    given = report_in (chosen_input goes.clocks before).next.given;
     script = goes.serves.script;
-    told = goes.turn;
+    reported = goes.turn;
   }
 
   -- each turn that was done, in their order
-  abbrev pub turns_in : (turns : ℕ) (before : Serving L H) (old : WriterState W) (host : H)
+  abbrev pub turns_in : (turns : ℕ) (before : ServiceState L H) (old : WriterState W) (host : H)
       (new : WriterState W) (answer : Result ℕ WriteFault)
       → ServesTurns step acts contents asks turns before old host new answer
       → List DoneTurn
@@ -111,4 +111,4 @@ past_of (t ∷ ts) h past =
 -- Turns were done on a server, and the history of its device in them since load is one run.
 pub record IsService (first : ServerData) (turns : List DoneTurn) : Type 0 where
   pub are : AreTurns first turns
-  pub run : IsOneRun first.device (past_of turns first []) (held_after turns first).device
+  pub run : IsGuardedRun first.device (past_of turns first []) (server_after_all turns first).device

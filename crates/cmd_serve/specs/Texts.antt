@@ -10,7 +10,7 @@ use Rattle.bay_replay_laws.specs.Printed.{PrintedCommand, lines_in, printed_comm
 use Rattle.bay_server_turn.specs.Turns.{ServerData}
 use Rattle.bay_server_turn_laws.specs.Events.{turn_events}
 use Rattle.bay_server.specs.TurnLines.{turn_text}
-use Rattle.cmd_serve.specs.Orders.{IsOrdered}
+use Rattle.cmd_serve.specs.Requests.{IsRequested}
 use Rattle.cmd_serve.specs.Service.{DoneTurn, server_after, past_after}
 
 -- A line that reads as a command is that of a command that the turn reported, at the turn's moment,
@@ -18,19 +18,19 @@ use Rattle.cmd_serve.specs.Service.{DoneTurn, server_after, past_after}
 pub record IsPrintedFor (first : State) (h : ServerData) (t : DoneTurn) (past : List PastEvent)
     (printed : PrintedCommand) : Type 0 where
   pub command : Command
-  pub told : Contains t.told.commands command
+  pub reported : Contains t.reported.commands command
   pub moment : printed.moment ≡ t.now
   pub switch : Switch
   pub here : slice_get first.switches command.switch ≡ Some switch
   pub named : printed.id ≡ switch.id
   pub operation : printed.operation ≡ command.operation
-  pub ordered : IsOrdered first h t past command
+  pub ordered : IsRequested first h t past command
 
 -- The line is printed for a turn, or sent to the process after it.
 abbrev pub IsTurnLine : DoneTurn → State → List ℕ → Type 0
 IsTurnLine t s line =
-    Contains (lines_in (turn_text t.now t.told s)) line
-    ⊎ Contains (lines_in (process_turn_text t.now t.told s)) line
+    Contains (lines_in (turn_text t.now t.reported s)) line
+    ⊎ Contains (lines_in (process_turn_text t.now t.reported s)) line
 
 -- Each line of the turns that reads as a command is that of such a command.
 abbrev pub ArePrinted : State → ServerData → List PastEvent → List DoneTurn → Type 0

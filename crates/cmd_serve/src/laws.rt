@@ -7,16 +7,16 @@ ghost use Rattle.bay_io.specs.declared.outbox.WriteFault.{WriteFault};
 ghost use Rattle.bay_device.specs.Load.{IsLoaded, LoadsDevice};
 ghost use Rattle.bay_device.specs.Meaning.{Runs};
 ghost use Rattle.bay_device.specs.Outcomes.{associations};
-ghost use Rattle.bay_load.specs.Loads.{IsCompiled, file_of, text_of};
+ghost use Rattle.bay_load.specs.Loads.{IsCompiled, parsed_bay, parsed_program};
 ghost use Rattle.bay_load.specs.declared.load.Form.{Form};
 ghost use Rattle.bay_load.specs.declared.load.Form.TheVariants.{Logic};
 ghost use Rattle.bay_replay_laws.specs.ReadBack.{HaveIds};
-ghost use Rattle.bay_server_turn.specs.Calls.{Called};
+ghost use Rattle.bay_server_turn.specs.Calls.{CountedCall};
 ghost use Rattle.bay_server_turn.specs.Turns.{ServerData};
-ghost use Rattle.bay_server.specs.ServeReport.{Serving, ServesTurns};
+ghost use Rattle.bay_server.specs.ServeReport.{ServiceState, ServesTurns};
 ghost use Rattle.bay_process_port.specs.Supervised.{SupervisionSettings};
 ghost use Rattle.cmd_serve.specs.Live.{CommandsLive, IsSupervised};
-ghost use Rattle.cmd_serve.specs.Orders.{AreOrdered};
+ghost use Rattle.cmd_serve.specs.Requests.{AreRequested};
 ghost use Rattle.cmd_serve.specs.Texts.{ArePrinted};
 ghost use Rattle.cmd_serve.specs.Service.{AreTurns, DoneTurn, IsBegun, IsService, turns_in};
 
@@ -31,11 +31,11 @@ use bay_server_turn::link::Link;
 /// the octets of the answer accept, backed by a select if its switch must be selected. Each scan of
 /// a device that runs a program results in what the program means.
 pub fn all_turns_are_one_run<L: Link, H: Host<L>, W: Sink>(_link: &L, _host: &H, _sink: &W)
-    ensures run { (turns : ℕ) (before : Serving L H) (old new : WriterState W) (host : H)
+    ensures run { (turns : ℕ) (before : ServiceState L H) (old new : WriterState W) (host : H)
         (answer : Result ℕ WriteFault)
-        (serves : ServesTurns (Called L.does L.failures) H.does W.contents W.does turns before old
+        (serves : ServesTurns (CountedCall L.does L.failures) H.does W.contents W.does turns before old
         host new answer) → IsHistory [] before.held.device
-        → IsService before.held (turns_in (Called L.does L.failures) H.does W.contents W.does turns
+        → IsService before.held (turns_in (CountedCall L.does L.failures) H.does W.contents W.does turns
         before old host new answer serves) }
     // A new server of a device that was just loaded meets `IsBegun`.
     ensures begins { (bay : List ℕ) (form : Form) (program : List ℕ) (device : State)
@@ -43,7 +43,7 @@ pub fn all_turns_are_one_run<L: Link, H: Host<L>, W: Sink>(_link: &L, _host: &H,
         → IsBegun (record { device = device; queues = replicate associations [] }) }
     // A device that was loaded from a program's text runs it.
     ensures runs { (bay program : List ℕ) (device : State) → LoadsDevice bay Logic program device
-        → (loaded : IsLoaded (file_of bay) (IsCompiled (text_of program)) device)
+        → (loaded : IsLoaded (parsed_bay bay) (IsCompiled (parsed_program program)) device)
         × Runs loaded.made.checked device }
 {}
 
@@ -61,11 +61,11 @@ pub fn all_turns_are_one_run<L: Link, H: Host<L>, W: Sink>(_link: &L, _host: &H,
 /// events of associations come before the octets. If the switch has a key, the process last
 /// reported before this turn that the key is at remote, and it was not lost since.
 pub fn each_command_is_requested<L: Link, H: Host<L>, W: Sink>(_link: &L, _host: &H, _sink: &W)
-    ensures { (turns : ℕ) (before : Serving L H) (old new : WriterState W) (host : H)
+    ensures { (turns : ℕ) (before : ServiceState L H) (old new : WriterState W) (host : H)
         (answer : Result ℕ WriteFault)
-        (serves : ServesTurns (Called L.does L.failures) H.does W.contents W.does turns before old
+        (serves : ServesTurns (CountedCall L.does L.failures) H.does W.contents W.does turns before old
         host new answer) → IsBegun before.held
-        → AreOrdered before.held.device before.held [] (turns_in (Called L.does L.failures) H.does
+        → AreRequested before.held.device before.held [] (turns_in (CountedCall L.does L.failures) H.does
         W.contents W.does turns before old host new answer serves) }
 {}
 
@@ -74,11 +74,11 @@ pub fn each_command_is_requested<L: Link, H: Host<L>, W: Sink>(_link: &L, _host:
 /// to the switch with this id. This command has the client's octets, the success sent to the client
 /// and the last scan of the earlier turns that the law above requires.
 pub fn printed_commands_are_requested<L: Link, H: Host<L>, W: Sink>(_link: &L, _host: &H, _sink: &W)
-    ensures lines { (turns : ℕ) (before : Serving L H) (old new : WriterState W) (host : H)
+    ensures lines { (turns : ℕ) (before : ServiceState L H) (old new : WriterState W) (host : H)
         (answer : Result ℕ WriteFault)
-        (serves : ServesTurns (Called L.does L.failures) H.does W.contents W.does turns before old
+        (serves : ServesTurns (CountedCall L.does L.failures) H.does W.contents W.does turns before old
         host new answer) → IsBegun before.held → HaveIds before.held.device.switches
-        → ArePrinted before.held.device before.held [] (turns_in (Called L.does L.failures) H.does
+        → ArePrinted before.held.device before.held [] (turns_in (CountedCall L.does L.failures) H.does
         W.contents W.does turns before old host new answer serves) }
     // The switches of a device that was loaded have ids.
     ensures names { (bay : List ℕ) (form : Form) (program : List ℕ) (device : State)
@@ -91,7 +91,7 @@ pub fn printed_commands_are_requested<L: Link, H: Host<L>, W: Sink>(_link: &L, _
 /// answered.
 pub fn no_octets_command_alone()
     ensures { (begun : ServerData) (turns : List DoneTurn) → IsBegun begun → AreTurns begun turns
-        → AreOrdered begun.device begun [] turns }
+        → AreRequested begun.device begun [] turns }
 {}
 
 /// Commands need a live process: if a server's process is supervised, and no line of a trace comes
@@ -101,11 +101,11 @@ pub fn no_octets_command_alone()
 /// moment than that of the turn that took it. Since the turn before, the system's clock has gone on
 /// by no more than these milliseconds beyond the steady one.
 pub fn commands_need_a_live_process<L: Link, H: Host<L>, W: Sink>(_link: &L, _host: &H, _sink: &W)
-    ensures { (duties : SupervisionSettings) (turns : ℕ) (before : Serving L H) (old : WriterState W)
+    ensures { (settings : SupervisionSettings) (turns : ℕ) (before : ServiceState L H) (old : WriterState W)
         (host : H)
         (new : WriterState W) (answer : Result ℕ WriteFault)
-        (serves : ServesTurns (Called L.does L.failures) H.does W.contents W.does turns before old
-        host new answer) → IsBegun before.held → IsSupervised duties before
-        → CommandsLive (Called L.does L.failures) H.does W.contents W.does duties turns before old
+        (serves : ServesTurns (CountedCall L.does L.failures) H.does W.contents W.does turns before old
+        host new answer) → IsBegun before.held → IsSupervised settings before
+        → CommandsLive (CountedCall L.does L.failures) H.does W.contents W.does settings turns before old
         host new answer serves }
 {}

@@ -3,10 +3,10 @@ ghost use Rattle.std.specs.Prelude.{◌≡◌, None, Some, Ok, Err, false, is_so
 ghost use Rattle.bay_device.specs.Load.{device_of};
 ghost use Rattle.bay_device.specs.Outcomes.{associations};
 ghost use Rattle.bay_report.specs.LogLines.{PrintsLogs};
-ghost use Rattle.cmd_serve.specs.Serve.{BindsPorts, BindsProcess, EndsUnserved, IsBound, IsRecordFault, KeylessReport, LoadsFiles, ServesBound, ServesFiles, ServesLoaded, ServesPorts, Unrecorded, UnservedReport, settings_of, key_of, made_of, names_of, state_of};
+ghost use Rattle.cmd_serve.specs.Serve.{BindsPorts, BindsProcess, EndsUnserved, IsBound, IsRecordFault, KeylessReport, LoadsFiles, ServesBound, ServesFiles, ServesLoaded, ServesPorts, Unrecorded, UnservedReport, settings_of, key_of, new_server, names_of, state_of};
 ghost use Rattle.cmd_serve.specs.declared.serve.ServeStartFault.TheVariants as unserved;
 ghost use Rattle.bay_replay_laws.specs.ReadBack.{HaveIds};
-ghost use Rattle.bay_server_turn.specs.Calls.{Called};
+ghost use Rattle.bay_server_turn.specs.Calls.{CountedCall};
 ghost use Rattle.cmd_serve.specs.Service.{IsBegun};
 
 use crate::permit::{Permit, prove_diagram, prove_rules};
@@ -45,11 +45,11 @@ use std::io::ErrorKind;
 /// supervised, for how many seconds a client may send nothing, if that is limited, and the most
 /// octets of the record, if the session is recorded.
 #[derive(Clone, Copy)]
-pub struct Numbers {
+pub struct ServeOptions {
     pub port: u16,
     pub turns: u32,
     pub process: Option<u16>,
-    pub tells_releases: bool,
+    pub sends_releases: bool,
     pub limit_ms: Option<u32>,
     pub idle_s: Option<u32>,
     pub record_most: Option<u32>,
@@ -84,7 +84,7 @@ pub struct LoadedFiles {
 
 /// A server of a device, the link of its clients, and the process, if there is one.
 #[derive(Drop)]
-pub struct Bound<L> {
+pub struct BoundServer<L> {
     server: Server,
     link: L,
     process: Option<Process<L>>,
@@ -218,7 +218,7 @@ fn read_and_load<'a, F: FileSystem>(
         (λ loaded. LoadsFiles F.reads F.guards files.now (names_of named.entry) (Ok loaded)) }
     ensures err { IfErr result
         (λ why. LoadsFiles F.reads F.guards files.now (names_of named.entry) (Err why)) }
-    ensures begun { IfOk result (λ loaded. IsBegun (made_of (state_of loaded))) }
+    ensures begun { IfOk result (λ loaded. IsBegun (new_server (state_of loaded))) }
     ensures named { IfOk result (λ loaded. HaveIds loaded.load.bay.switches) }
     ensures short { IfOk result
         (λ loaded. length (key_of (option_map (λ digits. digits.items) loaded.key)) ≤ 64) }
@@ -256,7 +256,7 @@ fn key_octets(key: &Option<Vec<u8>>) -> &[u8]
 }
 
 // Returns the supervision settings, if the process is supervised.
-fn settings_by(limit_ms: Option<u32>, key: &[u8]) -> Option<SupervisionSettings>
+fn make_settings(limit_ms: Option<u32>, key: &[u8]) -> Option<SupervisionSettings>
     requires { length key.now ≤ 64 }
     ensures { result ≡ settings_of limit_ms key.now }
 {
@@ -302,7 +302,7 @@ fn start_record<'a, F: FileSystem>(
 
 // Creates a server of a device, with the link of its clients and the process, and starts its
 // record.
-fn bound_to<'a, F: FileSystem, L: Drop>(
+fn make_bound_server<'a, F: FileSystem, L: Drop>(
     alloc: Global,
     device: Device,
     link: L,
@@ -310,10 +310,10 @@ fn bound_to<'a, F: FileSystem, L: Drop>(
     record_file: Option<&'a str>,
     record_most: Option<u32>,
     files: &mut F,
-) -> Result<Bound<L>, ServeStartFault<'a>>
+) -> Result<BoundServer<L>, ServeStartFault<'a>>
     requires closed { device.connections ≡ replicate associations None }
     ensures bound { IsBound (is_some record_file.entry) device link process result }
-    ensures server { IfOk result (λ bound. bound.server ≡ made_of device) }
+    ensures server { IfOk result (λ bound. bound.server ≡ new_server device) }
     ensures files { is_some record_file.entry ≡ false → files.new ≡ files.old }
 {
     let mut server = match Server::new(alloc, device) {
@@ -321,7 +321,7 @@ fn bound_to<'a, F: FileSystem, L: Drop>(
         Err(AllocFailed { value: _ }) => return Err(ServeStartFault::OutOfMemory),
     };
     match start_record(alloc, record_file, record_most, files, &mut server) {
-        Ok(()) => Ok(Bound {
+        Ok(()) => Ok(BoundServer {
             server,
             link,
             process,
@@ -336,27 +336,27 @@ fn bind_process<'a, F: FileSystem, L: Link + Drop, H: Host<L>>(
     device: Device,
     link: L,
     host: &mut H,
-    numbers: Numbers,
-    duties: Option<SupervisionSettings>,
+    options: ServeOptions,
+    settings: Option<SupervisionSettings>,
     record_file: Option<&'a str>,
     files: &mut F,
-) -> Result<Bound<L>, ServeStartFault<'a>>
+) -> Result<BoundServer<L>, ServeStartFault<'a>>
     requires closed { device.connections ≡ replicate associations None }
-    requires records { is_some numbers.record_most ≡ is_some record_file }
-    ensures binds { BindsProcess H.does (is_some numbers.record_most) numbers.tells_releases duties
-        device link numbers.process host.old host.new result }
-    ensures server { IfOk result (λ bound. bound.server ≡ made_of device) }
-    ensures files { is_some numbers.record_most ≡ false → files.new ≡ files.old }
+    requires records { is_some options.record_most ≡ is_some record_file }
+    ensures binds { BindsProcess H.does (is_some options.record_most) options.sends_releases settings
+        device link options.process host.old host.new result }
+    ensures server { IfOk result (λ bound. bound.server ≡ new_server device) }
+    ensures files { is_some options.record_most ≡ false → files.new ≡ files.old }
 {
-    let most = numbers.record_most;
-    let Some(port) = numbers.process else {
-        return bound_to(alloc, device, link, None, record_file, most, files);
+    let most = options.record_most;
+    let Some(port) = options.process else {
+        return make_bound_server(alloc, device, link, None, record_file, most, files);
     };
     match host.bind(port, None) {
         Ok(had) => {
-            let port = Port::new(alloc, numbers.tells_releases, duties)?;
+            let port = Port::new(alloc, options.sends_releases, settings)?;
             let process = Some(Process::new(had, port));
-            bound_to(alloc, device, link, process, record_file, most, files)
+            make_bound_server(alloc, device, link, process, record_file, most, files)
         }
         Err(fault) => Err(ServeStartFault::Unbound(port, fault)),
     }
@@ -368,53 +368,53 @@ fn bind_ports<'a, F: FileSystem, L: Link + Drop, H: Host<L>>(
     alloc: Global,
     load: Loaded,
     host: &mut H,
-    numbers: Numbers,
-    duties: Option<SupervisionSettings>,
+    options: ServeOptions,
+    settings: Option<SupervisionSettings>,
     record_file: Option<&'a str>,
     files: &mut F,
-) -> Result<Bound<L>, ServeStartFault<'a>>
-    requires records { is_some numbers.record_most ≡ is_some record_file }
-    ensures binds { BindsPorts H.does numbers duties (device_of load) host.old host.new result }
-    ensures server { IfOk result (λ bound. bound.server ≡ made_of (device_of load)) }
-    ensures files { is_some numbers.record_most ≡ false → files.new ≡ files.old }
+) -> Result<BoundServer<L>, ServeStartFault<'a>>
+    requires records { is_some options.record_most ≡ is_some record_file }
+    ensures binds { BindsPorts H.does options settings (device_of load) host.old host.new result }
+    ensures server { IfOk result (λ bound. bound.server ≡ new_server (device_of load)) }
+    ensures files { is_some options.record_most ≡ false → files.new ≡ files.old }
 {
     let device = Device::new(alloc, load)?;
-    match host.bind(numbers.port, numbers.idle_s) {
+    match host.bind(options.port, options.idle_s) {
         Ok(link) => bind_process(
             alloc,
             device,
             link,
             host,
-            numbers,
-            duties,
+            options,
+            settings,
             record_file,
             files,
         ),
-        Err(fault) => Err(ServeStartFault::Unbound(numbers.port, fault)),
+        Err(fault) => Err(ServeStartFault::Unbound(options.port, fault)),
     }
 }
 
 // Starts the server's clock, logs the ports, the record's room and the sums of the files, and
 // serves the given number of turns.
 fn serve_bound<L: Link + Drop, H: Host<L>, W: Sink>(
-    bound: Bound<L>,
+    bound: BoundServer<L>,
     served: ServedFiles,
     trace: &[u8],
     host: &mut H,
-    numbers: Numbers,
+    options: ServeOptions,
     writer: &mut WatchedWriter<W>,
 ) -> Result<u8, WriteFault>
     requires begun { IsBegun bound.server }
     requires named { HaveIds bound.server.device.switches }
-    ensures { ServesBound (Called L.does L.failures) H.does W.contents W.does numbers served
+    ensures { ServesBound (CountedCall L.does L.failures) H.does W.contents W.does options served
         bound trace.now host.old host.new writer.old writer.new result }
 {
     let clocks = host.clocks();
-    log_ports(writer, clocks.system, numbers.port, numbers.process);
-    log_room(writer, clocks.system, numbers.record_most);
+    log_ports(writer, clocks.system, options.port, options.process);
+    log_room(writer, clocks.system, options.record_most);
     log_sums(writer, clocks.system, &served);
     drop(served);
-    let Bound {
+    let BoundServer {
         server,
         link,
         process,
@@ -427,7 +427,7 @@ fn serve_bound<L: Link + Drop, H: Host<L>, W: Sink>(
         process,
         host,
         trace,
-        numbers.turns,
+        options.turns,
         writer,
     )
 }
@@ -441,16 +441,16 @@ fn serve_ports<F: FileSystem, L: Link + Drop, H: Host<L>, W: Sink>(
     record_file: Option<&str>,
     files: &mut F,
     host: &mut H,
-    numbers: Numbers,
+    options: ServeOptions,
     writer: &mut WatchedWriter<W>,
 ) -> Result<u8, WriteFault>
-    requires records { is_some numbers.record_most ≡ is_some record_file }
-    requires begun { IsBegun (made_of (state_of loaded)) }
+    requires records { is_some options.record_most ≡ is_some record_file }
+    requires begun { IsBegun (new_server (state_of loaded)) }
     requires named { HaveIds loaded.load.bay.switches }
     requires short { length (key_of (option_map (λ digits. digits.items) loaded.key)) ≤ 64 }
-    ensures serves { ServesPorts (Called L.does L.failures) H.does W.contents W.does numbers loaded
+    ensures serves { ServesPorts (CountedCall L.does L.failures) H.does W.contents W.does options loaded
         held host.old host.new writer.old writer.new result }
-    ensures files { is_some numbers.record_most ≡ false → files.new ≡ files.old }
+    ensures files { is_some options.record_most ≡ false → files.new ≡ files.old }
 {
     let LoadedFiles {
         form,
@@ -468,9 +468,9 @@ fn serve_ports<F: FileSystem, L: Link + Drop, H: Host<L>, W: Sink>(
         diagram,
         held,
     };
-    let duties = settings_by(numbers.limit_ms, key_octets(&key));
-    match bind_ports(alloc, load, host, numbers, duties, record_file, files) {
-        Ok(bound) => serve_bound(bound, served, trace.as_slice(), host, numbers, writer),
+    let settings = make_settings(options.limit_ms, key_octets(&key));
+    match bind_ports(alloc, load, host, options, settings, record_file, files) {
+        Ok(bound) => serve_bound(bound, served, trace.as_slice(), host, options, writer),
         Err(why) => report_unserved(writer, why),
     }
 }
@@ -483,16 +483,16 @@ fn serve_loaded<F: FileSystem, L: Link + Drop, H: Host<L>, W: Sink>(
     record_file: Option<&str>,
     files: &mut F,
     host: &mut H,
-    numbers: Numbers,
+    options: ServeOptions,
     writer: &mut WatchedWriter<W>,
 ) -> Result<u8, WriteFault>
-    requires records { is_some numbers.record_most ≡ is_some record_file }
-    requires begun { IsBegun (made_of (state_of loaded)) }
+    requires records { is_some options.record_most ≡ is_some record_file }
+    requires begun { IsBegun (new_server (state_of loaded)) }
     requires named { HaveIds loaded.load.bay.switches }
     requires short { length (key_of (option_map (λ digits. digits.items) loaded.key)) ≤ 64 }
-    ensures serves { ServesLoaded (Called L.does L.failures) H.does W.contents W.does numbers loaded
+    ensures serves { ServesLoaded (CountedCall L.does L.failures) H.does W.contents W.does options loaded
         host.old host.new writer.old writer.new result }
-    ensures files { is_some numbers.record_most ≡ false → files.new ≡ files.old }
+    ensures files { is_some options.record_most ≡ false → files.new ≡ files.old }
 {
     write_report(writer, loaded.load.report())?;
     let permit = prove_rules(alloc, &loaded.load, &loaded.rules, writer)?;
@@ -513,7 +513,7 @@ fn serve_loaded<F: FileSystem, L: Link + Drop, H: Host<L>, W: Sink>(
         record_file,
         files,
         host,
-        numbers,
+        options,
         writer,
     )
 }
@@ -543,17 +543,17 @@ pub fn serve<F: FileSystem, L: Link + Drop, H: Host<L>, W: Sink>(
     record_file: Option<&str>,
     files: &mut F,
     host: &mut H,
-    numbers: Numbers,
+    options: ServeOptions,
     writer: &mut WatchedWriter<W>,
 ) -> Result<u8, WriteFault>
-    requires records { is_some numbers.record_most ≡ is_some record_file }
-    ensures serves { ServesFiles (Called L.does L.failures) H.does W.contents W.does F.reads
-        F.guards files.old (names_of named.entry) numbers host.old host.new writer.old writer.new
+    requires records { is_some options.record_most ≡ is_some record_file }
+    ensures serves { ServesFiles (CountedCall L.does L.failures) H.does W.contents W.does F.reads
+        F.guards files.old (names_of named.entry) options host.old host.new writer.old writer.new
         result }
-    ensures files { is_some numbers.record_most ≡ false → files.new ≡ files.old }
+    ensures files { is_some options.record_most ≡ false → files.new ≡ files.old }
 {
     match read_and_load(alloc, named, files) {
-        Ok(loaded) => serve_loaded(alloc, loaded, record_file, files, host, numbers, writer),
+        Ok(loaded) => serve_loaded(alloc, loaded, record_file, files, host, options, writer),
         Err(why) => report_unserved(writer, why),
     }
 }

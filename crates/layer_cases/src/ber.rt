@@ -9,7 +9,7 @@ use bay_ber::writer::Writer;
 use std::alloc::{AllocError, Global};
 
 // Writes a value of a kind. Returns `None` if the content is none of this kind.
-fn written(alloc: Global, kind: &str, tlv: Tlv<'_>) -> Result<Option<Outgoing>, AllocError>
+fn encode_value(alloc: Global, kind: &str, tlv: Tlv<'_>) -> Result<Option<Outgoing>, AllocError>
     requires { tlv.tag.number < 31 }
 {
     let mut writer = Writer::new(alloc, 100_000)?;
@@ -37,7 +37,7 @@ pub fn value(alloc: Global, kind: &str, octets: &[u8]) -> Result<String> {
     };
     let mut is_written = false;
     if tlv.tag.number < 31 {
-        is_written = written(alloc, kind, tlv)?.is_some_and(|it| octets.starts_with(it.as_slice()));
+        is_written = encode_value(alloc, kind, tlv)?.is_some_and(|it| octets.starts_with(it.as_slice()));
     }
     let text = match kind {
         "int" => format!(in alloc; "{:?}", int_of(tlv.content)),

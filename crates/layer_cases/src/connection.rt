@@ -91,7 +91,7 @@ pub fn stream(alloc: Global, number: &str, octets: &[u8]) -> Result<String> {
 }
 
 /// Returns the frames of a TSDU after a request.
-pub fn wrapped(alloc: Global, tsdu: &str, request: &[u8]) -> Result<String> {
+pub fn wrap_tsdu(alloc: Global, tsdu: &str, request: &[u8]) -> Result<String> {
     let tsdu = octets_of(alloc, tsdu)?;
     let mut transport = Transport::new(alloc, 1);
     transport.feed(request)?;

@@ -27,10 +27,10 @@
 // - `programs`: `= TEXT` is the declarations of the next programs; `check LINES` is the number, the
 //   line and the message of the fault that the checks find, or `0 0`; line 1 is that of PROGRAM,
 //   and the declarations begin at line 2. `octets LINES` is the image of a program as text and in
-//   octets, `decoded OCTETS` that of an image. `report LINES` and `image OCTETS` are the
+//   octets, `decode_image OCTETS` that of an image. `report LINES` and `image OCTETS` are the
 //   instructions, the depth and the budget of a program and of an image, or the number, the offset
 //   and the message of its fault; the next scans run it. `scan MS INPUTS` is the steps and the
-//   outputs of a scan, with commas between the numbers of the inputs. `changed OCTETS` counts the
+//   outputs of a scan, with commas between the numbers of the inputs. `count_changed OCTETS` counts the
 //   results for an image with each octet changed to each other value: an image, or refused with 80,
 //   81, 82 or 83.
 // - `controls`: calls of a bay's controls (the file `controls` has their forms), which `start`
@@ -85,7 +85,7 @@ fn answer(alloc: Global, kind: &str, words: &str) -> Result<String> {
     match kind {
         "front" | "int" | "bool" | "bits" => ber::value(alloc, kind, octets.as_slice()),
         "stream" => connection::stream(alloc, rest, octets.as_slice()),
-        "wrap" => connection::wrapped(alloc, rest, octets.as_slice()),
+        "wrap" => connection::wrap_tsdu(alloc, rest, octets.as_slice()),
         "request" | "operate" | "cancel" => requests::request(alloc, kind, octets.as_slice()),
         _ => bail!("what is this: {kind}"),
     }
@@ -137,19 +137,19 @@ impl<'a> Section<'a> {
 // Runs the cases of a section, with the last bay file.
 fn check_section(
     alloc: Global,
-    told: &mut CaseReport,
+    report: &mut CaseReport,
     bay: &str,
     head: &str,
     body: &str,
 ) -> Result<()> {
     if let "fields" | "points" | "rows" = head {
         let found = bay_text(alloc, bay, head)?;
-        return told.record_case(head, check_lines(found.as_str(), body));
+        return report.record_case(head, check_lines(found.as_str(), body));
     }
     let mut section = Section::new(alloc, head, bay)?;
     for line in body.lines() {
         if is_case(line) {
-            told.record_case(line, section.check(alloc, bay, line))?;
+            report.record_case(line, section.check(alloc, bay, line))?;
         }
     }
     Ok(())
@@ -164,21 +164,21 @@ struct Before<'a> {
 // Runs the cases of all sections, and returns the report on them.
 fn run(alloc: Global, text: &str) -> Result<String> {
     let mut before = Before { bay: "" };
-    let mut told = CaseReport::new(alloc);
+    let mut report = CaseReport::new(alloc);
     for section in sections_of(text)?.split(BETWEEN) {
         let (head, body) = head_and_body(section);
         match head {
             "bay" => before.bay = body,
-            _ => check_section(alloc, &mut told, before.bay, head, body).context(head)?,
+            _ => check_section(alloc, &mut report, before.bay, head, body).context(head)?,
         }
     }
-    told.finish()
+    report.finish()
 }
 
 fn main(rt: HostRuntime) -> Result<()> {
     let mut text = String::new(rt.alloc());
     rt.reader().read_to_string(&mut text)?;
-    let told = run(rt.alloc(), text.as_str())?;
+    let report = run(rt.alloc(), text.as_str())?;
     print!(&rt; "{told}")?;
     Ok(())
 }

@@ -22,7 +22,7 @@ use il_verify::verify::verify;
 use std::alloc::{AllocError, Global};
 
 // Counts the instructions of code.
-fn instructions(code: &[u8]) -> u32 {
+fn count_instructions(code: &[u8]) -> u32 {
     let mut count = 0u32;
     let mut place = 0;
     for _ in 0..code.len() {
@@ -53,7 +53,7 @@ fn image_text(alloc: Global, image: &Image) -> Result<String, AllocError> {
 }
 
 // Returns the image that octets encode, or the number and the message of their fault.
-fn decoded(alloc: Global, octets: &[u8]) -> Result<String> {
+fn decode_image(alloc: Global, octets: &[u8]) -> Result<String> {
     Ok(match decode(alloc, octets) {
         Ok(image) => image_text(alloc, &image),
         Err(fault) => format!(in alloc; "{} {fault}", fault.code().unwrap_or(0)),
@@ -80,7 +80,7 @@ fn count_at(alloc: Global, octets: &mut [u8], at: usize, counts: &mut [u32; 5])
 }
 
 // Counts the same over all octets.
-fn changed(alloc: Global, octets: &mut [u8]) -> Result<String, AllocError> {
+fn count_changed(alloc: Global, octets: &mut [u8]) -> Result<String, AllocError> {
     let mut counts = [0u32; 5];
     for at in 0..octets.len() {
         count_at(alloc, octets, at, &mut counts);
@@ -133,7 +133,7 @@ impl<'a> Programs<'a> {
         match verify(self.alloc, image, self.points.as_slice()) {
             Ok(verified) => {
                 let (depth, budget) = (verified.depth(), verified.budget());
-                let count = instructions(verified.image().code());
+                let count = count_instructions(verified.image().code());
                 self.machine = Machine::new(self.alloc, verified).ok();
                 format!(in self.alloc; "{count} {depth} {budget}")
             }
@@ -191,8 +191,8 @@ impl<'a> Programs<'a> {
         }
         let mut octets = octets_of(alloc, words)?;
         match kind {
-            "decoded" => decoded(alloc, octets.as_slice()),
-            "changed" => Ok(changed(alloc, octets.as_mut_slice())?),
+            "decoded" => decode_image(alloc, octets.as_slice()),
+            "changed" => Ok(count_changed(alloc, octets.as_mut_slice())?),
             _ => Ok(self.verdict(decode(alloc, octets.as_slice())?)?),
         }
     }

@@ -96,7 +96,7 @@ fn page_text(alloc: Global, tree: &Tree, words: &[&str]) -> Result<String> {
     let after = after.first().map(|_| octets.as_slice());
     let names = NameTexts::of_tree(alloc, tree)?;
     Ok(match write_page(alloc, id, tree, &names, after, size) {
-        Ok(written) => format!(in alloc; "|{}", hex::encode(alloc, written.as_slice())?),
+        Ok(encode_value) => format!(in alloc; "|{}", hex::encode(alloc, encode_value.as_slice())?),
         Err(fault) => format!(in alloc; "{} {fault}", fault.code().unwrap_or(0)),
     }?)
 }

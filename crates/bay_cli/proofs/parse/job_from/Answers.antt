@@ -9,6 +9,6 @@ returns c =
     let rows = rows_of (found_of c.in_ok-name.found.now) in
     let read : subcommand_rows_of c.args.matches.now ≡ Some (c.in_ok-name.name.now, rows)
     = search rules in
-    let asked : named_task c.in_ok-name.name.now rows ≡ Some (task_view c.in_ok-task.task)
+    let invocation : named_task c.in_ok-name.name.now rows ≡ Some (task_view c.in_ok-task.task)
     = search rules in
-    rw (read, asked, c.with_options.ensures, c.verb_of.ensures) refl
+    rw (read, invocation, c.with_options.ensures, c.verb_of.ensures) refl

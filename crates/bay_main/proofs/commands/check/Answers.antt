@@ -9,7 +9,7 @@ returns-in-Ok g c =
     record {
       read = Ok both;
       is_read = rw (c.as_slice.ensures.value, c.as_slice-in-Ok.ensures.value) c.in-Ok.ensures.ok;
-      checks = c.check_run.ensures;
+      checks = c.check_octets.ensures;
     }
 
 pub returns-in-Err : goal.returns-in-Err

@@ -15,7 +15,7 @@ returns g c = record {
   report = c.report.result;
   is = c.report.ensures;
   middle = c.write_report.new.writer;
-  told = Ok c.in_ok-write_report.field-0;
+  reported = Ok c.in_ok-write_report.field-0;
   printed = c.in_ok-write_report.ensures;
-  goes_on = rw (c.image.ensures.value, c.verified.ensures) at c.write_image.ensures;
+  continuation = rw (c.image.ensures.value, c.verified.ensures) at c.write_image.ensures;
 }

@@ -6,7 +6,7 @@ pub returns-in-Ok : goal.returns-in-Ok
 returns-in-Ok g c =
     let answer = c.do_task-answer in
     inl (record {
-      asked = invoked_view c.in-Ok.field-0;
+      invocation = invoked_view c.in-Ok.field-0;
       is = c.in-Ok.ensures.ok;
       answer = answer.result;
       done = record {

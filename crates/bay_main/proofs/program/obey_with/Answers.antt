@@ -16,13 +16,13 @@ returns-then-matches g c = record {
   output = c.drain_output-ended.new.output;
   last = c.drain_output-ended.result;
   drained = rw c.into_inner-output.ensures at c.drain_output-ended.ensures;
-  complains = λ _. (
+  logs_failure = λ _. (
     c.log_line.new.self,
     subst (λ line. SystemDoes g.O.Write.contents g.E.Write.contents c.drain_output-ended.new.output
         (Log line) c.log_line.new.self)
         (append-nil _ ∙ c.as_bytes.ensures.value ∙ c.error_message.ensures) c.log_line.ensures.call,
   );
-  tells = search rules;
+  status_is = search rules;
 }
 
 pub returns : goal.returns
@@ -38,6 +38,6 @@ returns g c = record {
   output = c.drain_output-ended.new.output;
   last = c.drain_output-ended.result;
   drained = rw c.into_inner-output.ensures at c.drain_output-ended.ensures;
-  complains = λ e. search rules;
-  tells = search rules;
+  logs_failure = λ e. search rules;
+  status_is = search rules;
 }

@@ -1,5 +1,5 @@
 use Rattle.std.proofs.Common.{ap, ◌∙◌}
-use Rattle.bay_main.specs.Program.{unused}
+use Rattle.bay_main.specs.Program.{unused_writer}
 use Rattle.bay_main.proofs.program.obey_words.Goals as goal
 
 pub returns : goal.returns
@@ -12,6 +12,6 @@ returns g c =
         reader = c.new-reader.result;
         writer = c.new-writer.result;
       };
-      fresh = c.new-writer.ensures ∙ ap unused output;
+      fresh = c.new-writer.ensures ∙ ap unused_writer output;
       runs = c.obey_with.ensures;
     }

@@ -1,22 +1,22 @@
 use Rattle.std.proofs.Common.{refl, sym, ◌∙◌}
 use Rattle.bay_process_port.proofs.AttendLemmas.{attends-closed, attends-dismissed, attends-kept, attends-leaving}
 use Rattle.bay_process_port.proofs.BoundLemmas.{emptied-same}
-use Rattle.bay_process_port.specs.declared.port.Presence.TheVariants.{Leaving}
+use Rattle.bay_process_port.specs.declared.port.Presence.TheVariants.{LossPending}
 use Rattle.bay_process_port.proofs.poll.poll.Goals as goal
 
-pub returns-in-Leaving : goal.returns-in-Leaving
-returns-in-Leaving g c =
-    attends-leaving _ _ _ _ c.args.link.now _ _ (sym c.presence.ensures ∙ c.in-Leaving.is) refl
+pub returns-in-LossPending : goal.returns-in-LossPending
+returns-in-LossPending g c =
+    attends-leaving _ _ _ _ c.args.link.now _ _ (sym c.presence.ensures ∙ c.in-LossPending.is) refl
 
 pub returns-in-Ok : goal.returns-in-Ok
 returns-in-Ok g c =
-    attends-kept _ _ _ _ _ _ _ (sym c.presence.ensures ∙ c.in-Here.is) c.in-Ok.ensures.does
+    attends-kept _ _ _ _ _ _ _ (sym c.presence.ensures ∙ c.in-Present.is) c.in-Ok.ensures.does
 
 pub returns-in-Err : goal.returns-in-Err
 returns-in-Err g c =
-    let same = c.set_presence.ensures ∙ emptied-same Leaving _ _ c.in-Err.ensures.bound in
+    let same = c.set_presence.ensures ∙ emptied-same LossPending _ _ c.in-Err.ensures.bound in
     rw same
-    (attends-closed _ _ _ _ _ _ _ _ _ (sym c.presence.ensures ∙ c.in-Here.is)
+    (attends-closed _ _ _ _ _ _ _ _ _ (sym c.presence.ensures ∙ c.in-Present.is)
     c.in-Err.ensures.does c.close.ensures)
 
 pub returns-in-Dismissed : goal.returns-in-Dismissed

@@ -5,8 +5,8 @@ use Rattle.bay_report.proofs.PieceLemmas.{cuts-fed, cuts-unfed}
 use Rattle.bay_base.proofs.ListLemmas.{take-rest}
 use Rattle.bay_report.proofs.text_lines.split_line.Goals as goal
 
-pub slice_bounds-without_return-end : goal.slice_bounds-without_return-end
-slice_bounds-without_return-end c =
+pub slice_bounds-strip_return-end : goal.slice_bounds-strip_return-end
+slice_bounds-strip_return-end c =
     let first =
     first-feed c.args.text.now 0 _ _ _
     (sym c.memchr_iter.ensures.value ∙ c.in-Some.ensures.steps) in
@@ -40,11 +40,11 @@ slice_bounds-result-start c =
 pub returns-in-Some-clause-cuts : goal.returns-in-Some-clause-cuts
 returns-in-Some-clause-cuts c =
     let xs = c.args.text.now in
-    let line = c.without_return.result.now in
+    let line = c.strip_return.result.now in
     let first = first-feed xs 0 _ _ _ (sym c.memchr_iter.ensures.value ∙ c.in-Some.ensures.steps) in
     subst (CutsLine xs line) (sym (take-rest xs (c.in-Some.at + 1)))
     (cuts-fed xs line c.in-Some.at (omega (arith, first.high))
-    (λ k lt. first.before k (omega arith) lt) first.at c.without_return.ensures)
+    (λ k lt. first.before k (omega arith) lt) first.at c.strip_return.ensures)
 
 pub returns-in-None-clause-cuts : goal.returns-in-None-clause-cuts
 returns-in-None-clause-cuts c =

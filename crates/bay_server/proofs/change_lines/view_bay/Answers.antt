@@ -3,7 +3,7 @@ use Rattle.std.proofs.lemmas.List.{get_or-set_other}
 use Rattle.std.proofs.lemmas.List.Edits.{fill_by_more}
 use Rattle.std.proofs.lemmas.List.FromFn.{fill_by_all}
 use Rattle.std.specs.List.{range_with_len}
-use Rattle.bay_server.specs.ChangeLines.{seen_at}
+use Rattle.bay_server.specs.ChangeLines.{switch_view_at}
 use Rattle.bay_server.proofs.ChangeLemmas.{below-both, by-end, no-view-in, no_view}
 use Rattle.bay_server.proofs.change_lines.view_bay.Goals as goal
 
@@ -17,7 +17,7 @@ loop-switch-preserved c =
     (subst (λ n. c.loop-switch.switch < n) c.min-switch-end.ensures c.loop-switch-test.true) in
     rw c.view_switch.ensures (
       simp length-set sized,
-      fill_by_more (seen_at c.args.device.now) c.loop-switch.switches c.loop-switch.switch no_view
+      fill_by_more (switch_view_at c.args.device.now) c.loop-switch.switches c.loop-switch.switch no_view
           (omega (arith, sized, below)) c.loop-switch.invariant.1,
       λ k past. get_or-set_other c.loop-switch.switches c.loop-switch.switch k _ no_view
           (λ same. omega (arith, past, below, same)) ∙ c.loop-switch.invariant.2 k past,
@@ -25,8 +25,8 @@ loop-switch-preserved c =
 
 pub returns : goal.returns
 returns c =
-    let seen : c.loop-switch.switches ≡ map (seen_at c.args.device.now) (range_with_len 0 32) =
-    fill_by_all (seen_at c.args.device.now) c.loop-switch.switches 32 no_view
+    let seen : c.loop-switch.switches ≡ map (switch_view_at c.args.device.now) (range_with_len 0 32) =
+    fill_by_all (switch_view_at c.args.device.now) c.loop-switch.switches 32 no_view
     c.loop-switch.invariant.0
     (λ k lt. by-end c.args.device.now c.loop-switch.switches k c.switch_count-count.result
     c.loop-switch.switch c.switch_count-count.ensures lt

@@ -24,7 +24,7 @@ returns g c =
     (first_ten (count_at_closings c.args.moment c.args.turn.now c.args.count)
     c.args.turn.now.closed))
     (ap (map (closed_line c.args.moment))
-    (c.first-closed.ensures ∙ (ap (take c.room.result) c.as_slice.ensures
+    (c.take_first-closed.ensures ∙ (ap (take c.room.result) c.as_slice.ensures
     ∙ ap (λ n. take n c.args.turn.now.closed)
     (c.room.ensures ∙ ap (λ (x : LineCount). 10 - x.lines) c.at_closings.ensures))))
     c.log_closings.ensures in
@@ -34,7 +34,7 @@ returns g c =
     (first_ten (count_at_memory c.args.moment c.args.turn.now c.args.count)
     c.args.turn.now.memory))
     (ap (map (memory_line c.args.moment))
-    (c.first-memory.ensures ∙ (ap (take c.room-2.result) c.as_slice-2.ensures
+    (c.take_first-memory.ensures ∙ (ap (take c.room-2.result) c.as_slice-2.ensures
     ∙ ap (λ n. take n c.args.turn.now.memory)
     (c.room-2.ensures ∙ ap (λ (x : LineCount). 10 - x.lines) c.at_memory.ensures))))
     c.log_memories.ensures in

@@ -2,14 +2,14 @@ use Rattle.std.proofs.Common.{◌≡◌, ◌+◌, ◌-◌, suc, arith}
 use Rattle.std.proofs.lemmas.Bool.Decides.{nat_tests}
 use Rattle.bay_server.specs.Serving.{with_host}
 use Rattle.bay_server.proofs.ServeLemmas.{Reached-done, Reached-end, Reached-ends, Reached-fails, may-pause}
-use Rattle.bay_server_turn.specs.Calls.{Called}
+use Rattle.bay_server_turn.specs.Calls.{CountedCall}
 use Rattle.bay_server.proofs.serving.serve_lines.Goals as goal
 
 pub returns-in_err-status : goal.returns-in_err-status
 returns-in_err-status g c =
     let more : c.args.turns - c.loop-turn.turn ≡ suc (c.args.turns - (c.loop-turn.turn + 1)) =
     grind (arith, nat_tests) in
-    Reached-fails (Called g.L.Link.does g.L.Link.failures) g.H.Host.does g.W.Sink.contents
+    Reached-fails (CountedCall g.L.Link.does g.L.Link.failures) g.H.Host.does g.W.Sink.contents
     g.W.Sink.does _ _ _ _ _ _ _ c.loop-turn.invariant.reached more
     (with_host c.try_turn.new.served c.try_turn.new.host c.try_turn.new.lines)
     c.try_turn.new.writer _ c.from_residual.result c.from_residual.ensures.0
@@ -19,7 +19,7 @@ pub returns-in-Ends : goal.returns-in-Ends
 returns-in-Ends g c =
     let more : c.args.turns - c.loop-turn.turn ≡ suc (c.args.turns - (c.loop-turn.turn + 1)) =
     grind (arith, nat_tests) in
-    Reached-ends (Called g.L.Link.does g.L.Link.failures) g.H.Host.does g.W.Sink.contents
+    Reached-ends (CountedCall g.L.Link.does g.L.Link.failures) g.H.Host.does g.W.Sink.contents
     g.W.Sink.does _ _ _ _ _ _ _ c.loop-turn.invariant.reached more
     (with_host c.try_turn.new.served c.try_turn.new.host c.try_turn.new.lines)
     c.try_turn.new.writer _ _ c.in-Ends.is c.in_ok-status.ensures
@@ -31,21 +31,21 @@ loop-turn-preserved g c =
     record {
       within = grind (arith, nat_tests);
       reached =
-          Reached-done (Called g.L.Link.does g.L.Link.failures) g.H.Host.does
+          Reached-done (CountedCall g.L.Link.does g.L.Link.failures) g.H.Host.does
           g.W.Sink.contents
           g.W.Sink.does _ _ _ _ _ _ _ c.loop-turn.invariant.reached more
           (with_host c.try_turn.new.served c.try_turn.new.host c.try_turn.new.lines) _
           c.try_turn.new.writer _ _ c.in-Done.is c.in_ok-status.ensures
-          (may-pause (Called g.L.Link.does g.L.Link.failures) g.H.Host.does
+          (may-pause (CountedCall g.L.Link.does g.L.Link.failures) g.H.Host.does
           g.W.Sink.contents
           g.W.Sink.does (with_host c.try_turn.new.served c.try_turn.new.host c.try_turn.new.lines)
-          _ c.rest.ensures);
+          _ c.pause_if_idle.ensures);
     }
 
 pub returns : goal.returns
 returns g c =
     rw c.code.ensures
-    (Reached-end (Called g.L.Link.does g.L.Link.failures) g.H.Host.does g.W.Sink.contents
+    (Reached-end (CountedCall g.L.Link.does g.L.Link.failures) g.H.Host.does g.W.Sink.contents
     g.W.Sink.does _ _ _ _ (with_host c.loop-turn.served c.loop-turn.host c.loop-turn.lines) _ _
     c.loop-turn.invariant.reached (grind (arith, nat_tests))
-    (rw (c.moment.ensures, c.device.ensures) at c.log_used_up.ensures))
+    (rw (c.moment.ensures, c.device.ensures) at c.log_all_served.ensures))

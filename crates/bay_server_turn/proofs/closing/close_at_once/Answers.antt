@@ -6,8 +6,8 @@ use Rattle.bay_server_turn.proofs.closing.close_at_once.Goals as goal
 pub returns-clause-after : goal.returns-clause-after
 unfolding close_at_once
 returns-clause-after g c =
-    let place = c.args.place in
+    let slot = c.args.slot in
     turning-as _ _ _ _ c.clear.ensures c.mark_closed.ensures
-    ∙ ap (λ (t : TurnState). with_noted (mark_closed place c.args.closing t.noted)
-    (with_queue place [] t))
+    ∙ ap (λ (t : TurnState). with_noted (mark_closed slot c.args.closing t.noted)
+    (with_queue slot [] t))
     c.step_without_replies.ensures.after

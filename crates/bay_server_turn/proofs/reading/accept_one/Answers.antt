@@ -7,7 +7,7 @@ returns-in-Ok-Some-clause-opens g c =
     let free = sym c.lowest_free_association.ensures.lowest ∙ c.in-Some.is in
     accepts-some _ _ _ _ _ _ _ _ _ _ free
     (rw c.in-Ok-Some.field-0-is at c.in-Ok-Some.ensures.call) c.step_without_replies.ensures.after
-    c.close_overflowed.ensures.talks c.close_overflowed.ensures.after
+    c.close_overflowed.ensures.makes c.close_overflowed.ensures.after
 
 pub returns-in-Ok-None-clause-opens : goal.returns-in-Ok-None-clause-opens
 returns-in-Ok-None-clause-opens g c =

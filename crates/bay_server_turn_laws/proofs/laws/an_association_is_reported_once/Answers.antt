@@ -5,8 +5,8 @@ use Rattle.bay_server_turn_laws.proofs.TellingLemmas.{told-once}
 use Rattle.bay_server_turn_laws.proofs.laws.an_association_is_reported_once.Goals as goal
 
 pub returns : goal.returns
-returns g c = λ old new now line before after turn place serves.
-    let told = (after_turn now line serves.script before).noted in
-    subst (λ closed. times_reported (place + 1) closed turn.memory ≤ 1) (sym serves.closed)
-    (subst (λ memory. times_reported (place + 1) told.closed memory ≤ 1) (sym serves.memory)
-    (told-once now line serves.script before place serves.all_read serves.all_offered))
+returns g c = λ old new now line before after turn slot serves.
+    let reported = (after_turn now line serves.script before).noted in
+    subst (λ closed. times_reported (slot + 1) closed turn.memory ≤ 1) (sym serves.closed)
+    (subst (λ memory. times_reported (slot + 1) reported.closed memory ≤ 1) (sym serves.memory)
+    (told-once now line serves.script before slot serves.all_read serves.all_offered))

@@ -7,7 +7,7 @@ pub returns : goal.returns
 returns c =
     let out = c.decode_to_slice.new.out in
     let done =
-    decoded c.args.digits.text.now _ out c.decode_to_slice.result c.args.digits.are_octets
+    decoded c.args.digits.text.now _ out c.decode_to_slice.result c.args.digits.is_hexadecimal
     (omega (
       arith,
       length-take c.args.count c.args.room.now,

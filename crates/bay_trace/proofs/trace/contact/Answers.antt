@@ -4,5 +4,5 @@ use Rattle.bay_trace.proofs.trace.contact.Goals as goal
 
 pub returns-in_err-position : goal.returns-in_err-position
 returns-in_err-position c =
-    let none = alone-position c.in_ok-told.field-0.now in
+    let none = alone-position c.in_ok-tail.field-0.now in
     search (rules, none)

@@ -12,7 +12,7 @@ returns-in-Some-strip_prefix-2 c =
     let is =
     strip_prefix_is Decides-eqb c.args.text.now (codes "measure ") c.strip_prefix-3.result
     c.strip_prefix-3.ensures.cases in
-    let begins : c.args.text.now ≡ codes "measure " ++ c.in-Some-strip_prefix-2.told.now =
+    let begins : c.args.text.now ≡ codes "measure " ++ c.in-Some-strip_prefix-2.tail.now =
     rw c.in-Some-strip_prefix-2.is at is in
     c.measure.ensures ∙ sym (ap (λ text. event_of (slice_split is_space text)) begins)
 

@@ -4,5 +4,5 @@ use Rattle.bay_trace.proofs.trace.input.Goals as goal
 
 pub returns-in_err-value : goal.returns-in_err-value
 returns-in_err-value c =
-    let none = alone-truth c.in_ok-told.field-0.now in
+    let none = alone-truth c.in_ok-tail.field-0.now in
     search (rules, none)

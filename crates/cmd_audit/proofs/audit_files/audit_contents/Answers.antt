@@ -12,7 +12,7 @@ returns-in-Ok g c =
     (λ log text status told. inl (record {
       loaded = c.in-Ok.loaded;
       loads = loads;
-      tells = told;
+      reports = told;
     })) c.write_loaded.ensures
 
 pub returns-in-Err : goal.returns-in-Err
@@ -24,5 +24,5 @@ returns-in-Err g c =
     (λ log text status told. inr (record {
       error = c.in-Err.error;
       refused = refused;
-      tells = told;
+      reports = told;
     })) c.report_load_refusal.ensures

@@ -7,10 +7,10 @@ pub returns-in_ok-extend_from_slice-in-Since : goal.returns-in_ok-extend_from_sl
 returns-in_ok-extend_from_slice-in-Since c =
     let timer = timer_text c.args.names.now c.in-Since.timer in
     rw c.in-Since.is
-    (after-ok c.put_timer.result c.args.text.now.items c.put_held-in-Since.new.text.items
+    (after-ok c.put_timer.result c.args.text.now.items c.put_holds-in-Since.new.text.items
     c.put_timer.new.text.items (holds_text c.in-Since.cases) (codes " by" ++ timer)
-    c.in_ok-put_held-in-Since.ensures
-    (after-ok c.put_timer.result c.put_held-in-Since.new.text.items
+    c.in_ok-put_holds-in-Since.ensures
+    (after-ok c.put_timer.result c.put_holds-in-Since.new.text.items
     c.extend_from_slice-in-Since.new.self.items c.put_timer.new.text.items (codes " by") timer
     c.in_ok-extend_from_slice-in-Since.ensures.items
     c.put_timer.ensures))

@@ -1,14 +1,14 @@
 use Rattle.std.proofs.Common.{ℕ, None, subst}
 use Rattle.bay_device.specs.Steps.{quiet_answer}
 use Rattle.bay_device.specs.declared.event.Event.TheVariants.{Contact}
-use Rattle.cmd_replay.specs.Answering.{Does}
+use Rattle.cmd_replay.specs.Answering.{AppliesEvent}
 use Rattle.cmd_replay.proofs.AnswerLemmas.{Does-put}
 use Rattle.cmd_replay.proofs.answer.answer_contact.Goals as goal
 
 pub returns : goal.returns
 returns g c =
     let done = c.contact-answer.ensures in
-    subst (λ (k : ℕ). Does g.W.Sink.contents g.W.Sink.does c.args.writer.now c.args.moment
+    subst (λ (k : ℕ). AppliesEvent g.W.Sink.contents g.W.Sink.does c.args.writer.now c.args.moment
     (Contact k c.args.position) c.args.device.now c.put_contact.new.writer
     c.contact-answer.new.self) c.resolve_switch-switch.ensures
     (Does-put g.W.Sink.contents g.W.Sink.does c.args.writer.now c.args.moment

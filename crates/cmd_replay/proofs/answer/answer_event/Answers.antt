@@ -11,5 +11,5 @@ returns g c =
       text = subst (λ t. Puts g.W.Sink.contents g.W.Sink.does c.args.writer.now t
           c.put_step.new.writer)
           (ap₂ (λ a d. step_text c.args.moment a d) done.answered done.left) c.put_step.ensures;
-      left_is = done.left;
+      after_is = done.left;
     }

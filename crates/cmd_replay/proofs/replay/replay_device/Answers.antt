@@ -19,9 +19,9 @@ pub returns-in-Some : goal.returns-in-Some
 returns-in-Some g c =
     let said = c.in-Some.ensures.answers in
     let cut = lines-cut _ _ _ c.split_line.ensures.cuts in
-    Progress-logged c.loop-rest.invariant.progress _ 3 c.end_at.result
+    Progress-logged c.loop-rest.invariant.progress _ 3 c.end_replay.result
     (Progress-fault c.loop-rest.invariant.progress said.choice _ _ cut (sym said.last)) said.text
-    c.end_at.ensures
+    c.end_replay.ensures
 
 pub returns-then-has_failed : goal.returns-then-has_failed
 returns-then-has_failed g c =
@@ -36,7 +36,7 @@ loop-rest-preserved g c =
     let said = c.in-None.ensures.answers in
     let cut = lines-cut _ _ _ c.split_line.ensures.cuts in
     record {
-      progress = rw (said.left_is refl)
+      progress = rw (said.after_is refl)
           (Progress-step c.loop-rest.invariant.progress said.choice _ _ cut (sym said.last)
           said.text);
       bound = omega (arith, c.split_line.ensures.shorter, c.loop-rest.invariant.bound);

@@ -1,4 +1,4 @@
-use Rattle.bay_server_turn.specs.Calls.{Called}
+use Rattle.bay_server_turn.specs.Calls.{CountedCall}
 use Rattle.cmd_serve.proofs.BeginLemmas.{begun-of}
 use Rattle.bay_device.proofs.LoadedLemmas.{device-loaded, loaded-runs}
 use Rattle.bay_load.specs.declared.load.Form.TheVariants.{Logic}
@@ -7,7 +7,7 @@ use Rattle.cmd_serve.proofs.laws.all_turns_are_one_run.Goals as goal
 
 pub returns-clause-run : goal.returns-clause-run
 returns-clause-run g c = λ turns before old new host answer serves loaded.
-    service-of (Called g.L.Link.does g.L.Link.failures) g.H.Host.does g.W.Sink.contents
+    service-of (CountedCall g.L.Link.does g.L.Link.failures) g.H.Host.does g.W.Sink.contents
     g.W.Sink.does turns before old new host answer serves loaded
 
 pub returns-clause-begins : goal.returns-clause-begins

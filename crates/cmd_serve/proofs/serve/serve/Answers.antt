@@ -5,12 +5,12 @@ pub returns-in-Ok-clause-serves : goal.returns-in-Ok-clause-serves
 returns-in-Ok-clause-serves g c = record {
   loaded = Ok c.in-Ok.loaded;
   loads = c.in-Ok.ensures.ok;
-  goes_on = c.serve_loaded.ensures.serves;
+  continuation = c.serve_loaded.ensures.serves;
 }
 
 pub returns-in-Err-clause-serves : goal.returns-in-Err-clause-serves
 returns-in-Err-clause-serves g c = record {
   loaded = Err c.in-Err.why;
   loads = c.in-Err.ensures.err;
-  goes_on = (c.report_unserved.ensures, refl);
+  continuation = (c.report_unserved.ensures, refl);
 }

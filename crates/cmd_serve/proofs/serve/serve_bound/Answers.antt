@@ -1,5 +1,5 @@
 use Rattle.bay_server.proofs.LogLemmas.{logs-then}
-use Rattle.bay_server_turn.specs.Calls.{Called}
+use Rattle.bay_server_turn.specs.Calls.{CountedCall}
 use Rattle.cmd_serve.proofs.FileLemmas.{one-run}
 use Rattle.cmd_serve.proofs.serve.serve_bound.Goals as goal
 
@@ -15,7 +15,7 @@ returns g c = (
     logs-then g.W.Sink.contents g.W.Sink.does c.log_ports.new.writer c.log_room.new.writer
         c.log_sums.new.writer _ _ c.log_room.ensures c.log_sums.ensures,
   ),
-  one-run (Called g.L.Link.does g.L.Link.failures) g.H.Host.does g.W.Sink.contents
+  one-run (CountedCall g.L.Link.does g.L.Link.failures) g.H.Host.does g.W.Sink.contents
       g.W.Sink.does _
       _ _ _ _ _ (rw c.start-clock.ensures at c.serve_turns.ensures) c.requires.begun
       c.requires.named,

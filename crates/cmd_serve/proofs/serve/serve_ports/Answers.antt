@@ -5,14 +5,14 @@ pub returns-in-Ok-clause-serves : goal.returns-in-Ok-clause-serves
 returns-in-Ok-clause-serves g c = record {
   bound = Ok c.in-Ok.bound;
   host = c.bind_ports.new.host;
-  binds = rw (c.settings_by-duties.ensures, c.key_octets.ensures) at c.in-Ok.ensures.binds;
-  goes_on = rw c.as_slice.ensures.value at c.serve_bound.ensures;
+  binds = rw (c.make_settings-settings.ensures, c.key_octets.ensures) at c.in-Ok.ensures.binds;
+  continuation = rw c.as_slice.ensures.value at c.serve_bound.ensures;
 }
 
 pub returns-clause-serves : goal.returns-clause-serves
 returns-clause-serves g c = record {
   bound = Err c.in-Err.why;
   host = c.bind_ports.new.host;
-  binds = rw (c.settings_by-duties.ensures, c.key_octets.ensures) at c.in-Err.ensures.binds;
-  goes_on = (c.report_unserved.ensures, refl);
+  binds = rw (c.make_settings-settings.ensures, c.key_octets.ensures) at c.in-Err.ensures.binds;
+  continuation = (c.report_unserved.ensures, refl);
 }

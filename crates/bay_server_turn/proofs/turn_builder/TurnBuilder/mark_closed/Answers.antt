@@ -5,6 +5,6 @@ use Rattle.bay_server_turn.proofs.turn_builder.TurnBuilder.mark_closed.Goals as 
 pub push-requires : goal.push-requires
 push-requires c =
     let n = c.self.inside in
-    let room = entry-room n.standings c.args.place n.closed n.memory (search rules) c.requires
+    let room = entry-room n.states c.args.slot n.closed n.memory (search rules) c.requires
     (sym c.is_close_reported.ensures ∙ c.if-not-is_close_reported.true) c.self.invariant in
     (lit< tt, room.0)

@@ -1,12 +1,12 @@
 use Rattle.std.proofs.Common.{rules, ◌≡◌, ◌<◌, ◌/◌, ◌∙◌, length, length-take, take, ap, arith}
-use Rattle.bay_trace.specs.Digits.{octets_in}
+use Rattle.bay_trace.specs.Digits.{octets_or_empty}
 use Rattle.bay_trace.specs.Resolving.{LineRoom}
 use Rattle.bay_trace.proofs.DigitLemmas.{front-of, octets-half}
 use Rattle.bay_trace.proofs.octets.LineOctets.read.Goals as goal
 
 pub decode-requires-clause-counted : goal.decode-requires-clause-counted
 decode-requires-clause-counted c = let half =
-    octets-half c.args.digits.text.now c.args.digits.are_octets in omega (arith, half)
+    octets-half c.args.digits.text.now c.args.digits.is_hexadecimal in omega (arith, half)
 
 pub decode-requires-clause-fits : goal.decode-requires-clause-fits
 decode-requires-clause-fits c =
@@ -16,8 +16,8 @@ decode-requires-clause-fits c =
 
 pub returns-in_err-make_room-clause-refused : goal.returns-in_err-make_room-clause-refused
 returns-in_err-make_room-clause-refused c =
-    let half = octets-half c.args.digits.text.now c.args.digits.are_octets in
-    let more : c.args.self.now.room < length (octets_in c.args.digits.text.now) =
+    let half = octets-half c.args.digits.text.now c.args.digits.is_hexadecimal in
+    let more : c.args.self.now.room < length (octets_or_empty c.args.digits.text.now) =
     omega (arith, half, c.in_err-make_room.ensures.refused) in
     search (rules, more)
 

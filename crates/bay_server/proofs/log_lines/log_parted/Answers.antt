@@ -1,4 +1,0 @@
-use Rattle.bay_server.proofs.log_lines.log_parted.Goals as goal
-
-pub returns : goal.returns
-returns g c = rw c.from.ensures at c.log.ensures
