@@ -2,7 +2,7 @@
 use Rattle.std.specs.Prelude.{ℕ, ◌≡◌, ◌⊎◌, List, Option, None, Some}
 use Rattle.std.specs.List.{Contains}
 use Rattle.bay_device.specs.Device.{State}
-use Rattle.cmd_replay.specs.Replay.{IsReport}
+use Rattle.cmd_replay.specs.Replay.{ScenarioReport}
 use Rattle.cmd_replay.specs.Runs.{IsRun}
 use Rattle.cmd_replay.specs.Scenario.{ScenarioParts, scenario_of}
 use Rattle.bay_replay_laws.specs.Printed.{lines_in}
@@ -26,5 +26,5 @@ abbrev pub OfEachReport : {A : Type 0} → (List ℕ → Option A)
     → IsRun parts first text status → Type 0) → Type 0
 OfEachReport read Are =
     (scenario : List ℕ) (log : Option (List ℕ)) (text : List ℕ) (status : ℕ)
-    → IsReport scenario log text status
+    → ScenarioReport scenario log text status
     → HasNoLine read text ⊎ HoldsOfRun Are scenario text status

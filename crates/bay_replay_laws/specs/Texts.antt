@@ -1,7 +1,7 @@
 -- The steps of scans in the text of a report.
 use Rattle.std.specs.Prelude.{ℕ, ◌≡◌, ◌≤◌, List, [], ◌∷◌, Option, Some}
 use Rattle.std.specs.List.{Contains}
-use Rattle.cmd_replay.specs.Replay.{IsReport}
+use Rattle.cmd_replay.specs.Replay.{ScenarioReport}
 use Rattle.bay_replay_laws.specs.Printed.{PrintedScan, lines_in, printed_budget, printed_scan}
 
 -- the first of some lines
@@ -21,4 +21,4 @@ AreWithinBudget text =
 abbrev pub ScansAreWithinBudget : Type 0
 ScansAreWithinBudget =
     (scenario : List ℕ) (log : Option (List ℕ)) (text : List ℕ) (status : ℕ)
-    → IsReport scenario log text status → AreWithinBudget text
+    → ScenarioReport scenario log text status → AreWithinBudget text

@@ -7,7 +7,7 @@ ghost use Rattle.bay_server.specs.declared.change_lines.Column.TheVariants as co
 ghost use Rattle.bay_server.specs.ChangeLines as spec;
 
 use crate::connection_lines::take_first;
-use crate::control_lines::id;
+use crate::control_lines::switch_id;
 use bay_base::position::Dbpos;
 use bay_device::device::Device;
 use bay_io::calls::{LinePart, Sink};
@@ -189,7 +189,7 @@ fn log_switch<W: Sink>(
         writer,
         column,
         moment,
-        id(device, index),
+        switch_id(device, index),
         before,
         view_switch(device, index),
     );
@@ -291,7 +291,7 @@ fn log_end<'a, W: Sink>(
         Some(switch) => writer.log(&[
             LinePart::Moment(moment),
             LinePart::Text(b" operate of "),
-            LinePart::Text(id(device, switch)),
+            LinePart::Text(switch_id(device, switch)),
             LinePart::Text(why),
         ]),
         None => {}

@@ -72,7 +72,7 @@ fn sign(number: i8) -> &'static [u8]
 }
 
 /// Returns the id of the switch at an index; nothing if there is none.
-pub fn id(device: &Device, switch: usize) -> &[u8]
+pub fn switch_id(device: &Device, switch: usize) -> &[u8]
     ensures { result.now ≡ id_of device.now switch }
 {
     match device.id(switch) {
@@ -150,7 +150,7 @@ fn log_decision<W: Sink>(
     ensures { Logs W.contents W.does writer.old (decision_line moment device.now decision.now)
         writer.new }
 {
-    let id = id(device, decision.switch);
+    let id = switch_id(device, decision.switch);
     match &decision.request {
         Some(request) => {
             let ident = EscapedText::new(request.origin.ident.as_slice());

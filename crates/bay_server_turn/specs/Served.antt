@@ -137,7 +137,7 @@ module _ {L : Type 0} (step : L → Call → L → Type 0) where
     pub takes : List ℕ
     pub calls : List Call
     pub makes : MakesCalls step old calls new
-    pub performs : (later : List ℕ) (fails : Bool)
+    pub continues : (later : List ℕ) (fails : Bool)
         → offer_outcome a octets (takes ++ later) fails
         ≡ after_calls calls (offer_outcome a (drop done octets) later fails)
 

@@ -88,6 +88,6 @@ pub fn report_commands(server: &Server, notes: &mut TurnBuilder, commands: &[Com
     ensures grows { length notes.new.commands ≤ length notes.old.commands + 1 }
 {
     if let Some(command) = commands.first() {
-        notes.command(*command);
+        notes.report_command(*command);
     }
 }

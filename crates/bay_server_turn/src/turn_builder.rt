@@ -147,7 +147,7 @@ impl TurnBuilder {
     }
 
     /// Reports a command to operate a switch.
-    pub fn command(&mut self, command: Command)
+    pub fn report_command(&mut self, command: Command)
         requires { length self.old.commands < associations }
         ensures { self.new ≡ record self.old { commands = self.old.commands ++ command ∷ [] } }
     {

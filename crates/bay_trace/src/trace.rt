@@ -83,7 +83,7 @@ fn split_word(text: &[u8]) -> (&[u8], Option<&[u8]>)
 }
 
 // Reads a decimal value of 32 bits, optionally with a `-` before it.
-fn integer(word: &[u8]) -> Option<i32>
+fn parse_integer(word: &[u8]) -> Option<i32>
     ensures { result ≡ read_integer word.now }
 {
     match word.strip_prefix(b"-") {
@@ -93,7 +93,7 @@ fn integer(word: &[u8]) -> Option<i32>
 }
 
 // Reads a position from its digit, 0 to 3.
-fn position(word: &[u8]) -> Option<Dbpos>
+fn parse_position(word: &[u8]) -> Option<Dbpos>
     ensures { result ≡ position_of word.now }
 {
     match word {
@@ -106,7 +106,7 @@ fn position(word: &[u8]) -> Option<Dbpos>
 }
 
 // Reads a truth value from its digit, 0 or 1.
-fn truth(word: &[u8]) -> Option<bool>
+fn parse_truth(word: &[u8]) -> Option<bool>
     ensures { result ≡ truth_of word.now }
 {
     match word {
@@ -117,7 +117,7 @@ fn truth(word: &[u8]) -> Option<bool>
 }
 
 // Returns the field of a meter with this name.
-fn field(word: &[u8]) -> Option<MeterField>
+fn parse_field(word: &[u8]) -> Option<MeterField>
     ensures { result ≡ field_of word.now }
 {
     if word == b"TOTW".as_slice() {
@@ -138,7 +138,7 @@ fn field(word: &[u8]) -> Option<MeterField>
 }
 
 // Reads a name: UTF-8, and not empty. Most names are ASCII, which is valid UTF-8 without a check.
-fn name(word: &[u8]) -> Option<&str>
+fn parse_name(word: &[u8]) -> Option<&str>
     ensures { option_map (λ name. name.now) result ≡ name_of word.now }
 {
     if word.is_empty() {
@@ -154,64 +154,64 @@ fn name(word: &[u8]) -> Option<&str>
 }
 
 // Reads an event of a switch: its id and its position.
-fn contact(text: &[u8]) -> Option<NamedEvent<'_>>
+fn parse_contact(text: &[u8]) -> Option<NamedEvent<'_>>
     ensures { option_map named_view result
         ≡ event_of (codes "contact" ∷ slice_split is_space text.now) }
 {
     let (id, tail) = split_word(text);
-    let id = name(id)?;
-    let position = position(tail?)?;
+    let id = parse_name(id)?;
+    let position = parse_position(tail?)?;
     Some(NamedEvent::Contact { id, position })
 }
 
 // Reads an event of an input: its name and its value.
-fn input(text: &[u8]) -> Option<NamedEvent<'_>>
+fn parse_input(text: &[u8]) -> Option<NamedEvent<'_>>
     ensures { option_map named_view result
         ≡ event_of (codes "input" ∷ slice_split is_space text.now) }
 {
     let (id, tail) = split_word(text);
-    let name = name(id)?;
-    let value = truth(tail?)?;
+    let name = parse_name(id)?;
+    let value = parse_truth(tail?)?;
     Some(NamedEvent::Input { name, value })
 }
 
 // Reads an event of the meter with this id: a field, then its value or `bad`.
-fn measured<'a>(id: &'a str, tail: &[u8]) -> Option<NamedEvent<'a>>
+fn parse_measured_field<'a>(id: &'a str, tail: &[u8]) -> Option<NamedEvent<'a>>
     ensures { option_map named_view result
         ≡ measure_of id.entry.now (slice_split is_space tail.now) }
 {
     let (name, rest) = split_word(tail);
-    let field = field(name)?;
+    let field = parse_field(name)?;
     let rest = rest?;
     if rest == b"bad".as_slice() {
         return Some(NamedEvent::BadMeasure { id, field });
     }
-    let value = integer(rest)?;
+    let value = parse_integer(rest)?;
     Some(NamedEvent::Measure { id, field, value })
 }
 
 // Reads an event of a meter: its id, a field, then the value or `bad`.
-fn measure(text: &[u8]) -> Option<NamedEvent<'_>>
+fn parse_measure(text: &[u8]) -> Option<NamedEvent<'_>>
     ensures { option_map named_view result
         ≡ event_of (codes "measure" ∷ slice_split is_space text.now) }
 {
     let (id, tail) = split_word(text);
-    measured(name(id)?, tail?)
+    parse_measured_field(parse_name(id)?, tail?)
 }
 
 // Reads the number of an association, 0 to 65535.
-fn association(word: &[u8]) -> Option<u16>
+fn parse_association(word: &[u8]) -> Option<u16>
     ensures { result ≡ association_of word.now }
 {
     u16::try_from(read_decimal(word)?).ok()
 }
 
 // Reads the octets that the client of an association sends.
-fn received(text: &[u8]) -> Option<NamedEvent<'_>>
+fn parse_received(text: &[u8]) -> Option<NamedEvent<'_>>
     ensures { option_map named_view result ≡ received_of (slice_split is_space text.now) }
 {
     let (word, tail) = split_word(text);
-    let association = association(word)?;
+    let association = parse_association(word)?;
     let digits = Digits::of(tail?)?;
     Some(NamedEvent::Recv {
         association,
@@ -220,23 +220,23 @@ fn received(text: &[u8]) -> Option<NamedEvent<'_>>
 }
 
 // Reads an event of an association: it is opened, its client sends octets, or it is closed.
-fn association_event(text: &[u8]) -> Option<NamedEvent<'_>>
+fn parse_association_event(text: &[u8]) -> Option<NamedEvent<'_>>
     ensures { option_map named_view result ≡ association_event_in (slice_split is_space text.now) }
 {
     if let Some(tail) = text.strip_prefix(b"recv ") {
-        return received(tail);
+        return parse_received(tail);
     }
     if let Some(word) = text.strip_prefix(b"open ") {
-        let association = association(word)?;
+        let association = parse_association(word)?;
         return Some(NamedEvent::Open { association });
     }
     let word = text.strip_prefix(b"close ")?;
-    let association = association(word)?;
+    let association = parse_association(word)?;
     Some(NamedEvent::Close { association })
 }
 
 // Reads an event from the words after the time.
-fn event(text: &[u8]) -> Option<NamedEvent<'_>>
+fn parse_event(text: &[u8]) -> Option<NamedEvent<'_>>
     ensures { option_map named_view result ≡ event_of (slice_split is_space text.now) }
 {
     if text == b"scan".as_slice() {
@@ -246,15 +246,15 @@ fn event(text: &[u8]) -> Option<NamedEvent<'_>>
         return Some(NamedEvent::Lost);
     }
     if let Some(tail) = text.strip_prefix(b"contact ") {
-        return contact(tail);
+        return parse_contact(tail);
     }
     if let Some(tail) = text.strip_prefix(b"input ") {
-        return input(tail);
+        return parse_input(tail);
     }
     if let Some(tail) = text.strip_prefix(b"measure ") {
-        return measure(tail);
+        return parse_measure(tail);
     }
-    association_event(text)
+    parse_association_event(text)
 }
 
 // Returns the number before the first space, however many digits it has, and the text after that
@@ -294,11 +294,11 @@ fn cut_number(text: &[u8]) -> Option<(u64, &[u8])>
 }
 
 // Reads a line that is not empty.
-fn moment_line(text: &[u8]) -> Option<TraceLine<'_>>
+fn parse_moment_line(text: &[u8]) -> Option<TraceLine<'_>>
     ensures { option_map line_view result ≡ words_line (slice_split is_space text.now) }
 {
     let (moment, rest) = cut_number(text)?;
-    let event = event(rest)?;
+    let event = parse_event(rest)?;
     Some(TraceLine::At { moment, event })
 }
 
@@ -311,7 +311,7 @@ pub fn read_trace_line(line: &[u8]) -> Option<TraceLine<'_>>
     if line.is_empty() {
         return Some(TraceLine::Blank);
     }
-    moment_line(line)
+    parse_moment_line(line)
 }
 
 /// Returns the digits of the moment in the line of a scan, or `None` if they begin with a 0. For

@@ -4,14 +4,14 @@ use Rattle.bay_io.specs.Calls.{ReadCall}
 use Rattle.bay_io.specs.Input.{FailsAs, IsEnded, is_read_failure, octets_of}
 use Rattle.bay_io.specs.declared.input.ReadFault.{ReadFault}
 use Rattle.bay_io.specs.declared.input.ReadFault.TheVariants.{TooLong, Failed, OutOfMemory}
-use Rattle.cmd_replay.specs.Replay.{ReplayReport, IsReport, UnreadInputReport}
+use Rattle.cmd_replay.specs.Replay.{ReplayReport, ScenarioReport, UnreadInputReport}
 use Rattle.cmd_replay.specs.Scenario.{scenario_limit}
 use Rattle.bay_report.proofs.ReportLemmas.{chosen, other}
 
 -- the report of what was read
 pub read-replay : (input : Option (List ℕ)) (scenario : List ℕ) (failed : Bool) → failed ≡ false
     → IfSome input (λ octets. scenario ≡ octets) → length scenario ≤ scenario_limit
-    → (log : Option (List ℕ)) (text : List ℕ) (status : ℕ) → IsReport scenario log text status
+    → (log : Option (List ℕ)) (text : List ℕ) (status : ℕ) → ScenarioReport scenario log text status
     → ReplayReport input failed log text status
 read-replay input scenario failed off is within log text status told =
     other _ failed off (inl (scenario, is, within, inl told))

@@ -71,8 +71,8 @@ PartsReport None =
 PartsReport (Some parts) = RunReport parts
 
 -- the report of a scenario
-abbrev pub IsReport : List ℕ → Option (List ℕ) → List ℕ → ℕ → Type 0
-IsReport scenario = PartsReport (scenario_of scenario)
+abbrev pub ScenarioReport : List ℕ → Option (List ℕ) → List ℕ → ℕ → Type 0
+ScenarioReport scenario = PartsReport (scenario_of scenario)
 
 -- the report of an input that can't be read
 abbrev pub UnreadInputReport : ReadFault → Option (List ℕ) → List ℕ → ℕ → Type 0
@@ -84,7 +84,7 @@ abbrev pub ReadReport : Option (List ℕ) → Option (List ℕ) → List ℕ →
 ReadReport input log text status =
     ((scenario : List ℕ) × IfSome input (λ octets. scenario ≡ octets)
     × (length scenario ≤ scenario_limit)
-    × (IsReport scenario log text status ⊎ UnreadInputReport unread.OutOfMemory log text status))
+    × (ScenarioReport scenario log text status ⊎ UnreadInputReport unread.OutOfMemory log text status))
     ⊎ (UnreadInputReport unread.TooLong log text status
     × IfSome input (λ octets. scenario_limit < length octets))
 

@@ -1,7 +1,7 @@
 // Reads a scenario, replays it, and writes its report.
 ghost use Rattle.std.specs.Prelude.{◌≡◌, ◌+◌, ◌≤◌, length, is_none};
 ghost use Rattle.cmd_replay.specs.Answering.{FinishesLogs, is_unreadable};
-ghost use Rattle.cmd_replay.specs.Replay.{DeviceReport, PartsLoadReport, IsReport, ReplayReport, Replays, ReplaysReads, last_log};
+ghost use Rattle.cmd_replay.specs.Replay.{DeviceReport, PartsLoadReport, ScenarioReport, ReplayReport, Replays, ReplaysReads, last_log};
 ghost use Rattle.bay_report.specs.LogLines.{PrintsLogs};
 ghost use Rattle.cmd_replay.specs.Scenario.{scenario_limit};
 ghost use Rattle.bay_report.specs.TextLines.{lines_of};
@@ -104,7 +104,7 @@ fn replay_scenario<W: Sink>(
     writer: &mut WatchedWriter<W>,
 ) -> Result<u8, WriteFault>
     requires { length text.now ≤ scenario_limit }
-    ensures { PrintsLogs W.contents W.does (IsReport text.now) writer.old writer.new result }
+    ensures { PrintsLogs W.contents W.does (ScenarioReport text.now) writer.old writer.new result }
 {
     match split_scenario(text) {
         Some(scenario) => replay_parts(alloc, scenario, writer),

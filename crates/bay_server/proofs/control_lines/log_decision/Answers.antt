@@ -3,7 +3,7 @@ use Rattle.bay_server.proofs.control_lines.log_decision.Goals as goal
 pub returns-in-Some : goal.returns-in-Some
 returns-in-Some g c =
     rw c.in-Some.is (rw (
-      c.id-id.ensures,
+      c.switch_id-id.ensures,
       c.as_slice-in-Some.ensures,
       c.new-ident.ensures,
       c.as_slice.ensures,

@@ -1,6 +1,6 @@
 use Rattle.std.proofs.Common.{subst, sym}
 use Rattle.bay_report.proofs.ReportLemmas.{PrintsLogs-weaker}
-use Rattle.cmd_replay.specs.Replay.{IsReport, PartsReport}
+use Rattle.cmd_replay.specs.Replay.{ScenarioReport, PartsReport}
 use Rattle.cmd_replay.specs.ScenarioView.{scenario_view}
 use Rattle.cmd_replay.proofs.RunLemmas.{of-run}
 use Rattle.cmd_replay.proofs.replay.replay_scenario.Goals as goal
@@ -8,7 +8,7 @@ use Rattle.cmd_replay.proofs.replay.replay_scenario.Goals as goal
 pub returns-in-Some : goal.returns-in-Some
 returns-in-Some g c =
     let parts = scenario_view c.in-Some.scenario in
-    PrintsLogs-weaker (IsReport c.args.text.now) c.replay_parts.result
+    PrintsLogs-weaker (ScenarioReport c.args.text.now) c.replay_parts.result
     (λ log text status told. subst (λ o. PartsReport o log text status) c.in-Some.ensures.parts
     (told, of-run parts log text status told)) c.replay_parts.ensures
 

@@ -5,7 +5,7 @@ use Rattle.std.specs.List.{slice_split}
 use Rattle.std.specs.Str.{bytes_eq}
 use Rattle.bay_trace.specs.Trace.{event_of, is_space}
 use Rattle.bay_trace.proofs.VerbLemmas.{differs, no-verb}
-use Rattle.bay_trace.proofs.trace.event.Goals as goal
+use Rattle.bay_trace.proofs.trace.parse_event.Goals as goal
 
 pub returns-in-Some-strip_prefix-2 : goal.returns-in-Some-strip_prefix-2
 returns-in-Some-strip_prefix-2 c =
@@ -14,7 +14,7 @@ returns-in-Some-strip_prefix-2 c =
     c.strip_prefix-3.ensures.cases in
     let begins : c.args.text.now ≡ codes "measure " ++ c.in-Some-strip_prefix-2.tail.now =
     rw c.in-Some-strip_prefix-2.is at is in
-    c.measure.ensures ∙ sym (ap (λ text. event_of (slice_split is_space text)) begins)
+    c.parse_measure.ensures ∙ sym (ap (λ text. event_of (slice_split is_space text)) begins)
 
 pub returns : goal.returns
 returns c =
@@ -39,6 +39,6 @@ returns c =
     let no_lost : bytes_eq c.args.text.now (codes "lost") ≡ false =
     ap (λ t. bytes_eq c.args.text.now t) (sym c.as_slice-2.ensures) ∙ sym c.eq-2.ensures
     ∙ c.if-eq-2.false in
-    c.association_event.ensures ∙ sym (no-verb c.args.text.now no_contact no_input no_measure
+    c.parse_association_event.ensures ∙ sym (no-verb c.args.text.now no_contact no_input no_measure
     (differs c.args.text.now (codes "scan") other)
     (differs c.args.text.now (codes "lost") no_lost))

@@ -6,7 +6,7 @@ use Rattle.std.proofs.lemmas.Iterator.{YieldsList-from_slice}
 use Rattle.std.proofs.lemmas.Iterator.Search.{all_from_yields_List}
 use Rattle.bay_trace.proofs.TextLemmas.{plain-text}
 use Rattle.bay_trace.proofs.WordLemmas.{name_of-text, name_of-no_text}
-use Rattle.bay_trace.proofs.trace.name.Goals as goal
+use Rattle.bay_trace.proofs.trace.parse_name.Goals as goal
 
 pub from_utf8_unchecked-requires : goal.from_utf8_unchecked-requires
 from_utf8_unchecked-requires c =

@@ -1,6 +1,6 @@
 use Rattle.std.proofs.Common.{rules}
 use Rattle.bay_trace.proofs.VerbLemmas.{alone-told}
-use Rattle.bay_trace.proofs.trace.measured.Goals as goal
+use Rattle.bay_trace.proofs.trace.parse_measured_field.Goals as goal
 
 pub returns-then-eq : goal.returns-then-eq
 returns-then-eq c =

@@ -1,6 +1,6 @@
 use Rattle.std.proofs.Common.{rules}
 use Rattle.bay_trace.proofs.VerbLemmas.{alone-octets}
-use Rattle.bay_trace.proofs.trace.received.Goals as goal
+use Rattle.bay_trace.proofs.trace.parse_received.Goals as goal
 
 pub returns-in_err-digits : goal.returns-in_err-digits
 returns-in_err-digits c =

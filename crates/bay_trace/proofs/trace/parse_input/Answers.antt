@@ -1,6 +1,6 @@
 use Rattle.std.proofs.Common.{rules}
 use Rattle.bay_trace.proofs.VerbLemmas.{alone-truth}
-use Rattle.bay_trace.proofs.trace.input.Goals as goal
+use Rattle.bay_trace.proofs.trace.parse_input.Goals as goal
 
 pub returns-in_err-value : goal.returns-in_err-value
 returns-in_err-value c =

@@ -1,5 +1,5 @@
 use Rattle.std.proofs.Common.{ℕ, List, [], Option, unwrap_or, ap, ◌∙◌}
-use Rattle.bay_server.proofs.control_lines.id.Goals as goal
+use Rattle.bay_server.proofs.control_lines.switch_id.Goals as goal
 
 pub returns-in-Some : goal.returns-in-Some
 returns-in-Some c =

@@ -1,6 +1,6 @@
 use Rattle.std.proofs.Common.{rules}
 use Rattle.bay_trace.proofs.VerbLemmas.{alone-position}
-use Rattle.bay_trace.proofs.trace.contact.Goals as goal
+use Rattle.bay_trace.proofs.trace.parse_contact.Goals as goal
 
 pub returns-in_err-position : goal.returns-in_err-position
 returns-in_err-position c =

@@ -3,7 +3,7 @@ use Rattle.std.proofs.lemmas.Bool.Decides.{Decides-eqb}
 use Rattle.std.proofs.lemmas.Slice.Eq.{strip_prefix_is}
 use Rattle.bay_trace.specs.TraceView.{named_view}
 use Rattle.bay_trace.proofs.VerbLemmas.{close-told, no-association-verb, open-told}
-use Rattle.bay_trace.proofs.trace.association_event.Goals as goal
+use Rattle.bay_trace.proofs.trace.parse_association_event.Goals as goal
 
 pub returns-in_err-association : goal.returns-in_err-association
 returns-in_err-association c =
@@ -14,7 +14,7 @@ returns-in_err-association c =
     rw c.in-Some-strip_prefix.is at is in
     ap (option_map named_view) c.from_residual.ensures
     ∙ open-told c.args.text.now c.in-Some-strip_prefix.word.now None begins
-    (sym c.in_err-association.was ∙ c.association.ensures)
+    (sym c.in_err-association.was ∙ c.parse_association.ensures)
 
 pub returns-in-Some-strip_prefix : goal.returns-in-Some-strip_prefix
 returns-in-Some-strip_prefix c =
@@ -24,7 +24,7 @@ returns-in-Some-strip_prefix c =
     let begins : c.args.text.now ≡ codes "open " ++ c.in-Some-strip_prefix.word.now =
     rw c.in-Some-strip_prefix.is at is in
     open-told c.args.text.now c.in-Some-strip_prefix.word.now (Some c.in_ok-association.association)
-    begins (sym c.in_ok-association.was ∙ c.association.ensures)
+    begins (sym c.in_ok-association.was ∙ c.parse_association.ensures)
 
 pub returns-in_err-word : goal.returns-in_err-word
 returns-in_err-word c =
@@ -55,7 +55,7 @@ returns-in_err-association-2 c =
     rw c.in_ok-word.was at is in
     ap (option_map named_view) c.from_residual-in_err-association-2.ensures
     ∙ close-told c.args.text.now c.in_ok-word.word.now None begins
-    (sym c.in_err-association-2.was ∙ c.association-2.ensures)
+    (sym c.in_err-association-2.was ∙ c.parse_association-2.ensures)
 
 pub returns : goal.returns
 returns c =
@@ -65,4 +65,4 @@ returns c =
     let begins : c.args.text.now ≡ codes "close " ++ c.in_ok-word.word.now =
     rw c.in_ok-word.was at is in
     close-told c.args.text.now c.in_ok-word.word.now (Some c.in_ok-association-2.association) begins
-    (sym c.in_ok-association-2.was ∙ c.association-2.ensures)
+    (sym c.in_ok-association-2.was ∙ c.parse_association-2.ensures)
