@@ -78,7 +78,8 @@ carried-last octets c is =
     subst (λ (d : ValueInContext). EndsWith octets d.value) x.2
     (parts-last octets is.0 x.0.0 x.0.1 is.1 x.1)
 
-user-last : (octets : List ℕ) (c : ValueInContext) → user_data.Spells octets c → EndsWith octets c.value
+user-last : (octets : List ℕ) (c : ValueInContext) → user_data.Spells octets c
+    → EndsWith octets c.value
 unfolding user_data user_part pdv_list
 user-last octets c is =
     let outer = is.2 in

@@ -60,7 +60,8 @@ through-exact {f = f} {g = g} k d e = record {
       (x.0, spelled, e.back x.0 y (k.holds s x.0 good spelled) x.2);
 }
 
-unit-bytes : (octets : List ℕ) (u : Unit) (rest : List ℕ) → IsBytes octets → BeginsWithUnit octets u rest
+unit-bytes : (octets : List ℕ) (u : Unit) (rest : List ℕ) → IsBytes octets
+    → BeginsWithUnit octets u rest
     → IsBytes u.content × IsBytes rest
 unit-bytes octets u rest b is =
     let behind =
@@ -159,7 +160,8 @@ users-bytes (u ∷ v ∷ us) b = tt
 parameters-keeps : Keeps IsBytes parameters UsersBytes
 unfolding parameters
 parameters-keeps = made-keeps _ (record {
-  holds = λ o us b is. users-bytes (filter is_user_data us) (filter-units us (units-bytes o us b is));
+  holds = λ o us b is. users-bytes (filter is_user_data us)
+      (filter-units us (units-bytes o us b is));
 })
 
 such-keeps : {S A B : Type 0} {Good : S → Type 0} {Next : A → Type 0} {Later : B → Type 0}

@@ -110,7 +110,8 @@ unit-back (identifier ∷ octets) x e =
     let made : Unit × List ℕ = (record { identifier = identifier; content = c.0.0 }, c.0.1) in
     let same : made ≡ x = same_Some made x c.2 in
     let k = counted-back octets c.0 c.1 in
-    subst (λ (y : Unit × List ℕ). BeginsWithUnit (identifier ∷ octets) y.0 y.1) {x = made} same (record {
+    subst (λ (y : Unit × List ℕ). BeginsWithUnit (identifier ∷ octets) y.0 y.1) {x = made} same
+    (record {
       size = k.size;
       is = ap (λ (l : List ℕ). identifier ∷ l) k.is;
       sized = k.sized;
@@ -258,13 +259,15 @@ filter-more front u false e =
     ∙ ap (λ (us : List Unit). filter is_user_data front ++ us) (rw e refl)
     ∙ append-nil (filter is_user_data front))
 
-pub found-more : (whole rest new : List ℕ) (users more : UserDataView) (u : Unit) → Found whole rest users
+pub found-more : (whole rest new : List ℕ) (users more : UserDataView) (u : Unit)
+    → Found whole rest users
     → units_in rest ≡ prepend_units (u ∷ []) (units_in new) → more ≡ user_data_with_unit users u
     → Found whole new more
 found-more whole rest new users more u f step is = record {
   front = f.front ++ u ∷ [];
   read = f.read ∙ ap (prepend_units f.front) step ∙ onto-onto f.front u (units_in new);
-  is = is ∙ ap (λ (us : UserDataView). user_data_with_unit us u) f.is ∙ sym (filter-more f.front u (is_user_data u) refl);
+  is = is ∙ ap (λ (us : UserDataView). user_data_with_unit us u) f.is
+      ∙ sym (filter-more f.front u (is_user_data u) refl);
 }
 
 abbrev judged : Option (List Unit) → Option UserDataView

@@ -72,7 +72,8 @@ pub record ValueInContext : Type 0 where
   pub value : List ℕ
 
 -- a value and its context, from the parts that were read
-abbrev pub context_value_from_fields : Option (Unit {0}) × (ℤ × (List ℕ × Unit {0})) → ValueInContext
+abbrev pub context_value_from_fields : Option (Unit {0}) × (ℤ × (List ℕ × Unit {0}))
+    → ValueInContext
 context_value_from_fields x = record { id = x.1.0; value = x.1.1.0 }
 
 -- The parts of a PDV-list, and of an EXTERNAL (ISO 8823-1, PDV-list; X.690 8.18): an object
@@ -108,7 +109,8 @@ abbrev pub selector_of : List ℕ → Option (List ℕ)
 selector_of octets = if nat_lt 16 (length octets) then None else Some octets
 
 -- a request, from the parts that were read
-abbrev pub connect_from_fields : Option (List ℕ) × (List Context × (ValueInContext × Unit {0})) → Connect
+abbrev pub connect_from_fields : Option (List ℕ) × (List Context × (ValueInContext × Unit {0}))
+    → Connect
 connect_from_fields x = record { called = x.0; contexts = x.1.0; user = x.1.1.0 }
 
 -- the called selector, which is optional, the contexts, and the user data

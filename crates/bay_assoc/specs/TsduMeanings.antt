@@ -96,7 +96,8 @@ answer_text c a agreed =
 -- The accepted contexts and the agreed limits, from the contexts and the user data of a request for
 -- a connection: the user data carry, in the context of ACSE, a request for an association, and this
 -- carries, in the context of MMS, an initiate.
-unfoldable pub agreement : List Context → ValueInContext → Verdict (ContextIds × AgreedLimits) AssocFault
+unfoldable pub agreement : List Context → ValueInContext
+    → Verdict (ContextIds × AgreedLimits) AssocFault
 agreement contexts user = do
   a ← verdict_of (or_fault fault.NoContext (accepted_ids contexts))
   value ← verdict_of (acse_value a user)

@@ -223,7 +223,8 @@ fn context_value_from_values<'a>(id: &Value<'_>, value: &Value<'a>) -> Option<Co
 /// Reads a value and its context from the parts of a PDV-list or an EXTERNAL.
 #[tactic(auto, unfolding(crate::specs::Presentation::context_value_parts))]
 pub(crate) fn context_value_from_parts<'a>(parts: &[Value<'a>]) -> Option<ContextValue<'a>>
-    ensures { option_map context_value_view result ≡ context_value_parts.reads (map part_of parts.now) }
+    ensures { option_map context_value_view result
+        ≡ context_value_parts.reads (map part_of parts.now) }
 {
     match parts {
         [id, value] => context_value_from_values(id, value),

@@ -17,7 +17,9 @@ use crate::presentation::{Context, ContextValue, parse_connect_request, parse_us
 use crate::request::Connect;
 use crate::session::{Spdu, parse_spdu};
 use crate::text;
-use bay_mms_initiate::initiate::{AgreedLimits, Proposal, agreed_size, read_initiate, write_initiate_response};
+use bay_mms_initiate::initiate::{
+    AgreedLimits, Proposal, agreed_size, read_initiate, write_initiate_response,
+};
 use std::alloc::{AllocError, Global};
 
 /// The identifiers of the accepted presentation contexts.
@@ -186,7 +188,10 @@ fn answer_connect(
 // Returns the accepted contexts and the agreed limits, from the contexts and the user data of a
 // request: an AARQ of ACSE, with an initiate of MMS within it.
 #[tactic(auto, unfolding(crate::specs::TsduMeanings::agreement))]
-fn agreement(contexts: &[Context], user: ContextValue<'_>) -> Result<(ContextIds, AgreedLimits), AssocFault>
+fn agreement(
+    contexts: &[Context],
+    user: ContextValue<'_>,
+) -> Result<(ContextIds, AgreedLimits), AssocFault>
     ensures agreement { Exact (λ x. (x.0, x.1)) result
         (spec.agreement contexts.now (context_value_view user.entry)).result }
     ensures sized { IfOk result (λ x. IsPduSize x.1.size) }

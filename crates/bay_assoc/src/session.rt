@@ -166,7 +166,8 @@ fn is_user_data(unit: &Unit<'_>) -> bool
 // Returns the user data found so far, after one more unit.
 fn user_data_with_unit<'a>(found: UserData<'a>, unit: Unit<'a>) -> UserData<'a>
     ensures { user_data_view result
-        ≡ spec_session_reading.user_data_with_unit (user_data_view found.entry) (unit_of unit.entry) }
+        ≡ spec_session_reading.user_data_with_unit (user_data_view found.entry)
+        (unit_of unit.entry) }
 {
     if !is_user_data(&unit) {
         return found;

@@ -41,7 +41,8 @@ module _ (g : BoundProgram) (k : ℕ) (operation : Operation) where
       (λ p ip inside machine now slots timers image kept leaves.
       is p ip inside 0 machine now slots timers image kept tt leaves)
   verdict-told case (verdict.Open kept) release is turn =
-      let same : release ≡ Depends kept = cc in subst (IsRightInCase g k operation case) (sym same) tt
+      let same : release ≡ Depends kept =
+      cc in subst (IsRightInCase g k operation case) (sym same) tt
   verdict-told case (verdict.Split test) release is turn = absurd cc
 
   -- what a pass decides of the case of a process that is lost
@@ -66,8 +67,10 @@ module _ (g : BoundProgram) (k : ℕ) (operation : Operation) where
     lost-refused e p ip gone machine now slots timers image kept leaves =
         decided Missed e p ip (inside p gone) 0 machine now slots timers image kept tt leaves
 
-  pub told-more : (cases : List ReportedCase) (c : ReportedCase) → AreRightInCases g k operation cases
-      → IsRightInCase g k operation c.case c.release → AreRightInCases g k operation (cases ++ c ∷ [])
+  pub told-more : (cases : List ReportedCase) (c : ReportedCase)
+      → AreRightInCases g k operation cases
+      → IsRightInCase g k operation c.case c.release
+      → AreRightInCases g k operation (cases ++ c ∷ [])
   told-more [] c all one = (one, tt)
   told-more (d ∷ cases) c all one = (all.0, told-more cases c all.1 one)
 

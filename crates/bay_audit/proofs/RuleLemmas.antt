@@ -278,7 +278,8 @@ asked-included d p is case inside =
 -- What is foretold of all that the ranges of a program's memory hold is so of what it reaches.
 pub foresees-by : (g : BoundProgram) (memory : List Range) (limits : List KnownDelay)
     (given : List Range) (last : List KnownDelay) (result : List Range) → IsMemory g.image memory
-    → PredictsScans g.image memory limits given last result → PredictsRanges g limits given last result
+    → PredictsScans g.image memory limits given last result
+    → PredictsRanges g limits given last result
 foresees-by g memory limits given last result is predicts w machine inputs now slots timers image
     reached young inside leaves =
     predicts w machine inputs now slots timers image reached (is w machine image reached) young

@@ -147,7 +147,8 @@ module _ (g : BoundProgram) (d : Demand) where
 -- one rule more, and its answer
 pub right-more : (g : BoundProgram) (rules : List Rule) (answers : List RuleAnswer) (r : Rule)
     (a : RuleAnswer)
-    → AreRightAnswers g rules answers → IsRightAnswer g r a → AreRightAnswers g (rules ++ r ∷ []) (answers ++ a ∷ [])
+    → AreRightAnswers g rules answers → IsRightAnswer g r a
+    → AreRightAnswers g (rules ++ r ∷ []) (answers ++ a ∷ [])
 right-more g [] [] r a all one = (one, tt)
 right-more g (q ∷ rules) (b ∷ answers) r a all one =
     (all.0, right-more g rules answers r a all.1 one)

@@ -343,7 +343,8 @@ IsRightFor These g k operation (Depends depends_on) = Unit {0}
 
 -- The release in a case is right.
 abbrev pub IsRightInCase : BoundProgram → ℕ → Operation → List TestAnswer → CaseRelease → Type 0
-IsRightInCase g k operation case release = IsRightFor (λ p. is_in case p ≡ true) g k operation release
+IsRightInCase g k operation case release =
+    IsRightFor (λ p. is_in case p ≡ true) g k operation release
 
 -- The release in each of the cases is right.
 abbrev pub AreRightInCases : BoundProgram → ℕ → Operation → List ReportedCase → Type 0
@@ -413,7 +414,8 @@ release_demand k operation = record {
 -- In any setting, from every state that the program can reach, a scan with inputs in the given
 -- ranges, and with delays of timers as `limits` says, leaves slots in the resulting ranges, and
 -- delays as `last` says.
-abbrev pub PredictsRanges : BoundProgram → List KnownDelay → List Range → List KnownDelay → List Range
+abbrev pub PredictsRanges : BoundProgram → List KnownDelay → List Range → List KnownDelay
+    → List Range
     → Type 0
 PredictsRanges g limits given last result =
     (w : Setting) (machine : MachineData) (inputs : List Value) (now : ℕ) (slots : List Value)
@@ -440,7 +442,8 @@ IsVerdict g d case (verdict.Open depends_on) = Unit {0}
 
 -- the decision on a demand in a case is right
 abbrev pub IsDecision : BoundProgram → Demand → List TestAnswer → RuleVerdict → Type 0
-IsDecision g d case Obeyed = (p : Process) → IsProcess p → is_in case p ≡ true → ScansMeet true g d p
+IsDecision g d case Obeyed =
+    (p : Process) → IsProcess p → is_in case p ≡ true → ScansMeet true g d p
 IsDecision g d case Missed = IsMissed g d case
 IsDecision g d case Unknown = Unit {0}
 

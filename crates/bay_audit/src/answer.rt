@@ -6,22 +6,32 @@ use bay_base::switch::Operation;
 #[derive(Drop)]
 pub enum RuleAnswer {
     /// The rule holds; the proof needed this number of cases.
-    Holds { cases: u32 },
+    Holds {
+        cases: u32,
+    },
     /// Each process of the case breaks the rule, in each state that the program can reach; or, for
     /// a rule with a time, a process of the case breaks it in the first scan or the second from the
     /// program's first values.
-    Broken { case: Case },
+    Broken {
+        case: Case,
+    },
     /// In this case the answer depends on something that no test of the process decides: on
     /// variables or timers that the program retains, or on a calculation that the audit does not
     /// follow. `depends_on` is a hint of what it may depend on.
-    Open { case: Case, depends_on: StateDependencies },
+    Open {
+        case: Case,
+        depends_on: StateDependencies,
+    },
     /// The rule needs more passes than allowed.
     TooMany,
     /// The rule has a time and holds; the proof needed this number of cases. For `never`, the timer
     /// with this index in the image runs only while the rule's condition holds, and has expired
     /// before the switch is released; for `always`, it runs whenever the condition holds, and the
     /// switch is released once it has expired.
-    Since { timer: usize, cases: u32 },
+    Since {
+        timer: usize,
+        cases: u32,
+    },
 }
 
 /// The release of a switch in a case.

@@ -185,7 +185,8 @@ pub fn audit(
     // case, in each such state. A rule with a time may also hold by a timer, which runs only while
     // the condition holds and has expired before a release, and may also be broken by a run of one
     // scan or two;
-    ensures answers { IfOk result (λ audit. AreRightAnswers (program_of bay.now verified.now) rules.now
+    ensures answers { IfOk result
+        (λ audit. AreRightAnswers (program_of bay.now verified.now) rules.now
         audit.answers.items) }
     // The cases of each release are right and disjoint, each has a process, and together with those
     // that are left they cover all processes; the release while the process is lost is right, and

@@ -119,7 +119,8 @@ impl<'a> AuditedProgram<'a> {
         ensures size { IfOk result
             (λ f. length f.ranges.items ≡ length self.now.image.points
             + length self.now.image.variables) }
-        ensures predicts { IfOk result (λ f. PredictsRanges self.now limits.now given.now f.delays.items
+        ensures predicts { IfOk result
+            (λ f. PredictsRanges self.now limits.now given.now f.delays.items
             f.ranges.items) }
     {
         let memory = self.memory.as_slice();

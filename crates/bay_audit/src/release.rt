@@ -13,7 +13,7 @@ use crate::effort::PassBudget;
 use crate::program::AuditedProgram;
 use crate::split::dependencies_of;
 use crate::truth_set::TruthSet;
-use crate::verdict::{input_ranges, run_pass, release_range, verdict};
+use crate::verdict::{input_ranges, release_range, run_pass, verdict};
 use bay_audit_rules::rule::{ConditionItem, RuleKind};
 use bay_base::listing::Listing;
 use bay_base::switch::Operation;

@@ -226,7 +226,10 @@ fn answer_by_dependency(
         return Ok(RuleAnswer::Broken { case });
     }
     match found {
-        RuleAnswer::Open { case, depends_on } if *passes > 0 => Ok(RuleAnswer::Open { case, depends_on }),
+        RuleAnswer::Open { case, depends_on } if *passes > 0 => Ok(RuleAnswer::Open {
+            case,
+            depends_on,
+        }),
         _ => Ok(RuleAnswer::TooMany),
     }
 }

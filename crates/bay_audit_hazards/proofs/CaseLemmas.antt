@@ -31,7 +31,8 @@ use Rattle.bay_audit_hazards.specs.Parts.{AllowInputs, AllowPositions, IsKnown}
 positions-more : (may_conduct : ℕ → Dbpos → Bool) (sets : List PositionSet) (s : PositionSet)
     → ((k : ℕ) (d : Dbpos) → may_conduct k d ≡ true → has_position (slice_get sets k) d ≡ true)
     → ((d : Dbpos) → may_conduct (length sets) d ≡ true → has_position (Some s) d ≡ true)
-    → (k : ℕ) (d : Dbpos) → may_conduct k d ≡ true → has_position (slice_get (sets ++ s ∷ []) k) d ≡ true
+    → (k : ℕ) (d : Dbpos) → may_conduct k d ≡ true
+    → has_position (slice_get (sets ++ s ∷ []) k) d ≡ true
 positions-more may_conduct [] s all one zero d h = one d h
 positions-more may_conduct [] s all one (suc k) d h = refl
 positions-more may_conduct (t ∷ sets) s all one zero d h = all zero d h
@@ -41,7 +42,8 @@ positions-more may_conduct (t ∷ sets) s all one (suc k) d h =
 inputs-more : (may_conduct : ℕ → Bool → Bool) (sets : List InputSet) (s : InputSet)
     → ((k : ℕ) (v : Bool) → may_conduct k v ≡ true → has_value (slice_get sets k) v ≡ true)
     → ((v : Bool) → may_conduct (length sets) v ≡ true → has_value (Some s) v ≡ true)
-    → (k : ℕ) (v : Bool) → may_conduct k v ≡ true → has_value (slice_get (sets ++ s ∷ []) k) v ≡ true
+    → (k : ℕ) (v : Bool) → may_conduct k v ≡ true
+    → has_value (slice_get (sets ++ s ∷ []) k) v ≡ true
 inputs-more may_conduct [] s all one zero v h = one v h
 inputs-more may_conduct [] s all one (suc k) v h = refl
 inputs-more may_conduct (t ∷ sets) s all one zero v h = all zero v h

@@ -41,7 +41,10 @@ fn evaluation_cost(program: &AuditedProgram<'_>, network: &Network) -> u32 {
 }
 
 // Returns the cases in which the switch is released, and those in which no test decides that.
-fn split_by_release(alloc: Global, cases: Vec<ReportedCase>) -> Result<(Vec<Case>, Vec<Case>), AllocError>
+fn split_by_release(
+    alloc: Global,
+    cases: Vec<ReportedCase>,
+) -> Result<(Vec<Case>, Vec<Case>), AllocError>
     ensures { IfOk result (λ both. spec.AreSplit cases.items both.0.items both.1.items) }
 {
     let mut cases = cases;

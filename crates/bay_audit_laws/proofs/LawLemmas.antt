@@ -171,7 +171,8 @@ pub record IsScanned (bay : Bay) (image : Image) (s : State) : Type 0 where
   pub timers : List TimerState
   pub image_is : machine.image ≡ image
   pub reached : IsReached machine
-  pub leaves : ScanLeaves machine (map (process_value (process_of s)) (program_of bay image).reads) now
+  pub leaves : ScanLeaves machine (map (process_value (process_of s)) (program_of bay image).reads)
+      now
       slots timers
   pub released : (k : ℕ) (operation : Operation) → k < length bay.switches
       → is_released s k operation ≡ releases (program_of bay image) k operation slots
@@ -296,10 +297,12 @@ module _ (bay : Bay) (image : Image) (is_bay : IsBay bay) where
     scanned-process = scan-alike s scanned s.writes outputs now refl refl refl refl
 
     -- the run is one from what the process reports
-    pub read : ScanLeaves s.machine (map (process_value (process_of s)) (program_of bay image).reads)
+    pub read : ScanLeaves s.machine
+        (map (process_value (process_of s)) (program_of bay image).reads)
         now scanned.machine.slots scanned.machine.timers
     read =
-        subst (λ inputs. ScanLeaves s.machine inputs now scanned.machine.slots scanned.machine.timers)
+        subst (λ inputs. ScanLeaves s.machine inputs now scanned.machine.slots
+        scanned.machine.timers)
         (inputs-read s (program_of bay image).reads o.reads) leaves
 
     -- the interlocking values tell what the slots release

@@ -95,7 +95,8 @@ measured-fits rows names tree h =
     subst Fits (sym (contains-is rows names.value _ tree h.value_there)) zero-fits
 
 field-fits : (rows : List Row) (k : ℕ) (field : MeterField) → IsTree rows
-    → HasMeter rows (meter_names k) → Fits (leaf_named (field_names field (meter_names k)).value rows)
+    → HasMeter rows (meter_names k)
+    → Fits (leaf_named (field_names field (meter_names k)).value rows)
 field-fits rows k TotW tree m = measured-fits rows _ tree m.tot_w
 field-fits rows k TotVAr tree m = measured-fits rows _ tree m.tot_var
 field-fits rows k Hz tree m = measured-fits rows _ tree m.hz

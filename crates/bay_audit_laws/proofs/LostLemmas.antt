@@ -72,7 +72,8 @@ lost-bad now (x ∷ ss) k s zero i switch here at there =
     bad-if (has_position (position_names (switch_node s.switches k x)) Bad s.rows)
     (switch_node s.switches k x) (cswi_name k) now s.rows refl there-own in
     let bad : BadAt node (device_after_contact now k x Bad s).rows =
-    subst (λ (y : Switch). BadAt (switch_node s.switches i y) (device_after_contact now k x Bad s).rows)
+    subst (λ (y : Switch). BadAt (switch_node s.switches i y)
+    (device_after_contact now k x Bad s).rows)
     same
     (subst (λ m. BadAt (switch_node s.switches m x) (device_after_contact now k x Bad s).rows) first
     own) in
@@ -169,7 +170,8 @@ enabled-away n k value quality time b now rows away =
       quality = cilo_name k ++ quality;
       time = cilo_name k ++ time;
     } in
-    let changed : leaf_named n (with_status names (leaf.Truth b) Good now rows) ≡ leaf_named n rows =
+    let changed : leaf_named n (with_status names (leaf.Truth b) Good now rows)
+    ≡ leaf_named n rows =
     leaf-other _ n names.time (leaf.Utc now) (λ e. away k time (sym e))
     ∙ leaf-other _ n names.quality (leaf.Quality Good) (λ e. away k quality (sym e))
     ∙ leaf-other rows n names.value (leaf.Truth b) (λ e. away k value (sym e)) in
@@ -191,7 +193,8 @@ outputs-away n away switches writes outputs now k (s ∷ ss) rows =
 outputs-bad : (switches : List Switch) (j : ℕ) (switch : Switch) (writes : List Source)
     (outputs : List Value) (now : ℕ) (rows : List Row)
     → BadAt (switch_node switches j switch) rows
-    → BadAt (switch_node switches j switch) (with_outputs switches writes outputs now 0 switches rows)
+    → BadAt (switch_node switches j switch)
+    (with_outputs switches writes outputs now 0 switches rows)
 outputs-bad switches j switch writes outputs now rows is =
     let away : (t : List ℕ) → IsAway (switch_node switches j switch ++ t) =
     away-position switch.kind (node_number switches switch j) in
@@ -327,7 +330,8 @@ first-have : (bay : Bay) → IsBay bay
 first-have bay is_bay k switch here =
     let number = node_number bay.switches switch k in
     let has =
-    ((names-position bay k switch (switch_node bay.switches k switch) here refl).rows is_bay).position
+    ((names-position bay k switch (switch_node bay.switches k switch) here refl).rows
+    is_bay).position
     in
     record {
       value = λ none. contains-leaf bay.rows _ _ is_bay.tree has.value_there

@@ -88,7 +88,8 @@ pub record AreBoth (rows : List Row) (k : ℕ) : Type 0 where
   pub opening : AreValued rows (opening_names_at k)
   pub closing : AreValued rows (closing_names_at k)
 
-own-told : (switches : List Switch) (k : ℕ) (s : Switch) (e : SwitchEnables) (now : ℕ) (rows : List Row)
+own-told : (switches : List Switch) (k : ℕ) (s : Switch) (e : SwitchEnables) (now : ℕ)
+    (rows : List Row)
     → AreBoth rows k
     → HoldsRelease (with_output (switch_names switches k s) e.may_open e.may_close now rows) k e
 own-told switches k s e now rows both =
@@ -103,7 +104,8 @@ own-told switches k s e now rows both =
           ∙ none);
     }) refl
 
-pub told-both : (rows : List Row) (k : ℕ) (e : SwitchEnables) → HoldsRelease rows k e → AreBoth rows k
+pub told-both : (rows : List Row) (k : ℕ) (e : SwitchEnables) → HoldsRelease rows k e
+    → AreBoth rows k
 told-both rows k e told = record {
   opening = stands-valued rows (opening_names_at k) e.may_open told.opening;
   closing = stands-valued rows (closing_names_at k) e.may_close told.closing;

@@ -57,7 +57,8 @@ module _ (P : List Row → Type 0)
       (rows_after_change names position now rows) p
       (if-passes (is_operation position (leaf_named names.position.value rows))
       (rows_after_operation names.operations now after) after
-      (counted-passes names.operations (leaf_named names.operations.value after) now after both) both)
+      (counted-passes names.operations (leaf_named names.operations.value after) now after both)
+      both)
 
   pub measure-passes : (names : StatusNames) (value : ℤ) (now : ℕ) (rows : List Row) → P rows
       → P (rows_after_measure names value now rows)

@@ -117,7 +117,8 @@ InEachRun bay image Law =
     → EachStep Law events (initial_device bay image) answers last
 
 -- `Law` is true in each run, if a rule holds of the program.
-abbrev pub ForEachRule : (Rule → ℕ → Event → State → Result Step StepFault → State → Type 0) → Type 0
+abbrev pub ForEachRule : (Rule → ℕ → Event → State → Result Step StepFault → State → Type 0)
+    → Type 0
 ForEachRule Law =
     (bay : Bay) (image : Image) (rule : Rule) → IsBay bay
     → rule.switch < length bay.switches → RuleHolds (program_of bay image) rule

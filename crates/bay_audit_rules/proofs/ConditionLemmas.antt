@@ -84,7 +84,8 @@ turn-on phase false s new t all ts left p goes =
 
 pub turn-stop : (phase : Phase) (s new : State) (t : RuleToken) (all ts : List RuleToken)
     → all ≡ t ∷ ts
-    → IsAdvance Stop new t ts (token_step phase s t ts) → found_after_tokens phase s all ≡ finish new all
+    → IsAdvance Stop new t ts (token_step phase s t ts)
+    → found_after_tokens phase s all ≡ finish new all
 turn-stop phase s new t all ts p goes = rw (p, goes) (run-over (finish new (t ∷ ts)) new ts)
 
 pub turn-refuse : (phase : Phase) (s new : State) (t : RuleToken) (all ts : List RuleToken)

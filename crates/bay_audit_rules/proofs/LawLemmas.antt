@@ -105,7 +105,8 @@ truth-sound measurand None = tt
 truth-sound measurand (Some truth) = input-sound measurand truth
 
 number-sound : (measurand : Option Measurand) (n : ℤ) → IsSound (number_items measurand n)
-number-sound (Some (measurands.Input input)) n = truth-sound (Some (measurands.Input input)) (truth_of n)
+number-sound (Some (measurands.Input input)) n =
+    truth-sound (Some (measurands.Input input)) (truth_of n)
 number-sound (Some (measurands.Measure meter field)) n =
     measure-sound (Some (measurands.Measure meter field)) Equal n
 number-sound None n = tt

@@ -89,7 +89,8 @@ one-behind named t ts x taken e read =
     let at = behind-some x taken e in
     subst (λ (k : ReadItems). IsFact named (take k.1 (t ∷ ts)) k.0) at.is (read at.first at.was)
 
-is-read : (named : NamedObject) (ts : List RuleToken) (taken : ReadItems) → is_at named ts ≡ Some taken
+is-read : (named : NamedObject) (ts : List RuleToken) (taken : ReadItems)
+    → is_at named ts ≡ Some taken
     → IsFact named (take (suc taken.1) (token.Is ∷ ts)) taken.0
 is-read named [] taken e = absurd cc
 is-read named (token.Not ∷ ts) taken e =

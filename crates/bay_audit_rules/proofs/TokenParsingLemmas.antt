@@ -80,7 +80,8 @@ says-found ts s Spells.silence = refl
 says-found ts s (Spells.look {named = named} {ts = us} {c = c} is) =
     let found : fact_at named us ≡ Some (c, length us) =
     rw append-nil at (fact-found named us c [] is Ends.at_end) in rw (found, drop-all us) refl
-says-found ts s (Spells.rule {kind = kind} {named = named} directions {us = us} {vs = vs} {timed = timed}
+says-found ts s (Spells.rule {kind = kind} {named = named} directions {us = us} {vs = vs}
+    {timed = timed}
     {c = c} q r) =
     rw (
       ways-found directions (us ++ vs) (after-ways kind us vs timed c q r),
@@ -246,7 +247,8 @@ looks-read : (named : NamedObject) (ts : List RuleToken) (s : RuleStatement)
 looks-read named ts s e =
     let x = fact_at named ts >>= λ (taken : ReadItems). only_items taken.0 (drop taken.1 ts) in
     let looks = mapped-some x Looks s e in
-    let at = then-some (fact_at named ts) (λ (taken : ReadItems). only_items taken.0 (drop taken.1 ts))
+    let at =
+    then-some (fact_at named ts) (λ (taken : ReadItems). only_items taken.0 (drop taken.1 ts))
     looks.found looks.was in
     let whole = alone-is at.found.0 (drop at.found.1 ts) looks.found at.is in
     let is : IsFact named ts at.found.0 =
@@ -260,7 +262,13 @@ rule-says : (kind : RuleKind) (named : NamedObject) (ts : List RuleToken) (s : R
     (timed : Option HeldCondition) (when : Items) (us vs : List RuleToken)
     → ts ≡ direction_tokens directions ++ (us ++ vs)
     → IsTimed kind us timed → IsWhen vs when
-    → Rule (record { kind = kind; named = named; directions = directions; timed = timed; when = when }) ≡ s
+    → Rule (record {
+      kind = kind;
+      named = named;
+      directions = directions;
+      timed = timed;
+      when = when;
+    }) ≡ s
     → Spells (token.Kind kind ∷ (token.Name named ∷ ts)) s
 rule-says kind named ts s directions timed when us vs p q r e =
     rw p (subst
@@ -281,7 +289,8 @@ rule-read kind named ts s e =
       when = when;
     }) in
     let w = then-some (directions_at ts) (λ (directions : Directions × List RuleToken).
-    timed_at kind directions.1 >>= λ timed. option_map (said directions timed) (when_at timed.1)) s e in
+    timed_at kind directions.1 >>= λ timed. option_map (said directions timed) (when_at timed.1)) s
+    e in
     let t = then-some (timed_at kind w.found.1) (λ (timed : Option HeldCondition × List RuleToken).
     option_map (said w.found timed) (when_at timed.1)) s w.is in
     let m = mapped-some (when_at t.found.1) (said w.found t.found) s t.is in

@@ -13,7 +13,8 @@ pub record Consumed (taken : ReadItems) (old new : Items) (ts left : List RuleTo
   pub rest : left ≡ drop taken.1 ts
 
 -- the tokens at the start, if there are such tokens, were consumed, and their items appended
-abbrev pub ConsumedIf : Option ReadItems → Items → Items → List RuleToken → Option (Bor (List RuleToken))
+abbrev pub ConsumedIf : Option ReadItems → Items → Items → List RuleToken
+    → Option (Bor (List RuleToken))
     → Type 0
 ConsumedIf None old new ts None = new ≡ old
 ConsumedIf None old new ts (Some rest) = ⊥

@@ -99,4 +99,10 @@ pub data Spells : List RuleToken → RuleStatement → Type 0 where
   rule : {kind : RuleKind} {named : NamedObject} (directions : Directions) {us vs : List RuleToken}
       {timed : Option HeldCondition} {c : Items} → IsTimed kind us timed → IsWhen vs c
       → Spells (token.Kind kind ∷ token.Name named ∷ (direction_tokens directions ++ (us ++ vs)))
-      (Rule (record { kind = kind; named = named; directions = directions; timed = timed; when = c }))
+      (Rule (record {
+        kind = kind;
+        named = named;
+        directions = directions;
+        timed = timed;
+        when = c;
+      }))

@@ -110,7 +110,8 @@ abbrev pub rules_of : ℕ → RuleStatement → Option (List Rule)
 rules_of line statement.Blank = Some []
 rules_of line (statement.Looks c) = option_map (λ is. []) c
 rules_of line (statement.Rule rule_line) =
-    option_map (λ rule. map (rule_of rule) (operations_of rule_line.directions)) (template_of line rule_line)
+    option_map (λ rule. map (rule_of rule) (operations_of rule_line.directions))
+    (template_of line rule_line)
 
 -- the rules that the tokens of a line spell, or the least fault
 pub data TokensRead (line : ℕ) (ts : List RuleToken) : Result (List Rule) RuleFault → Type 0 where

@@ -104,7 +104,8 @@ fn number<'a>(
     relation: Relation,
     tokens: &'a [RuleToken],
 ) -> Result<Option<&'a [RuleToken]>, AllocError>
-    ensures { IfOk result (ConsumedIf (number_at named relation tokens.entry.now) draft.old draft.new
+    ensures { IfOk result (ConsumedIf (number_at named relation tokens.entry.now) draft.old
+        draft.new
         tokens.entry.now) }
 {
     let [RuleToken::TestValue(TestValue::Number(number)), rest @ ..] = tokens else {
@@ -290,7 +291,8 @@ fn end_condition<'a>(
     mut stack: PendingStack,
     rest: &'a [RuleToken],
 ) -> Result<Option<&'a [RuleToken]>, AllocError>
-    ensures { IfOk result (IsReadCondition (finish (state stack draft.old) rest.entry.now) draft.new) }
+    ensures { IfOk result (IsReadCondition (finish (state stack draft.old) rest.entry.now)
+        draft.new) }
 {
     push_or(draft, &mut stack)?;
     if stack.top().is_some() {

@@ -145,7 +145,8 @@ fn push_directions(
     directions: Directions,
 ) -> Result<(), AllocError>
     ensures { OnOk result
-        (rules.new.items ≡ rules.old.items ++ map (spec.rule_of rule.now) (spec.operations_of directions)) }
+        (rules.new.items ≡ rules.old.items
+        ++ map (spec.rule_of rule.now) (spec.operations_of directions)) }
 {
     match directions {
         Directions::Opening => push_rule(alloc, rules, rule, Operation::Open),

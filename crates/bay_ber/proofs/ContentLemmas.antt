@@ -34,7 +34,8 @@ pub bits-only : (content : List ℕ) (unused : ℕ) (behind : List ℕ) (result 
     → content ≡ unused ∷ behind
     → IfOk result (λ bits. (bits.octets.now ≡ behind) × HasBits unused behind bits.count)
     → IfErr result (λ fault. (fault ≡ BadContent) × ((count : ℕ) → HasBits unused behind count → ⊥))
-    → (b : BitString) → IsBits content b.octets b.count → IsOkAnd result (λ bits. bit_string_view bits ≡ b)
+    → (b : BitString) → IsBits content b.octets b.count
+    → IsOkAnd result (λ bits. bit_string_view bits ≡ b)
 bits-only content unused behind (Ok bits) whole ok err b is =
     let at : IsBits (unused ∷ behind) b.octets b.count =
     subst (λ (xs : List ℕ). IsBits xs b.octets b.count) whole is in
@@ -137,7 +138,8 @@ bits-at : (unused : ℕ) (behind : List ℕ) (result : Result Bits BerFault)
     → option_map bit_string_view (result_ok result) ≡ bits_in (unused ∷ behind)
 bits-at unused behind (Ok bits) ok err =
     let count : bits.count ≡ 8 * length behind - unused = (let f = ok.1.filled in omega arith) in
-    let same : bit_string_view bits ≡ record { octets = behind; count = 8 * length behind - unused } =
+    let same : bit_string_view bits
+    ≡ record { octets = behind; count = 8 * length behind - unused } =
     rw (ok.0, count) refl in
     ap Some same ∙ sym (cond-true (is_unused_count unused behind)
     (Some (record { octets = behind; count = 8 * length behind - unused })) None

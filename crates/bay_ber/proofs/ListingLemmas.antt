@@ -16,7 +16,8 @@ use Rattle.bay_ber.proofs.ReadLemmas.{IsBytes, bind-ok, chosen, ok-is, with_tag,
 
 -- ---- what is read leaves less
 
-second-shorter : (first : ℕ) (octets : List ℕ) (x : Tag × List ℕ) → two_octet_tag first octets ≡ Ok x
+second-shorter : (first : ℕ) (octets : List ℕ) (x : Tag × List ℕ)
+    → two_octet_tag first octets ≡ Ok x
     → length x.1 ≤ length octets
 second-shorter first [] x e = absurd cc
 second-shorter first (second ∷ octets) x e =
@@ -205,7 +206,8 @@ not-one part (Some (next ∷ later)) some = refl
 values-some : (octets : List ℕ) (t : Result TlvData BerFault) → tlv_at octets ≡ t
     → (octets ≡ [] → ⊥) → values_in octets ≡ Some [] → ⊥
 values-some octets (Ok r) read some e = let s =
-    onto-some (part_of_tlv r ∷ []) (values_in r.rest) [] (sym (values-step octets r some read) ∙ e) in
+    onto-some (part_of_tlv r ∷ []) (values_in r.rest) [] (sym (values-step octets r some read) ∙ e)
+    in
     let same : [] ≡ part_of_tlv r ∷ s.0 = s.2 in cc
 values-some octets (Err fault) read some e = let n : values_in octets ≡ None =
     values-stop octets fault some read in cc

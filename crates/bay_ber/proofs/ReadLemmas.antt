@@ -478,7 +478,8 @@ truncated-again octets fits h = truncated-answer octets (tlv_at octets) fits h r
 -- ---- what a function answers that reads so
 
 pub is_ok : (octets : List ℕ) (result : Result Tlv BerFault) → IsBytes octets
-    → Exact tlv_data result (tlv_at octets) → IfOk result (λ tlv. BeginsWithTlv octets (tlv_data tlv))
+    → Exact tlv_data result (tlv_at octets)
+    → IfOk result (λ tlv. BeginsWithTlv octets (tlv_data tlv))
 is_ok octets (Ok tlv) fits given = tlv-takes octets (tlv_data tlv) fits given
 is_ok octets (Err d) fits given = tt
 
@@ -503,10 +504,12 @@ err-is-answer octets (Err c) d given e = ap Err (err-is c d (sym given ∙ e))
 -- ---- the law
 
 -- at most one prefix of an input is spelled, in one way
-pub one_reading : (octets : List ℕ) (r s : TlvData) → BeginsWithTlv octets r → BeginsWithTlv octets s → r ≡ s
+pub one_reading : (octets : List ℕ) (r s : TlvData) → BeginsWithTlv octets r
+    → BeginsWithTlv octets s → r ≡ s
 one_reading octets r s a b = ok-is r s (sym (tlv-again octets r a) ∙ tlv-again octets s b)
 
-pub one-front : (octets : List ℕ) (r s : TlvData) (a : BeginsWithTlv octets r) (b : BeginsWithTlv octets s)
+pub one-front : (octets : List ℕ) (r s : TlvData) (a : BeginsWithTlv octets r)
+    (b : BeginsWithTlv octets s)
     → a.front ≡ b.front
 one-front octets r s a b =
     let same : r.rest ≡ s.rest = ap (λ (x : TlvData). x.rest) (one_reading octets r s a b) in

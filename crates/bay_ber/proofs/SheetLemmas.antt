@@ -135,7 +135,8 @@ rewritten-joined limit (Some text) start tag content at =
     ]
 
 -- what was opened, written and closed is the value
-pub closed-put : (buffer : EncoderBuffer) (start tag : ℕ) (content : List ℕ) → IsTextEnd start buffer
+pub closed-put : (buffer : EncoderBuffer) (start tag : ℕ) (content : List ℕ)
+    → IsTextEnd start buffer
     → close_value (buffer_with buffer (tag ∷ 0 ∷ content)) start
     ≡ buffer_with buffer (short_value tag content)
 unfolding buffer_with close_value IsTextEnd
@@ -152,7 +153,8 @@ two-at limit (Some text) start tag content at =
       | inr le ↦ rw (room limit text (tag ∷ 0 ∷ content) le) (omega arith)
     ]
 
-pub is_open-put : (buffer : EncoderBuffer) (start tag : ℕ) (content : List ℕ) → IsTextEnd start buffer
+pub is_open-put : (buffer : EncoderBuffer) (start tag : ℕ) (content : List ℕ)
+    → IsTextEnd start buffer
     → IsOpen start (buffer_with buffer (tag ∷ 0 ∷ content))
 unfolding buffer_with IsTextEnd IsOpen
 is_open-put buffer start tag content at = two-at buffer.limit buffer.text start tag content at
@@ -213,7 +215,8 @@ put-next buffer head f xs i d lt =
     refl
 
 -- the same in a value that was opened
-pub put-item : {X : Type 0} (buffer : EncoderBuffer) (tag : ℕ) (f : X → List ℕ) (xs : List X) (i : ℕ)
+pub put-item : {X : Type 0} (buffer : EncoderBuffer) (tag : ℕ) (f : X → List ℕ) (xs : List X)
+    (i : ℕ)
     (d : X)
     → i < length xs
     → buffer_with (buffer_with buffer (tag ∷ 0 ∷ flat_map f (take i xs))) (f (get_or xs i d))
@@ -250,7 +253,8 @@ pub message_put : (limit : ℕ) (text : List ℕ)
 unfolding buffer_with message
 message_put limit text = no-heads (text_with limit (Some []) text) ∙ from-none limit text
 
-pub short-message : (limit : ℕ) (text : List ℕ) (start now : EncoderBuffer) → start ≡ empty_buffer limit
+pub short-message : (limit : ℕ) (text : List ℕ) (start now : EncoderBuffer)
+    → start ≡ empty_buffer limit
     → now ≡ buffer_with start text → length text ≤ limit → message now ≡ Some text
 short-message limit text start now is_empty is_put le =
     rw (is_put, is_empty) (message_put limit text ∙ fits limit text le)
@@ -286,7 +290,8 @@ front_of head headers (Some text) = ap (λ (ys : List ℕ). Some ys) (append_ass
 
 -- a head in front of the message
 pub message-front : (buffer : EncoderBuffer) (head : List ℕ)
-    → message (record { limit = buffer.limit; headers = head ++ buffer.headers; text = buffer.text })
+    → message
+    (record { limit = buffer.limit; headers = head ++ buffer.headers; text = buffer.text })
     ≡ option_map (λ octets. head ++ octets) (message buffer)
 unfolding message
 message-front buffer head = front_of head buffer.headers buffer.text
@@ -355,7 +360,11 @@ pub head-long : (old middle new : EncoderBuffer) (tag : Tag) (octet k : ℕ) (by
     → bytes ≡ bytes_high_first k count
     → middle ≡ record { limit = old.limit; headers = bytes ++ old.headers; text = old.text }
     → new
-    ≡ record { limit = middle.limit; headers = octet ∷ (128 + k) ∷ middle.headers; text = middle.text }
+    ≡ record {
+      limit = middle.limit;
+      headers = octet ∷ (128 + k) ∷ middle.headers;
+      text = middle.text;
+    }
     → new ≡ record {
       limit = old.limit;
       headers = octet_of tag ∷ (length_octets count ++ old.headers);

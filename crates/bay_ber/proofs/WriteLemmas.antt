@@ -71,7 +71,8 @@ element-spells tag content low short = record {
 }
 
 pub element-begins : (tag : Tag) (content rest : List ℕ) → tag.number < 31 → length content < 2 ^ 32
-    → BeginsWithTlv (element tag content ++ rest) (record { tag = tag; content = content; rest = rest })
+    → BeginsWithTlv (element tag content ++ rest)
+    (record { tag = tag; content = content; rest = rest })
 element-begins tag content rest low short = record {
   front = element tag content;
   spelled = element-spells tag content low short;

@@ -12,7 +12,8 @@ seen w = encoder_buffer_of w.limit w.first w.over w.octets.items
 
 -- ---- appending
 
-pub over-put : (w : Inside) (buffer : EncoderBuffer) (more : List ℕ) → seen w ≡ buffer → w.over ≡ true
+pub over-put : (w : Inside) (buffer : EncoderBuffer) (more : List ℕ) → seen w ≡ buffer
+    → w.over ≡ true
     → buffer ≡ buffer_with buffer more
 unfolding buffer_with
 over-put w buffer more is over = rw (← is, over) refl
@@ -50,7 +51,8 @@ fits-put w buffer more new is clear front fit room added =
 
 -- a writer cut to the room of its heads holds no text
 pub cleared : (w : Inside) (buffer : EncoderBuffer) (new : List ℕ) → seen w ≡ buffer
-    → new ≡ take 64 w.octets.items → encoder_buffer_of w.limit 64 false new ≡ empty_buffer buffer.limit
+    → new ≡ take 64 w.octets.items
+    → encoder_buffer_of w.limit 64 false new ≡ empty_buffer buffer.limit
 cleared w buffer new is cut =
     let n = ap length cut ∙ length-take 64 w.octets.items in
     let m = length-take 64 new in
@@ -76,7 +78,8 @@ is_open w buffer start is clear open_here =
     let two = rw text at open_here in
     omega (arith, two, length-drop 64 w.octets.items)
 
-pub over-closed : (w : Inside) (buffer : EncoderBuffer) (start : ℕ) → seen w ≡ buffer → w.over ≡ true
+pub over-closed : (w : Inside) (buffer : EncoderBuffer) (start : ℕ) → seen w ≡ buffer
+    → w.over ≡ true
     → buffer ≡ close_value buffer start
 unfolding close_value
 over-closed w buffer start is over = rw (← is, over) refl

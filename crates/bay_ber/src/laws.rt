@@ -11,9 +11,11 @@ ghost use Rattle.bay_ber.specs.declared.tag.Tag.{Tag};
 
 /// At most one prefix of some octets encodes a value, and it encodes only one.
 pub fn one_spelling()
-    ensures reading { (octets : List ℕ) (r s : TlvData) → BeginsWithTlv octets r → BeginsWithTlv octets s
+    ensures reading { (octets : List ℕ) (r s : TlvData) → BeginsWithTlv octets r
+        → BeginsWithTlv octets s
         → r ≡ s }
-    ensures prefix { (octets : List ℕ) (r s : TlvData) (a : BeginsWithTlv octets r) (b : BeginsWithTlv octets s)
+    ensures prefix { (octets : List ℕ) (r s : TlvData) (a : BeginsWithTlv octets r)
+        (b : BeginsWithTlv octets s)
         → a.front ≡ b.front }
 {}
 

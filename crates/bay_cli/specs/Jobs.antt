@@ -180,7 +180,8 @@ abbrev pub serve_task : Text → ProgramFile Text → ℕ → ℕ → Option Tex
     → Option Text → Option Text → Option ℕ → Option ℕ → Option Text → Option Text → Bool
     → Option (Task Text)
 serve_task bay program port turns trace process limit key file most idle rules diagram sends =
-    if ports_differ port process && is_supervisable process trace limit key && is_recordable file most
+    if ports_differ port process && is_supervisable process trace limit key
+    && is_recordable file most
     then Some (Serve bay program port turns trace process sends limit key file most idle rules
     diagram)
     else None

@@ -100,7 +100,8 @@ judged-append (Some fault ∷ checks) rest v = refl
 
 -- what is judged of a list as a whole
 abbrev whole : ℕ → ℕ → Items → Result (Unit {0}) BayFault
-whole least most items = unless_refused {B = Unit {0}} (first_fault (list_checks least most items)) tt
+whole least most items =
+    unless_refused {B = Unit {0}} (first_fault (list_checks least most items)) tt
 
 pub too-few : (least most : ℕ) (items : Items) → count_of items < least
     → Err MissingKey ≡ whole least most items

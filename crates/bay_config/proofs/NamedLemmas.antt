@@ -55,7 +55,8 @@ numbered-step : (b : Bool) (t : Switch) (ss : List Switch) (index : ℕ) (s : Sw
 numbered-step b t ss index s n true e rest =
     let more : n + 1 + length (filter (is_in_group b) (take index ss))
     ≡ n + suc (length (filter (is_in_group b) (take index ss))) = omega arith in
-    rw e (subst (λ m. Contains ((n, t) ∷ enumerate_from (n + 1) (filter (is_in_group b) ss)) (m, s)) more
+    rw e (subst (λ m. Contains ((n, t) ∷ enumerate_from (n + 1) (filter (is_in_group b) ss)) (m, s))
+    more
     (Contains-cons (n, t) (enumerate_from (n + 1) (filter (is_in_group b) ss))
     (n + 1 + length (filter (is_in_group b) (take index ss)), s) (rest (n + 1))))
 numbered-step b t ss index s n false e rest =
@@ -166,7 +167,8 @@ meters-within n ss ms node h =
 
 position-among : (b : Bool) (n : Nameplate) (ss : List Switch) (ms : List (List ℕ)) (index : ℕ)
     (s : Switch) → slice_get ss index ≡ Some s → is_breaker s.kind ≡ b
-    → Contains (nodes_of n ss ms) (position_node (length (filter (is_in_group b) (take index ss)) + 1, s))
+    → Contains (nodes_of n ss ms)
+    (position_node (length (filter (is_in_group b) (take index ss)) + 1, s))
 position-among true n ss ms index s here e =
     breakers-within n ss ms _ (among-class true ss index s here e)
 position-among false n ss ms index s here e =

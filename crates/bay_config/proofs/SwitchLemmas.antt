@@ -91,7 +91,8 @@ by-keys t =
     (unwrap_or (kind_of t) Breaker) (switch_in t) _
     (judged-step (key_refusal t control_key) last (unwrap_or (control_of t) Status) (switch_in t) _
     (judged-keys t times options (times_in t) (switch_in t) _
-    (judged-last (first_fault (map (key_refusal t) options)) (options_in t) (switch_in t) _ refl)))))
+    (judged-last (first_fault (map (key_refusal t) options)) (options_in t) (switch_in t) _
+    refl)))))
 
 pub by_keys : (t : Members) (c : Option Control) (k : Option SwitchKind) → control_of t ≡ c
     → kind_of t ≡ k

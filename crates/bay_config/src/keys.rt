@@ -102,7 +102,12 @@ fn is_description(text: &str) -> bool
 /// Reads the identifier at a key, of at most `most` characters. `MissingKey` if the table does not
 /// have the key, `BadValue` if its value is not such an identifier, `OutOfMemory` if an allocation
 /// fails.
-pub fn read_identifier(alloc: Global, table: &Table, key: &str, most: usize) -> Result<Text, BayFault>
+pub fn read_identifier(
+    alloc: Global,
+    table: &Table,
+    key: &str,
+    most: usize,
+) -> Result<Text, BayFault>
     ensures { let file = table_view table.now in
         ExactOr OutOfMemory (λ x. x) result
         (unless_refused (key_refusal file (record { name = key.now; form = identifier most }))

@@ -7,7 +7,7 @@ ghost use Rattle.bay_config.specs.Key.{entry_refusal};
 ghost use Rattle.bay_config.specs.Section.{section_refusal};
 
 use crate::fault::BayFault;
-use crate::keys::{check_keys, read_description, find, read_identifier, read_u32};
+use crate::keys::{check_keys, find, read_description, read_identifier, read_u32};
 use bay_nodes::nameplate::Nameplate;
 use std::alloc::Global;
 use toml::Table;

@@ -100,7 +100,11 @@ fn read_names(
 
 // Reads the names in a list. Refuses a list with too many values, or with a value that is not a
 // table.
-fn read_name_list(alloc: Global, values: &[Value], which: NameSection) -> Result<Listing<Text>, BayFault>
+fn read_name_list(
+    alloc: Global,
+    values: &[Value],
+    which: NameSection,
+) -> Result<Listing<Text>, BayFault>
     ensures { let items = items_view values.now in
         ExactOr OutOfMemory (λ x. x) result
         (unless_refused (items_refusal 0 (max_names which) (λ _. name_keys which) items)
@@ -113,7 +117,11 @@ fn read_name_list(alloc: Global, values: &[Value], which: NameSection) -> Result
 /// Reads the names in a section; none if the section is missing. `BadValue` if the section is not a
 /// list; otherwise its first fault, or `OutOfMemory` if an allocation fails. Does not allocate for
 /// a value that is not a list.
-pub fn read_name_section(alloc: Global, file: &Table, which: NameSection) -> Result<Listing<Text>, BayFault>
+pub fn read_name_section(
+    alloc: Global,
+    file: &Table,
+    which: NameSection,
+) -> Result<Listing<Text>, BayFault>
     ensures names { let f = table_view file.now in
         ExactOr OutOfMemory (λ x. x) result
         (unless_refused (section_refusal f (name_section which)) (names_in f which)) }

@@ -150,7 +150,8 @@ fn switch_key_names(control: Option<Control>, kind: Option<SwitchKind>) -> &'sta
 // Reads the time that a selection lasts and the time that the switch may travel, in milliseconds.
 fn read_both_times(table: &Table) -> Result<(u32, u32), BayFault>
     ensures { let t = table_view table.now in
-        result ≡ unless_refused (first_fault (map (key_refusal t) (sbo_timeout_key ∷ travel_key ∷ [])))
+        result ≡ unless_refused
+        (first_fault (map (key_refusal t) (sbo_timeout_key ∷ travel_key ∷ [])))
         (number_in t (codes "sbo_timeout_ms"), number_in t (codes "travel_ms")) }
 {
     let sbo_timeout_ms = read_u32(table, "sbo_timeout_ms", 1, 600_000)?;

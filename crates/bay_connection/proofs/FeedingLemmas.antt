@@ -214,7 +214,8 @@ pub fed-got : (t : ConnectionState) (r : TransportData) (got : Got) (piece : Lis
     (heard : Option Indication) (new : ConnectionState) → IsJoined t
     → feeding.Feeds t.stream piece used (doing_of_result got r)
     → r.stream ≡ after t.stream (take used piece)
-    → IndicatesIfSome (record { stream = r.stream; phase = t.phase }) (doing_of_result got r) heard new
+    → IndicatesIfSome (record { stream = r.stream; phase = t.phase }) (doing_of_result got r) heard
+    new
     → FedSo t piece used heard new
 fed-got t r got.More piece used heard new joined fed is so =
     fed-none t.stream.number t.stream.left t.phase piece used heard new r.stream joined fed is so.0

@@ -164,7 +164,8 @@ after-controls (Contact k position) now s = refl
 after-controls Advance now s = refl
 
 -- no call changes the settings of the controls
-pub all-controls : (hs : List TimedCall) (s : State) → (state_after_calls hs s).controls ≡ s.controls
+pub all-controls : (hs : List TimedCall) (s : State)
+    → (state_after_calls hs s).controls ≡ s.controls
 all-controls [] s = refl
 all-controls (h ∷ hs) s =
     all-controls hs (outcome_of h.call h.now s).after ∙ after-controls h.call h.now s

@@ -11,14 +11,16 @@ after-joined [] next s = refl
 after-joined (h ∷ hs) next s = after-joined hs next (outcome_of h.call h.now s).after
 
 pub history-joined : (first next : List TimedCall) (s : State)
-    → entries_of_calls (first ++ next) s ≡ entries_of_calls first s ++ entries_of_calls next (state_after_calls first s)
+    → entries_of_calls (first ++ next) s
+    ≡ entries_of_calls first s ++ entries_of_calls next (state_after_calls first s)
 history-joined [] next s = refl
 entries_of_calls-joined (h ∷ hs) next s =
     let here : List Entry =
     entries_of h.now (act_of h.call) (is_ok (outcome_of h.call h.now s).answer) in
     let t : State = (outcome_of h.call h.now s).after in
     ap (λ (es : List Entry). here ++ es) (history-joined hs next t)
-    ∙ sym (append_assoc here (entries_of_calls hs t) (entries_of_calls next (state_after_calls hs t)))
+    ∙ sym (append_assoc here (entries_of_calls hs t)
+    (entries_of_calls next (state_after_calls hs t)))
 
 pub orderly-joined : (is_open : ℕ → Bool) (first next : List TimedCall) → AreOrderly is_open first
     → AreOrderly (is_open_after_all is_open first) next
@@ -42,7 +44,8 @@ none-leads is_open s =
 pub one-leads : (call : Call) (now : ℕ) (open_before open_after : ℕ → Bool) (s : State)
     → is_orderly_call open_before call ≡ true
     → ((a : ℕ) → open_after a ≡ is_open_after open_before call a)
-    → LeadsControls (entries_of now (act_of call) (is_ok (outcome_of call now s).answer)) open_before s
+    → LeadsControls (entries_of now (act_of call) (is_ok (outcome_of call now s).answer))
+    open_before s
     open_after (outcome_of call now s).after
 one-leads call now open_before open_after s orderly opens = record {
   timed_calls = record { now = now; call = call } ∷ [];

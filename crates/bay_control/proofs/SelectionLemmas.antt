@@ -49,7 +49,8 @@ kept past s e undone granted t = record {
   since = t.since;
   choice = t.choice;
   not_undone =
-      All-push (λ (x : Entry). undoes s.association s.switch x ≡ false) t.between e t.not_undone undone;
+      All-push (λ (x : Entry). undoes s.association s.switch x ≡ false) t.between e t.not_undone
+      undone;
   last = All-push (λ (x : Entry). grants s.association s.switch x ≡ false) t.between e t.last
       granted;
 }

@@ -219,7 +219,8 @@ select_outcome a k now s = let t =
 -- the decision on a select with value at a time
 abbrev pub select_with_outcome : ℕ → ℕ → Ask → ℕ → State → Outcome
 select_with_outcome a k ask now s = let t = controls_at now s in
-    select_effect a k now (Some (requested_choice ask)) (answer_of (rows_of_select_with a k ask t)) t
+    select_effect a k now (Some (requested_choice ask)) (answer_of (rows_of_select_with a k ask t))
+    t
 
 -- an operate by the association that selected the switch ends the selection, accepted or not; an
 -- accepted one starts the execution

@@ -147,7 +147,8 @@ impl Controls {
         switch: usize,
     ) -> Result<(), AddCause>
         ensures { result
-            ≡ answer_of (shared_select_rows is_supported association switch (state_of [] self.now) []) }
+            ≡ answer_of (shared_select_rows is_supported association switch
+            (state_of [] self.now) []) }
     {
         if !is_supported {
             return Err(AddCause::NotSupported);

@@ -19,7 +19,8 @@ pub fn calls_lead()
     ensures one { (call : Call) (now : ℕ) (open_before open_after : ℕ → Bool) (s : State)
         → is_orderly_call open_before call ≡ true →
         ((a : ℕ) → open_after a ≡ is_open_after open_before call a) →
-        LeadsControls (entries_of now (act_of call) (is_ok (outcome_of call now s).answer)) open_before s
+        LeadsControls (entries_of now (act_of call) (is_ok (outcome_of call now s).answer))
+        open_before s
         open_after (outcome_of call now s).after }
     ensures joined { (first next : List Entry) (open_before open_between open_after : ℕ → Bool)
         (before between after : State) →

@@ -70,7 +70,8 @@ refused bay logic e is right =
     let text : program_of logic ≡ Ok program = (program_is_read logic (Ok program)).0 right.text in
     let checked = (right_programs_pass b.points program).1 right.right in
     let names = names_of program.declarations in
-    let whole : load_of_bay (bay_of bay) (program_of logic) ≡ load_of_compiled b names (compiled_of checked.0)
+    let whole : load_of_bay (bay_of bay) (program_of logic)
+    ≡ load_of_compiled b names (compiled_of checked.0)
     = ap (λ (r : Result Bay BayFault). load_of_bay r (program_of logic)) right.file
     ∙ ap (load_of_program b) text ∙ ap (load_of_checked b names) checked.1 in
     compiled-if b names (nat_le (image_size checked.0) 65_535) (image_of checked.0) e
@@ -92,7 +93,8 @@ refused-by bay logic e (inl memory) other right = absurd (other memory)
 refused-by bay logic e (inr is) other right = refused bay logic e is right
 
 pub refused-err : (bay logic : List ℕ) (r : Result State LoadFault)
-    → ExactOr OutOfMemory (λ device. device) r (device_from (load_of_bay (bay_of bay) (program_of logic)))
+    → ExactOr OutOfMemory (λ device. device) r
+    (device_from (load_of_bay (bay_of bay) (program_of logic)))
     → IfErr r (λ e. e ≢ OutOfMemory → IsRight bay logic → e ≡ Refused 85 0)
 refused-err bay logic (Ok device) gives = tt
 refused-err bay logic (Err e) gives = λ other right. refused-by bay logic e gives other right

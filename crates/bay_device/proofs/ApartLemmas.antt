@@ -218,7 +218,8 @@ module _ (count : ℕ) where
       → Shows (with_output (switch_names_in layout own) opens closes now rows)
   shows-output layout k own opens closes now rows named shows =
       subst (λ (o : StatusNames). Shows
-      (with_enabled (status_names_in layout own.ena_cls) closes now (with_enabled o opens now rows)))
+      (with_enabled (status_names_in layout own.ena_cls) closes now
+      (with_enabled o opens now rows)))
       (sym named.opening)
       (subst (λ (o : StatusNames). Shows
       (with_enabled o closes now (with_enabled (opening_names_at k) opens now rows)))

@@ -140,7 +140,8 @@ makes-sent now a octets s d makes =
       sole = makes.sole;
     }
 
-makes-one : (now a : ℕ) (i : Indication) (s : State) (d : StepState) (later : StepState → ReceiveResult)
+makes-one : (now a : ℕ) (i : Indication) (s : State) (d : StepState)
+    (later : StepState → ReceiveResult)
     → Makes now s d → ((e : StepState) → Makes now s e → Makes now s (later e).done)
     → Makes now s (on_indication now a i d later).done
 makes-one now a (answers octets) s d later makes rest = rest _ (makes-sent now a octets s d makes)
@@ -258,7 +259,8 @@ none-single = omega arith
 
 octets-single : (choice : Option ℕ) (now a : ℕ) (s : State) (talk : ConnectionState)
     (octets : List ℕ)
-    → HaveTravelTime s.controls.controls → IsSingle (octets_outcome choice now a s talk octets).answer
+    → HaveTravelTime s.controls.controls
+    → IsSingle (octets_outcome choice now a s talk octets).answer
 octets-single choice now a s talk [] timed = none-single
 octets-single choice now a s talk (octet ∷ octets) timed =
     let made =

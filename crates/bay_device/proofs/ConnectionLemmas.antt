@@ -28,7 +28,8 @@ sized [] place t = refl
 sized (x ∷ ts) zero t = refl
 sized (x ∷ ts) (suc place) t = ap (λ n. suc n) (sized ts place t)
 
-going : (ts : List (Option ConnectionState)) (place : ℕ) (t : Option ConnectionState) → AllAcceptOctets ts
+going : (ts : List (Option ConnectionState)) (place : ℕ) (t : Option ConnectionState)
+    → AllAcceptOctets ts
     → IfSome t (λ u. AcceptsOctets u.stream.left) → AllAcceptOctets (slice_set ts place t)
 going [] place t all own k u here = absurd (cc)
 going (x ∷ ts) zero t all own zero u here = let is : t ≡ Some u = cc in rw is at own
@@ -53,7 +54,8 @@ are-eight clients place (Some x) all own =
       going = going (connection_states clients) place (Some x.state) all.going own;
     })
 
-taken-going : (ts : List (Option ConnectionState)) (place : ℕ) (u : ConnectionState) → AllAcceptOctets ts
+taken-going : (ts : List (Option ConnectionState)) (place : ℕ) (u : ConnectionState)
+    → AllAcceptOctets ts
     → unwrap_or (slice_get ts place) None ≡ Some u → slice_get ts place ≡ Some (Some u)
 taken-going [] place u all e = absurd (cc)
 taken-going (x ∷ ts) zero u all e = ap (λ o. Some o) e

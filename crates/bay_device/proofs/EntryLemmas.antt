@@ -235,7 +235,8 @@ module _ (now a : ℕ) (is_open : ℕ → Bool) (opened : is_open a ≡ true) wh
   on-heard-leads (answers octets) d entries later rest = rest _
   on-heard-leads (delivers terms pdu) d entries later rest =
       let e : StepState = after_pdu now a terms pdu d in
-      two-lead (entries_on_pdu (client_at now a terms d.state) pdu (bay_of d.state)) (entries e) is_open
+      two-lead (entries_on_pdu (client_at now a terms d.state) pdu (bay_of d.state)) (entries e)
+      is_open
       is_open is_open
       d.state.controls e.state.controls (later e).done.state.controls
       (request-leads (client_at now a terms d.state) pdu (bay_of d.state) is_open opened) (rest e)
@@ -254,10 +255,12 @@ module _ (now a : ℕ) (is_open : ℕ → Bool) (opened : is_open a ≡ true) wh
   heard-leads (Some zero) (i ∷ is) d = none-leads is_open d.state.controls
   heard-leads (Some (suc n)) [] d = none-leads is_open d.state.controls
   heard-leads (Some (suc n)) (i ∷ is) d =
-      on-heard-leads i d (entries_on_indications (Some n) now a is) (after_indications (Some n) now a is)
+      on-heard-leads i d (entries_on_indications (Some n) now a is)
+      (after_indications (Some n) now a is)
       (λ e. heard-leads (Some n) is e)
 
-on-heard-connected : (now a : ℕ) (i : Indication) (d : StepState) (later : StepState → ReceiveResult)
+on-heard-connected : (now a : ℕ) (i : Indication) (d : StepState)
+    (later : StepState → ReceiveResult)
     → ((e : StepState) → (later e).done.state.connections ≡ e.state.connections)
     → (on_indication now a i d later).done.state.connections ≡ d.state.connections
 on-heard-connected now a (answers octets) d later rest = rest _
@@ -281,11 +284,13 @@ heard-connected (Some (suc n)) now a (i ∷ is) d =
 
 led-heard : (choice : Option ℕ) (now a : ℕ) (is : List Indication) (d : StepState)
     → opens d.state a ≡ true
-    → Led (entries_on_indications choice now a is d) d.state (after_indications choice now a is d).done.state
+    → Led (entries_on_indications choice now a is d) d.state
+    (after_indications choice now a is d).done.state
 led-heard choice now a is d opened =
     let h : ReceiveResult = after_indications choice now a is d in
     let same : h.done.state.connections ≡ d.state.connections = heard-connected choice now a is d in
-    let leads : LeadsControls (entries_on_indications choice now a is d) (opens d.state) d.state.controls
+    let leads : LeadsControls (entries_on_indications choice now a is d) (opens d.state)
+    d.state.controls
     (opens d.state) h.done.state.controls =
     heard-leads now a (opens d.state) opened choice is d in
     record {
@@ -320,7 +325,8 @@ led-octets choice now a s talk (octet ∷ octets) sized is =
     let opened : opens t a ≡ true =
     opens-same s t a refl ∙ ap (λ (o : Option ConnectionState). is_some o) is in
     let first : Led [] s t = led-advanced now s in
-    let heard-so : Led (entries_on_indications choice now a is-heard (step_start t)) t h.done.state =
+    let heard-so : Led (entries_on_indications choice now a is-heard (step_start t)) t
+    h.done.state =
     led-heard choice now a is-heard (step_start t) opened in
     let connected : h.done.state.connections ≡ t.connections =
     heard-connected choice now a is-heard (step_start t) in
@@ -328,9 +334,11 @@ led-octets choice now a s talk (octet ∷ octets) sized is =
     (recv_after a left h.done.state h.why) =
     led-after now a place.0 left h.done.state h.why (heard-so.sized ∙ sized) place.1
     (opens-same t h.done.state a connected ∙ opened) in
-    behind [] (entries_on_indications choice now a is-heard (step_start t) ++ entries_on_closing now a h.why) s
+    behind [] (entries_on_indications choice now a is-heard (step_start t)
+    ++ entries_on_closing now a h.why) s
     t (recv_after a left h.done.state h.why) first
-    (behind (entries_on_indications choice now a is-heard (step_start t)) (entries_on_closing now a h.why) t
+    (behind (entries_on_indications choice now a is-heard (step_start t))
+    (entries_on_closing now a h.why) t
     h.done.state (recv_after a left h.done.state h.why) heard-so last)
 
 led-recv : (choice : Option ℕ) (now a : ℕ) (octets : List ℕ) (s : State)
@@ -431,7 +439,8 @@ module _ (now : ℕ) (s : State) (sized : length s.connections ≡ 8) where
 
 -- an event, from whatever was before
 pub leading : (now : ℕ) (event : Event) (old : State) (answer : Result Step StepFault) (new : State)
-    → length old.connections ≡ 8 → Steps now event old answer new → LeadsByChoice now event old answer new
+    → length old.connections ≡ 8 → Steps now event old answer new
+    → LeadsByChoice now event old answer new
 leading now event old answer new sized steps =
     let after : State = (outcome steps.choice now event old).after in
     let led : Led (entries_at steps.choice now event old) old after =
@@ -439,7 +448,8 @@ leading now event old answer new sized steps =
     record {
       steps = steps;
       leads = λ past open_before before so_far.
-          subst (λ (t : State). LeadsControls (past ++ entries_at steps.choice now event old) open_before
+          subst (λ (t : State). LeadsControls (past ++ entries_at steps.choice now event old)
+          open_before
           before (opens t) t.controls) (sym steps.left)
           (two-lead past (entries_at steps.choice now event old) open_before (opens old)
           (opens after) before old.controls after.controls so_far led.leads);

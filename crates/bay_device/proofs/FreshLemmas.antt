@@ -420,7 +420,8 @@ fresh-if now past s (Err fault) tracks commanded = tt
 -- ---- since load
 
 -- an event that was done so
-done-past : (p : PastEvent) (past : List PastEvent) (o : Outcome) → p.answer ≡ o.answer → p.after ≡ o.after
+done-past : (p : PastEvent) (past : List PastEvent) (o : Outcome) → p.answer ≡ o.answer
+    → p.after ≡ o.after
     → Tracks (record { now = p.now; event = p.event; answer = o.answer; after = o.after } ∷ past)
     o.after
     → Tracks (p ∷ past) p.after

@@ -100,7 +100,8 @@ pub loaded-runs : (bay logic : List ℕ) (s : State)
     (loaded : IsLoaded (parsed_bay bay) (IsCompiled (parsed_program logic)) s)
     → Runs loaded.made.checked s
 loaded-runs bay logic s loaded =
-    text-runs (parsed_bay bay) (parsed_program logic) s loaded (file-sound bay loaded.bay loaded.read)
+    text-runs (parsed_bay bay) (parsed_program logic) s loaded
+    (file-sound bay loaded.bay loaded.read)
 
 -- ---- from texts
 

@@ -313,7 +313,8 @@ module _ (c : Checked) (s : State) (r : Runs c s) (now : ℕ) where
   left-scan choice =
       let m = means-scan c (device_at now s) runs-advanced now in
       left-if (nat_lt last_moment now) (refusal_outcome MomentTooLarge s) _ tt
-      (left-if (nat_lt now s.moment) (refusal_outcome TimeWentBack s) (event_outcome choice now Scan s)
+      (left-if (nat_lt now s.moment) (refusal_outcome TimeWentBack s)
+      (event_outcome choice now Scan s)
       tt
       (record { after = m.after; is = m.is; keeps = m.keeps; rows = m.rows }))
 

@@ -51,9 +51,11 @@ answered-done a terms x s sent made commands obeyed before decisions b pending a
     obeyed decisions)
     is
     ∙ ap (λ (y : List Sent). done
-    (record (with_bay x.after s) { pending = later_pending s.pending (pending_if a terms x.termination) }) y obeyed
+    (record (with_bay x.after s)
+    { pending = later_pending s.pending (pending_if a terms x.termination) }) y obeyed
     decisions) sends
-    ∙ ap₂ (done (record (with_bay x.after s) { pending = later_pending s.pending (pending_if a terms x.termination) })
+    ∙ ap₂ (done (record (with_bay x.after s)
+    { pending = later_pending s.pending (pending_if a terms x.termination) })
     (sent ++ map (λ pdu. sent_on a (octets_to_send terms pdu)) x.sent)) does decides
 
 pub all-ok : {T E : Type 0} (r : Result T E) (P R : T → Type 0) (S U V : Type 0) → IfOk r P

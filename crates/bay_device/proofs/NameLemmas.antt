@@ -58,7 +58,8 @@ counted-names names (Some (leaf.Int32 n)) now rows =
     names-if (int_lt n (pos 2147483647)) (names_of rows)
     (with_leaf_named names.time (leaf.Utc now)
     (with_leaf_named names.value (leaf.Int32 (n +ℤ pos 1)) rows)) rows
-    (leaf-names names.time (leaf.Utc now) (with_leaf_named names.value (leaf.Int32 (n +ℤ pos 1)) rows)
+    (leaf-names names.time (leaf.Utc now)
+    (with_leaf_named names.value (leaf.Int32 (n +ℤ pos 1)) rows)
     ∙ leaf-names names.value (leaf.Int32 (n +ℤ pos 1)) rows) refl
 counted-names names (Some (leaf.Unsigned8 v)) now rows = refl
 counted-names names (Some (leaf.Unsigned32 v)) now rows = refl

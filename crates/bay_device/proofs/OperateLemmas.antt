@@ -70,7 +70,8 @@ heard-adds (Some zero) now a [] d = sym (append-nil d.commands)
 heard-adds (Some zero) now a (i ∷ is) d = sym (append-nil d.commands)
 heard-adds (Some (suc n)) now a [] d = sym (append-nil d.commands)
 heard-adds (Some (suc n)) now a (i ∷ is) d =
-    on-adds now a i d (after_indications (Some n) now a is) (entries_on_indications (Some n) now a is)
+    on-adds now a i d (after_indications (Some n) now a is)
+    (entries_on_indications (Some n) now a is)
     (heard-adds (Some n) now a is)
 
 -- ---- an event
@@ -267,7 +268,8 @@ replied-recv : (now a : ℕ) (n : Bay) (octets : List ℕ) (talk : Option Connec
     → AreReplied now a n octets talk step
 replied-recv now a n octets None step is = is ∙ told-closed-none now [] step.closed
 replied-recv now a n octets (Some talk) step is = λ x found.
-    let told : List Entry = observed_in_pdus now a n (indications talk octets) (pdus_in step.sent) in
+    let told : List Entry =
+    observed_in_pdus now a n (indications talk octets) (pdus_in step.sent) in
     replied-heard now a n (indications talk octets) (pdus_in step.sent) x
     (subst (λ (cs : List Command). Contains cs x)
     (is ∙ told-closed-none now told step.closed) found)

@@ -127,7 +127,8 @@ module _ (now : ℕ) (s : State) where
   fixed-event choice Scan = refl
 
   fixed-if : (late early : Bool) (o : Outcome) → Fixed o
-      → Fixed (cond late (refusal_outcome MomentTooLarge s) (cond early (refusal_outcome TimeWentBack s) o))
+      → Fixed (cond late (refusal_outcome MomentTooLarge s)
+      (cond early (refusal_outcome TimeWentBack s) o))
   fixed-if true early o is = refl
   fixed-if false true o is = refl
   fixed-if false false o is = is
@@ -199,7 +200,8 @@ module _ (now : ℕ) (s : State) where
 
     told-if : (late early : Bool) (event : Event) (o : Outcome) → Told event o
         → Told event
-        (cond late (refusal_outcome MomentTooLarge s) (cond early (refusal_outcome TimeWentBack s) o))
+        (cond late (refusal_outcome MomentTooLarge s)
+        (cond early (refusal_outcome TimeWentBack s) o))
     told-if true early event o told = tracks
     told-if false true event o told = tracks
     told-if false false event o told = told
@@ -288,7 +290,8 @@ remote-by s past follows command local input is =
     sym (follows.values input) ∙ not-false (value_at s.input_values input) off
 
 -- also on a device that has changed only for its clients since
-pub remote-since : (old s : State) (past : List PastEvent) (now : ℕ) (command : Command) → Same old s
+pub remote-since : (old s : State) (past : List PastEvent) (now : ℕ) (command : Command)
+    → Same old s
     → Follows past old → IsReleasedAt now s command → IsAtRemote old past command
 remote-since old s past now command same follows released =
     remote-by old past follows command

@@ -97,7 +97,8 @@ pub tells : (Did : ℕ → Event → State → Result Step StepFault → State �
     → length old.connections ≡ 8 → AreNamedAlike n (bay_of old) → HaveAgreedSize old.connections
     → EachStep Did es old answers new → Tells n es old answers new
 tells Did n [] old [] new eight alike sized each = record {
-  leads = subst (λ (s : State). LeadsControls [] (opens old) old.controls (opens s) s.controls) (sym each)
+  leads = subst (λ (s : State). LeadsControls [] (opens old) old.controls (opens s) s.controls)
+      (sym each)
       (none-leads (opens old) old.controls);
   operates = tt;
 }
@@ -111,7 +112,8 @@ tells Did n (e ∷ es) old (answer ∷ answers) new eight alike sized each =
     (eight-places e.0 e.1 old answer next eight each.1) t.alike t.sized each.3 in
     record {
       leads = two-lead (observed_in_answer e.0 e.1 n old.connections answer)
-          (observed_in_run n (states_after_answer e.1 old.connections answer) es answers) (opens old)
+          (observed_in_run n (states_after_answer e.1 old.connections answer) es answers)
+          (opens old)
           (opens next) (opens new) old.controls next.controls new.controls
           (t.leads [] (opens old) old.controls (none-leads (opens old) old.controls))
           (subst (λ (talks : List (Option ConnectionState)). LeadsControls

@@ -81,7 +81,8 @@ same-said now a terms pdu d =
     record (parts_of d.state) { inputs = inputs; settings = settings }) (inputs-stay c pdu b)
     (settings-stay c pdu b)
 
-same-one : (now a : ℕ) (i : Indication) (s : State) (d : StepState) (later : StepState → ReceiveResult)
+same-one : (now a : ℕ) (i : Indication) (s : State) (d : StepState)
+    (later : StepState → ReceiveResult)
     → Same s d.state → ((e : StepState) → Same s e.state → Same s (later e).done.state)
     → Same s (on_indication now a i d later).done.state
 same-one now a (answers octets) s d later same rest = rest (with_sent a octets d) same
@@ -91,7 +92,8 @@ same-one now a (releases octets) s d later same rest = same
 same-one now a ends s d later same rest = same
 same-one now a (fails code) s d later same rest = same
 
-same-indications : (choice : Option ℕ) (now a : ℕ) (is : List Indication) (s : State) (d : StepState)
+same-indications : (choice : Option ℕ) (now a : ℕ) (is : List Indication) (s : State)
+    (d : StepState)
     → Same s d.state → Same s (after_indications choice now a is d).done.state
 same-indications None now a [] s d same = same
 same-indications None now a (i ∷ is) s d same =
@@ -153,7 +155,8 @@ module _ (now : ℕ) (s : State) where
 
   -- where a moment may refuse the event
   if-refused : (P : State → Type 0) (late early : Bool) (o : Outcome) → P s → P o.after
-      → P (cond late (refusal_outcome MomentTooLarge s) (cond early (refusal_outcome TimeWentBack s) o)).after
+      → P (cond late (refusal_outcome MomentTooLarge s)
+      (cond early (refusal_outcome TimeWentBack s) o)).after
   if-refused P true early o here there = here
   if-refused P false true o here there = here
   if-refused P false false o here there = there

@@ -56,14 +56,16 @@ size-is None = record { least = omega arith; most = omega arith }
 size-is (Some (pos n)) = size-if (nat_lt n 256) n refl
 size-is (Some (negsuc n)) = tt
 
-agreed-by : (size : Option ℕ) (f : ℕ → AgreedLimits) → ((n : ℕ) → (f n).size ≡ n) → SomeIs IsPduSize size
+agreed-by : (size : Option ℕ) (f : ℕ → AgreedLimits) → ((n : ℕ) → (f n).size ≡ n)
+    → SomeIs IsPduSize size
     → OkIs (λ (x : AgreedLimits). IsPduSize x.size)
     (or_fault fault.PduSizeTooSmall (size >>= λ n. Some (f n)))
 agreed-by (Some n) f same is = record { least = rw (same n) is.least; most = rw (same n) is.most }
 agreed-by None f same is = tt
 
 agreed-sized : (p : Proposal)
-    → OkIs (λ (x : AgreedLimits). IsPduSize x.size) (or_fault fault.PduSizeTooSmall (agreed_limits p))
+    → OkIs (λ (x : AgreedLimits). IsPduSize x.size)
+    (or_fault fault.PduSizeTooSmall (agreed_limits p))
 agreed-sized p = agreed-by (agreed_size p.size) _ (λ n. refl) (size-is p.size)
 
 agreement-sized : (contexts : List Context) (user : ValueInContext)

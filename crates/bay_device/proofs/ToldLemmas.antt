@@ -118,8 +118,10 @@ record Walks (now a : ℕ) (n : Bay) (is : List Indication) (h : ReceiveResult) 
 on-walks : (now a : ℕ) (n : Bay) (i : Indication) (is : List Indication) (d : StepState)
     (later : StepState → ReceiveResult) (entries : StepState → List Entry) → CanAnswer i
     → AreNamedAlike n (bay_of d.state)
-    → ((e : StepState) → AreNamedAlike n (bay_of e.state) → Walks now a n is (later e) e (entries e))
-    → Walks now a n (i ∷ is) (on_indication now a i d later) d (entries_on_indication now a i d entries)
+    → ((e : StepState) → AreNamedAlike n (bay_of e.state)
+    → Walks now a n is (later e) e (entries e))
+    → Walks now a n (i ∷ is) (on_indication now a i d later) d
+    (entries_on_indication now a i d entries)
 on-walks now a n (answers octets) is d later entries can alike rest =
     let e : StepState = with_sent a octets d in
     let w : Walks now a n is (later e) e (entries e) = rest e alike in
@@ -161,11 +163,13 @@ on-walks now a n (fails code) is d later entries can alike rest =
 
 walks : (choice : Option ℕ) (now a : ℕ) (n : Bay) (is : List Indication) (d : StepState)
     → CanAnswerAll is → AreNamedAlike n (bay_of d.state)
-    → Walks now a n is (after_indications choice now a is d) d (entries_on_indications choice now a is d)
+    → Walks now a n is (after_indications choice now a is d) d
+    (entries_on_indications choice now a is d)
 walks None now a n [] d can alike =
     record { more = []; sent = sym (append-nil d.sent); told = refl; alike = alike }
 walks None now a n (i ∷ is) d can alike =
-    on-walks now a n i is d (after_indications None now a is) (entries_on_indications None now a is) can.0
+    on-walks now a n i is d (after_indications None now a is) (entries_on_indications None now a is)
+    can.0
     alike
     (λ e same. walks None now a n is e can.1 same)
 walks (Some zero) now a n [] d can alike =
@@ -180,7 +184,8 @@ walks (Some zero) now a n (i ∷ is) d can alike =
 walks (Some (suc k)) now a n [] d can alike =
     record { more = []; sent = sym (append-nil d.sent); told = refl; alike = alike }
 walks (Some (suc k)) now a n (i ∷ is) d can alike =
-    on-walks now a n i is d (after_indications (Some k) now a is) (entries_on_indications (Some k) now a is)
+    on-walks now a n i is d (after_indications (Some k) now a is)
+    (entries_on_indications (Some k) now a is)
     can.0 alike
     (λ e same. walks (Some k) now a n is e can.1 same)
 
@@ -471,7 +476,8 @@ module _ (n : Bay) (now : ℕ) (s : State) (alike : AreNamedAlike n (bay_of s))
           domain = alike-advanced.domain;
           switches = alike-advanced.switches;
           names = outputs-names t.switches t.writes
-              (outputs_of t.machine.image.points (run_result_at now t).slots) now 0 t.switches t.rows
+              (outputs_of t.machine.image.points (run_result_at now t).slots) now 0 t.switches
+              t.rows
               ∙ alike-advanced.names;
         };
         sized = sized;
@@ -505,14 +511,16 @@ module _ (n : Bay) (now : ℕ) (s : State) (alike : AreNamedAlike n (bay_of s))
       let f : Step → List Entry = observed_in_step now event n talks in
       let g : Step → List (Option ConnectionState) = states_after_step event talks in
       let inner : IsTold n talks f g
-      (cond (nat_lt now s.moment) (refusal_outcome TimeWentBack s) (event_outcome choice now event s))
+      (cond (nat_lt now s.moment) (refusal_outcome TimeWentBack s)
+      (event_outcome choice now event s))
       (cond (nat_lt now s.moment) [] (entries_on_event choice now event s)) =
       told-if (nat_lt now s.moment) f g (refusal_outcome TimeWentBack s)
       (event_outcome choice now event s)
       [] (entries_on_event choice now event s) (refused-told f g TimeWentBack)
       (event-told choice event) in
       told-if (nat_lt last_moment now) f g (refusal_outcome MomentTooLarge s)
-      (cond (nat_lt now s.moment) (refusal_outcome TimeWentBack s) (event_outcome choice now event s))
+      (cond (nat_lt now s.moment) (refusal_outcome TimeWentBack s)
+      (event_outcome choice now event s))
       []
       (cond (nat_lt now s.moment) [] (entries_on_event choice now event s))
       (refused-told f g MomentTooLarge) inner

@@ -68,7 +68,8 @@ table-travels t none controlled =
 
 one-travels : (inputs : List (List ℕ)) (t : Members) (ss : List Switch)
     → entry_refusal (switch_keys t) t ≡ None
-    → HaveTravelTime (controls_of inputs ss) → HaveTravelTime (controls_of inputs (switch_in t ∷ ss))
+    → HaveTravelTime (controls_of inputs ss)
+    → HaveTravelTime (controls_of inputs (switch_in t ∷ ss))
 one-travels inputs t ss none rest zero controlled = table-travels t none controlled
 one-travels inputs t ss none rest (suc k) controlled = rest k controlled
 

@@ -42,7 +42,8 @@ fed-some (Going connection rest) t piece used i going fed = fed
 fed-some Over t piece used i going fed = absurd going
 fed-some Broken t piece used i going fed = absurd going
 
-fed-none : (left : StreamState) (t : ConnectionState) (piece : List ℕ) (used : ℕ) → AcceptsOctets left
+fed-none : (left : StreamState) (t : ConnectionState) (piece : List ℕ) (used : ℕ)
+    → AcceptsOctets left
     → FeedsFrom left t piece used None → (used ≡ length piece) × (indications t piece ≡ [])
 fed-none (Going connection rest) t piece used going fed = fed
 fed-none Over t piece used going fed = absurd going
@@ -69,77 +70,78 @@ left-quiet t octets =
 -- ---- turns
 
 module _ (now a : ℕ) (old : ConnectionState) (rest : List ℕ) (used : ℕ) (new : ConnectionState)
-    (going : AcceptsOctets old.stream.left) (left : new ≡ connection_after old (take used rest)) where
-  pub used-some : (i : Option Indication) → 0 < length rest → Feeds old rest used i
-      → IsContinuedIf i → 0 < used
-  used-some None some fed goes = let all =
-      fed-none old.stream.left old rest used going fed in omega (arith, all.0, some)
-  used-some (Some i) some fed goes =
-      (comes-some old rest used i goes (fed-some old.stream.left old rest used i going fed)).0
+    (going : AcceptsOctets old.stream.left) (left : new ≡ connection_after old (take used rest))
+  where
+    pub used-some : (i : Option Indication) → 0 < length rest → Feeds old rest used i
+        → IsContinuedIf i → 0 < used
+    used-some None some fed goes = let all =
+        fed-none old.stream.left old rest used going fed in omega (arith, all.0, some)
+    used-some (Some i) some fed goes =
+        (comes-some old rest used i goes (fed-some old.stream.left old rest used i going fed)).0
 
-  pub goes-on : (i : Option Indication) → Feeds old rest used i → IsContinuedIf i
-      → AcceptsOctets new.stream.left
-  goes-on None fed goes =
-      let all = fed-none old.stream.left old rest used going fed in
-      let whole : take used rest ≡ rest = ap (λ n. take n rest) all.0 ∙ take-length rest in
-      rw (left, whole) (nothing-going old rest going all.1)
-  goes-on (Some i) fed goes =
-      let does =
-      (comes-some old rest used i goes (fed-some old.stream.left old rest used i going fed)).1
-      in
-      rw left (heard-going old (take used rest) i does goes)
+    pub goes-on : (i : Option Indication) → Feeds old rest used i → IsContinuedIf i
+        → AcceptsOctets new.stream.left
+    goes-on None fed goes =
+        let all = fed-none old.stream.left old rest used going fed in
+        let whole : take used rest ≡ rest = ap (λ n. take n rest) all.0 ∙ take-length rest in
+        rw (left, whole) (nothing-going old rest going all.1)
+    goes-on (Some i) fed goes =
+        let does =
+        (comes-some old rest used i goes (fed-some old.stream.left old rest used i going fed)).1
+        in
+        rw left (heard-going old (take used rest) i does goes)
 
-  pub moves-heard : (i : Option Indication) (d e : StepState) → Feeds old rest used i
-      → ((later : StepState → ReceiveResult) → on_indication_if now a i d later ≡ later e)
-      → AdvancesTo now a old rest d new (drop used rest) e
-  moves-heard None d e fed done =
-      let all = fed-none old.stream.left old rest used going fed in
-      let whole : take used rest ≡ rest = ap (λ n. take n rest) all.0 ∙ take-length rest in
-      let none : drop used rest ≡ [] =
-      ap (λ n. drop n rest) all.0 ∙ drop_of_length-le rest (omega arith) in
-      let quiet : indications new (drop used rest) ≡ [] =
-      rw (none, left, whole) (left-quiet old rest) in
-      record {
-        goes = λ later. (
-          later,
-          ap (λ is. after_indications later now a is d) (all.1 ∙ sym quiet)
-              ∙ done (after_indications later now a (indications new (drop used rest))),
-        );
-      }
-  moves-heard (Some i) d e fed done =
-      let comes =
-      feeding-indications old new rest used i left
-      (fed-some old.stream.left old rest used i going fed) in
-      record {
-        goes = λ later. (
-          next later,
-          ap (λ is. after_indications (next later) now a is d) comes
-              ∙ heard-next later now a i (indications new (drop used rest)) d
-              ∙ done (after_indications later now a (indications new (drop used rest))),
-        );
-      }
+    pub moves-heard : (i : Option Indication) (d e : StepState) → Feeds old rest used i
+        → ((later : StepState → ReceiveResult) → on_indication_if now a i d later ≡ later e)
+        → AdvancesTo now a old rest d new (drop used rest) e
+    moves-heard None d e fed done =
+        let all = fed-none old.stream.left old rest used going fed in
+        let whole : take used rest ≡ rest = ap (λ n. take n rest) all.0 ∙ take-length rest in
+        let none : drop used rest ≡ [] =
+        ap (λ n. drop n rest) all.0 ∙ drop_of_length-le rest (omega arith) in
+        let quiet : indications new (drop used rest) ≡ [] =
+        rw (none, left, whole) (left-quiet old rest) in
+        record {
+          goes = λ later. (
+            later,
+            ap (λ is. after_indications later now a is d) (all.1 ∙ sym quiet)
+                ∙ done (after_indications later now a (indications new (drop used rest))),
+          );
+        }
+    moves-heard (Some i) d e fed done =
+        let comes =
+        feeding-indications old new rest used i left
+        (fed-some old.stream.left old rest used i going fed) in
+        record {
+          goes = λ later. (
+            next later,
+            ap (λ is. after_indications (next later) now a is d) comes
+                ∙ heard-next later now a i (indications new (drop used rest)) d
+                ∙ done (after_indications later now a (indications new (drop used rest))),
+          );
+        }
 
-  -- the association is closed by what was heard, which is not want of memory
-  pub stops-heard : (i : Option Indication) (d e : StepState) (why : Why) → Feeds old rest used i
-      → ((later : StepState → ReceiveResult)
-      → on_indication_if now a i d later ≡ record { done = e; why = Some why })
-      → ResultsIn now a old rest d (Some why) e
-  stops-heard None d e why fed done =
-      let no : record { done = d; why = None }
-      ≡ (let h : ReceiveResult = record { done = e; why = Some why } in h) =
-      done (λ x. record { done = x; why = None }) in
-      absurd (let w : None ≡ (let o : Option Why = Some why in o) =
-      ap (λ (h : ReceiveResult). h.why) no in
-      cc)
-  stops-heard (Some i) d e why fed done =
-      let comes =
-      feeding-indications old new rest used i left
-      (fed-some old.stream.left old rest used i going fed) in
-      record {
-        choice = None;
-        is = ap (λ is. after_indications None now a is d) comes
-            ∙ done (after_indications None now a (indications new (drop used rest)));
-      }
+    -- the association is closed by what was heard, which is not want of memory
+    pub stops-heard : (i : Option Indication) (d e : StepState) (why : Why) → Feeds old rest used i
+        → ((later : StepState → ReceiveResult)
+        → on_indication_if now a i d later ≡ record { done = e; why = Some why })
+        → ResultsIn now a old rest d (Some why) e
+    stops-heard None d e why fed done =
+        let no : record { done = d; why = None }
+        ≡ (let h : ReceiveResult = record { done = e; why = Some why } in h) =
+        done (λ x. record { done = x; why = None }) in
+        absurd (let w : None ≡ (let o : Option Why = Some why in o) =
+        ap (λ (h : ReceiveResult). h.why) no in
+        cc)
+    stops-heard (Some i) d e why fed done =
+        let comes =
+        feeding-indications old new rest used i left
+        (fed-some old.stream.left old rest used i going fed) in
+        record {
+          choice = None;
+          is = ap (λ is. after_indications None now a is d) comes
+              ∙ done (after_indications None now a (indications new (drop used rest)));
+        }
 
 pub stops-memory : (now a : ℕ) (old : ConnectionState) (octets : List ℕ) (d e : StepState) → e ≡ d
     → ResultsIn now a old octets d (Some Memory) e

@@ -18,7 +18,8 @@ pub record IsReleasedAt (now : ℕ) (s : State) (command : Command) : Type 0 whe
   pub heard : s.is_lost ≡ false
   pub remote : is_local (control_of s.controls.controls command.switch).key s.input_values ≡ false
   pub fresh : is_fresh now s ≡ true
-  pub enabled : is_truth true (leaf_named (enable_name command.switch command.operation) s.rows) ≡ true
+  pub enabled : is_truth true (leaf_named (enable_name command.switch command.operation) s.rows)
+      ≡ true
   pub idle : (control.controls_at now s.controls).execution ≡ None
 
 -- Each command of a step was released before its event, and a step with a command also sends

@@ -32,7 +32,8 @@ entries_of_act now act = record { now = now; act = act; is_accepted = true } ∷
 -- ---- octets
 
 -- the entries of one indication and then of the later ones; a PDU of MMS has requests
-abbrev pub entries_on_indication : ℕ → ℕ → Indication → StepState → (StepState → List Entry) → List Entry
+abbrev pub entries_on_indication : ℕ → ℕ → Indication → StepState → (StepState → List Entry)
+    → List Entry
 entries_on_indication now a (answers octets) d later = later (with_sent a octets d)
 entries_on_indication now a (delivers terms pdu) d later =
     entries_on_pdu (client_at now a terms d.state) pdu (bay_of d.state)
@@ -44,7 +45,8 @@ entries_on_indication now a (fails code) d later = []
 -- the entries of all indications, in their order, with the same choice
 abbrev pub entries_on_indications : Option ℕ → ℕ → ℕ → List Indication → StepState → List Entry
 entries_on_indications None now a [] d = []
-entries_on_indications None now a (i ∷ is) d = entries_on_indication now a i d (entries_on_indications None now a is)
+entries_on_indications None now a (i ∷ is) d =
+    entries_on_indication now a i d (entries_on_indications None now a is)
 entries_on_indications (Some zero) now a is d = []
 entries_on_indications (Some (suc n)) now a [] d = []
 entries_on_indications (Some (suc n)) now a (i ∷ is) d =
@@ -59,14 +61,17 @@ entries_on_closing now a (Some why) = entries_of_act now (Closed a)
 abbrev pub entries_on_octets : Option ℕ → ℕ → ℕ → State → ConnectionState → List ℕ → List Entry
 entries_on_octets choice now a s connection [] = []
 entries_on_octets choice now a s connection (octet ∷ octets) =
-    entries_on_indications choice now a (indications connection (octet ∷ octets)) (step_start (device_at now s))
-    ++ entries_on_closing now a (after_indications choice now a (indications connection (octet ∷ octets))
+    entries_on_indications choice now a (indications connection (octet ∷ octets))
+    (step_start (device_at now s))
+    ++ entries_on_closing now a
+    (after_indications choice now a (indications connection (octet ∷ octets))
     (step_start (device_at now s))).why
 
 -- the entries of octets; none if the association is not open
 abbrev pub entries_on_recv : Option ℕ → ℕ → ℕ → List ℕ → State → Option ConnectionState → List Entry
 entries_on_recv choice now a octets s None = []
-entries_on_recv choice now a octets s (Some connection) = entries_on_octets choice now a s connection octets
+entries_on_recv choice now a octets s (Some connection) =
+    entries_on_octets choice now a s connection octets
 
 -- ---- events
 

@@ -140,7 +140,8 @@ states_after_octets a (octet ∷ octets) connections =
 -- the states of all connections after octets on an association, which the device may have closed
 abbrev pub states_after_recv : ℕ → List ℕ → List (Option ConnectionState) → Option (ℕ × Why)
     → List (Option ConnectionState)
-states_after_recv a octets connections (Some closed) = with_connection_state (slot_of a) None connections
+states_after_recv a octets connections (Some closed) =
+    with_connection_state (slot_of a) None connections
 states_after_recv a octets connections None = states_after_octets a octets connections
 
 -- the states of all connections after an event that is not refused
@@ -148,7 +149,8 @@ abbrev pub states_after_step : Event → List (Option ConnectionState) → Step
     → List (Option ConnectionState)
 states_after_step (Open a) connections step =
     with_connection_state (slot_of a) (Some (initial_connection a)) connections
-states_after_step (Recv a octets) connections step = states_after_recv a octets.now connections step.closed
+states_after_step (Recv a octets) connections step =
+    states_after_recv a octets.now connections step.closed
 states_after_step (Close a) connections step = with_connection_state (slot_of a) None connections
 states_after_step (Contact k position) connections step = connections
 states_after_step (Input k value) connections step = connections
@@ -171,7 +173,8 @@ observed_in_answer now event names connections answer =
 -- the states of all connections after an event
 abbrev pub states_after_answer : Event → List (Option ConnectionState) → Result Step StepFault
     → List (Option ConnectionState)
-states_after_answer event connections answer = of_answer connections (states_after_step event connections) answer
+states_after_answer event connections answer =
+    of_answer connections (states_after_step event connections) answer
 
 -- The entries of events and their answers, one after the other, for a bay whose variables have
 -- these names, and with these states of the connections before the events.
@@ -199,7 +202,8 @@ pub record EntriesLead (names : Bay) (now : ℕ) (event : Event) (old : State)
     (answer : Result Step StepFault) (new : State) : Type 0 where
   pub leads : (past : List Entry) (open_before : ℕ → Bool) (before : control.State)
       → LeadsControls past open_before before (opens old) old.controls
-      → LeadsControls (past ++ observed_in_answer now event names old.connections answer) open_before before
+      → LeadsControls (past ++ observed_in_answer now event names old.connections answer)
+      open_before before
       (opens new) new.controls
   pub left : new.connections ≡ states_after_answer event old.connections answer
   pub alike : AreNamedAlike names (bay_of new)

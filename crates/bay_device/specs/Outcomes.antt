@@ -110,7 +110,8 @@ connection_at (Some slot) s = unwrap_or (slice_get s.connections slot) None
 -- the device with this connection state of an association
 abbrev pub with_connection : Option ℕ → Option ConnectionState → State → State
 with_connection None connection s = s
-with_connection (Some slot) connection s = record s { connections = slice_set s.connections slot connection }
+with_connection (Some slot) connection s =
+    record s { connections = slice_set s.connections slot connection }
 
 -- the state of a connection before its first octet
 abbrev pub initial_connection : ℕ → ConnectionState
@@ -142,7 +143,8 @@ open_outcome now a s (Some slot) None =
 -- the outcome of closing an association; it is refused if the association is not open
 abbrev pub close_outcome : ℕ → ℕ → State → Option ConnectionState → Outcome
 close_outcome now a s None = refusal_outcome NoSuchAssociation s
-close_outcome now a s (Some connection) = quiet (expiry_report now s) (without_connection a (device_at now s))
+close_outcome now a s (Some connection) =
+    quiet (expiry_report now s) (without_connection a (device_at now s))
 
 -- the device after octets: the association stays open, or the device has closed it
 abbrev pub recv_after : ℕ → ConnectionState → State → Option Why → State
@@ -185,7 +187,8 @@ octets_outcome choice now a s connection (octet ∷ octets) =
 -- the outcome of octets of an association; they are refused if it is not open
 abbrev pub recv_outcome : Option ℕ → ℕ → ℕ → List ℕ → State → Option ConnectionState → Outcome
 recv_outcome choice now a octets s None = refusal_outcome NoSuchAssociation s
-recv_outcome choice now a octets s (Some connection) = octets_outcome choice now a s connection octets
+recv_outcome choice now a octets s (Some connection) =
+    octets_outcome choice now a s connection octets
 
 -- ---- events
 

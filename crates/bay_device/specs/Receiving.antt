@@ -93,7 +93,8 @@ pub record ReceiveResult : Type 0 where
 
 -- the result of one indication and then of the later ones; none follow a release, an end and a
 -- fault
-abbrev pub on_indication : ℕ → ℕ → Indication → StepState → (StepState → ReceiveResult) → ReceiveResult
+abbrev pub on_indication : ℕ → ℕ → Indication → StepState → (StepState → ReceiveResult)
+    → ReceiveResult
 on_indication now a (answers octets) d later = later (with_sent a octets d)
 on_indication now a (delivers terms pdu) d later = later (after_pdu now a terms pdu d)
 on_indication now a (releases octets) d later =

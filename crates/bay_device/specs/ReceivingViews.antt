@@ -22,10 +22,14 @@ step_state s effects = record {
 -- the device after the effects of an answered PDU
 abbrev pub with_effect : Controls → Option PendingTermination → State → State
 with_effect controls pending s =
-    record s { controls = state_of s.controls.controls controls; pending = later_pending s.pending pending }
+    record s {
+      controls = state_of s.controls.controls controls;
+      pending = later_pending s.pending pending;
+    }
 
 -- the result of an indication, if there is one, and then of the later ones
-abbrev pub on_indication_if : ℕ → ℕ → Option Indication → StepState → (StepState → ReceiveResult) → ReceiveResult
+abbrev pub on_indication_if : ℕ → ℕ → Option Indication → StepState → (StepState → ReceiveResult)
+    → ReceiveResult
 on_indication_if now a None d later = later d
 on_indication_if now a (Some i) d later = on_indication now a i d later
 

@@ -142,7 +142,8 @@ fn record_answer(
 ) -> Result<Option<PendingTermination>, AllocError>
     requires { IsSome (association_terms connection.now.state.phase) }
     ensures pending { IfOk result
-        (λ pending. pending ≡ spec.pending_if association (terms_of connection.now.state) answer.termination) }
+        (λ pending. pending ≡ spec.pending_if association (terms_of connection.now.state)
+        answer.termination) }
     ensures sent { OnOk result
         (effects.new.sent.items ≡ effects.old.sent.items
         ++ map (λ pdu. sent_on association (octets_to_send (terms_of connection.now.state) pdu))
@@ -159,14 +160,16 @@ fn record_answer(
         ≡ effects.old.decisions.items }
 {
     send_all(connection, association, answer.sent, &mut effects.sent)?;
-    effects.commands.extend_from_slice(answer.commands.as_slice())?;
+    effects
+        .commands
+        .extend_from_slice(answer.commands.as_slice())?;
     let mut decisions = answer.decisions;
     effects.decisions.append(&mut decisions)?;
     wrap_termination_if(connection, association, answer.termination)
 }
 
-// Answers a PDU. `controls` becomes the controls after the PDU. Changes nothing else but `effects`; if
-// an allocation fails, more may have been added to it.
+// Answers a PDU. `controls` becomes the controls after the PDU. Changes nothing else but `effects`;
+// if an allocation fails, more may have been added to it.
 fn answer(
     alloc: Global,
     state: &DeviceState,
@@ -178,11 +181,13 @@ fn answer(
     requires open { IsSome (association_terms connection.now.state.phase) }
     requires sized { IsPduSize client.size }
     ensures ok { IfOk result (λ pending. (connections : List (Option ConnectionState))
-        → step_state (with_effect controls.new pending (state_view connections state.now)) effects.new
+        → step_state (with_effect controls.new pending (state_view connections state.now))
+        effects.new
         ≡ answered_with client.association (terms_of connection.now.state)
         (pdu_answer client connection.now.pdu (bay_of (state_view connections state.now)))
         (step_state (state_view connections state.now) effects.old)) }
-    ensures sent { take (length effects.old.sent.items) effects.new.sent.items ≡ effects.old.sent.items }
+    ensures sent { take (length effects.old.sent.items) effects.new.sent.items
+        ≡ effects.old.sent.items }
     ensures commands { take (length effects.old.commands.items) effects.new.commands.items
         ≡ effects.old.commands.items }
     ensures decisions { take (length effects.old.decisions.items) effects.new.decisions.items

@@ -51,7 +51,8 @@ fn handle_indication(
     effects: &mut EventEffects,
 ) -> Result<(), Why>
     requires { IsOpenFor heard connection.now.state.phase }
-    ensures ok { OnOk result ((connections : List (Option ConnectionState)) (later : StepState → ReceiveData)
+    ensures ok { OnOk result
+        ((connections : List (Option ConnectionState)) (later : StepState → ReceiveData)
         → on_indication_if now association (indication_of heard connection.now)
         (step_state (state_view connections state.old) effects.old) later
         ≡ later (step_state (state_view connections state.new) effects.new)) }
@@ -64,7 +65,10 @@ fn handle_indication(
         → (connections : List (Option ConnectionState)) (later : StepState → ReceiveData)
         → on_indication_if now association (indication_of heard connection.now)
         (step_state (state_view connections state.old) effects.old) later
-        ≡ record { done = step_state (state_view connections state.new) effects.new; why = Some why }) }
+        ≡ record {
+          done = step_state (state_view connections state.new) effects.new;
+          why = Some why;
+        }) }
 {
     match heard {
         Indication::Nothing => Ok(()),
@@ -114,7 +118,15 @@ fn feed_once(
         (step_state (state_view connections state.new) effects.new)) }
 {
     let fed = connection.feed(rest)?;
-    handle_indication(alloc, now, association, state, connection, fed.heard, effects)?;
+    handle_indication(
+        alloc,
+        now,
+        association,
+        state,
+        connection,
+        fed.heard,
+        effects,
+    )?;
     Ok(fed.used)
 }
 

@@ -47,7 +47,8 @@ pub other-falls : (s : State) (step : Step) (age : ℕ)
 other-falls s step age h =
     let is : h.scan ≡ contact_past s step =
     one-there (contact_past s step) h.since h.earlier h.scan h.split in
-    let no : Contact 0 Off ≡ Scan = subst (λ (p : PastEvent). p.event ≡ Scan) is h.scanned in absurd cc
+    let no : Contact 0 Off ≡ Scan =
+    subst (λ (p : PastEvent). p.event ≡ Scan) is h.scanned in absurd cc
 
 pub refused-falls : (s : State) (fault : StepFault) (age : ℕ)
     → HasScan age age (refused_past s fault ∷ []) → ⊥
@@ -77,8 +78,10 @@ changed-falls s t step age differs h =
     let no : Contact 0 Off ≡ Scan = subst (λ (p : PastEvent). p.event ≡ Scan) is.0 h.scanned in
     absurd cc)
     (λ (is : (h.scan ≡ scan_past s step) × (h.since ≡ contact_past t step ∷ [])).
-    let all : All (λ (p : PastEvent). IsSameProcess h.scan.after p.after) (contact_past t step ∷ []) =
-    subst (λ (ps : List PastEvent). All (λ (p : PastEvent). IsSameProcess h.scan.after p.after) ps) is.1
+    let all : All (λ (p : PastEvent). IsSameProcess h.scan.after p.after)
+    (contact_past t step ∷ []) =
+    subst (λ (ps : List PastEvent). All (λ (p : PastEvent). IsSameProcess h.scan.after p.after) ps)
+    is.1
     h.unchanged in
     differs (subst (λ (p : PastEvent). IsSameProcess p.after t) is.0
     (all 0 (contact_past t step) (omega arith))))

@@ -106,14 +106,16 @@ module _ (a : Allowed) (p : Process) (only : IsOnly a p) where
   open-only (Own k) h =
       subst (λ (x : Dbpos). same_position x Off ≡ true) (sym (only.positions k Off h)) refl
   open-only (Other closed opened) h =
-      both-of (may_have_value a opened true) (may_have_value a closed false) (is_true_input p opened)
+      both-of (may_have_value a opened true) (may_have_value a closed false)
+      (is_true_input p opened)
       (not (is_true_input p closed)) (says-true a p only opened) (says-false a p only closed) h
 
   closed-only : (d : Device) → may_be_closed a d ≡ true → is_closed p d ≡ true
   closed-only (Own k) h =
       subst (λ (x : Dbpos). same_position x On ≡ true) (sym (only.positions k On h)) refl
   closed-only (Other closed opened) h =
-      both-of (may_have_value a closed true) (may_have_value a opened false) (is_true_input p closed)
+      both-of (may_have_value a closed true) (may_have_value a opened false)
+      (is_true_input p closed)
       (not (is_true_input p opened)) (says-true a p only closed) (says-false a p only opened) h
 
   neither-only : (d : Device) → may_be_neither a d ≡ true
@@ -152,7 +154,8 @@ or-both false b false d f g h = g h
 
 worst-exact : (a : Allowed) (p : Process) → IsOnly a p → IsWorse (worst_of a) (reading_of p)
 worst-exact a p only = record {
-  may_conduct = λ d. may-exact (may_be_closed a d) (may_be_neither a d) (is_open p d) (is_closed p d)
+  may_conduct =
+      λ d. may-exact (may_be_closed a d) (may_be_neither a d) (is_open p d) (is_closed p d)
       (closed-only a p only d) (closed-apart p d) (neither-only a p only d);
   conducts = λ d. sure-exact (may_be_open a d) (may_be_neither a d) (is_open p d) (is_closed p d)
       (open-only a p only d) (closed-apart p d) (neither-only a p only d);
@@ -167,7 +170,8 @@ best-exact a p only = record {
   may_move = λ d. contrapose (may_be_open a d || may_be_closed a d) (is_open p d || is_closed p d)
       (or-both (may_be_open a d) (may_be_closed a d) (is_open p d) (is_closed p d)
       (open-only a p only d) (closed-only a p only d));
-  may_be_live = λ i. contrapose (may_have_value a i true) (is_true_input p i) (says-true a p only i);
+  may_be_live =
+      λ i. contrapose (may_have_value a i true) (is_true_input p i) (says-true a p only i);
 }
 
 same-truth : (x y : Bool) → (x ≡ true → y ≡ true) → (y ≡ true → x ≡ true) → x ≡ y

@@ -145,7 +145,8 @@ module _ (net : Network) (r : Reading) (s : Branch) where
           let may_conduct = and_parts (r.may_conduct c.device) _ other.1 in
           record {
             fits = find-any (λ (d : Branch). is_earthing d.kind
-                && (not (d.number == s.number) && (r.may_conduct d.device && joined_in labels a d.one)))
+                && (not (d.number == s.number)
+                && (r.may_conduct d.device && joined_in labels a d.one)))
                 (λ (d : Branch). d.number == c.number && (is_earthing d.kind
                 && (not (d.number == s.number) && (r.may_conduct d.device && d.one == c.one))))
                 net.branches c h
@@ -173,7 +174,8 @@ module _ (net : Network) (r : Reading) (s : Branch) where
     -- the test of a source
     abbrev pub is_source_by : (ℕ → ℕ → Bool) → (ℕ → ℕ → Bool) → Node → Bool
     is_source_by joins apart x =
-        x.is_source && (joins s.one x.number && (r.may_be_live x.dead || not (apart s.one x.number)))
+        x.is_source && (joins s.one x.number
+        && (r.may_be_live x.dead || not (apart s.one x.number)))
 
     pub source-found : (x : Node)
         → find (is_source_by (joined_in gapless) (joined_in inseparable)) net.nodes ≡ Some x

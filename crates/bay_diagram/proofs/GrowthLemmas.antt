@@ -104,7 +104,8 @@ module _ (net : Network) where
     possible b = record { gives = worse.may_conduct b.device }
 
     pub gapless : (b : Branch) → Le (may_cross r Gapless b) (may_cross w Gapless b)
-    gapless b = le-or (not b.isolates) (not b.isolates) (r.may_conduct b.device) (w.may_conduct b.device)
+    gapless b =
+        le-or (not b.isolates) (not b.isolates) (r.may_conduct b.device) (w.may_conduct b.device)
         (same (not b.isolates)) (possible b)
 
     pub inseparable : (b : Branch) → Le (may_cross w Inseparable b) (may_cross r Inseparable b)
@@ -249,7 +250,8 @@ module _ (net : Network) where
           (leads-more r w route possible a x)
           (le-or (reaches_both net r s d a b x y Live Terminal)
           (reaches_both net w s d a b x y Live Terminal)
-          (reaches_both net r s d a b x y Terminal Live) (reaches_both net w s d a b x y Terminal Live)
+          (reaches_both net r s d a b x y Terminal Live)
+          (reaches_both net w s d a b x y Terminal Live)
           (comes-more a b x y Live Terminal) (comes-more a b x y Terminal Live)))
 
       energises-more : (a b x y : ℕ)

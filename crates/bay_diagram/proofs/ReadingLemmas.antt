@@ -139,7 +139,8 @@ best-alive = best-may
 pub worst-bounds : (a : Allowed) (p : Process) → IsAllowed a p
     → IsWorse (reading_of p) (worst_of a)
 worst-bounds a p is = record {
-  may_conduct = λ d. worst-may (is_open p d) (is_closed p d) (may_be_closed a d) (may_be_neither a d)
+  may_conduct =
+      λ d. worst-may (is_open p d) (is_closed p d) (may_be_closed a d) (may_be_neither a d)
       (closed-allowed a p is d) (neither-allowed a p is d);
   conducts = λ d. worst-sure (is_open p d) (is_closed p d) (may_be_open a d) (may_be_neither a d)
       (open-allowed a p is d) (neither-allowed a p is d);

@@ -144,7 +144,8 @@ module _ (net : Network) (r : Reading) (s : Branch) where
   no-makes d h none b =
       opposed (makes_current net r s d) b
       (and_parts (is_exposed net r s d) _
-      (find-passes (λ (e : Branch). is_exposed net r s e && makes_current net r s e) net.branches d h)).1
+      (find-passes (λ (e : Branch). is_exposed net r s e && makes_current net r s e) net.branches d
+      h)).1
       none
 
   pub leaves-shown : (d : Branch)
@@ -185,7 +186,8 @@ module _ (net : Network) (r : Reading) (s : Branch) where
       → leaves_current net r s d ≡ true
   left-parts d h =
       (and_parts (is_exposed net r s d) _
-      (find-passes (λ (e : Branch). is_exposed net r s e && leaves_current net r s e) net.branches d h)).1
+      (find-passes (λ (e : Branch). is_exposed net r s e && leaves_current net r s e) net.branches d
+      h)).1
 
   pub side-shown : (d : Branch) (a b : ℕ) (walk : ShownWalk)
       → lies_beside net r s d a b ≡ true

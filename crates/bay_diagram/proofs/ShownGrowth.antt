@@ -110,7 +110,8 @@ module _ (net : Network) (r w : Reading) (worse : IsWorse r w) where
       (λ c. le-under (c.number == earth)
       (is_earthing c.kind && (not (c.number == s.number) && (r.may_conduct c.device && c.one == n)))
       (is_earthing c.kind && (not (c.number == s.number) && (w.may_conduct c.device && c.one == n)))
-      (le-under (is_earthing c.kind) (not (c.number == s.number) && (r.may_conduct c.device && c.one == n))
+      (le-under (is_earthing c.kind)
+      (not (c.number == s.number) && (r.may_conduct c.device && c.one == n))
       (not (c.number == s.number) && (w.may_conduct c.device && c.one == n))
       (le-under (not (c.number == s.number)) (r.may_conduct c.device && c.one == n)
       (w.may_conduct c.device && c.one == n)
@@ -139,8 +140,10 @@ module _ (net : Network) (r w : Reading) (worse : IsWorse r w) where
       (x.is_source && (w.may_be_live x.dead
       || not (leads net w (without Inseparable s avoid.Nothing) s.one x.number)))
       (le-under x.is_source
-      (r.may_be_live x.dead || not (leads net r (without Inseparable s avoid.Nothing) s.one x.number))
-      (w.may_be_live x.dead || not (leads net w (without Inseparable s avoid.Nothing) s.one x.number))
+      (r.may_be_live x.dead || not
+      (leads net r (without Inseparable s avoid.Nothing) s.one x.number))
+      (w.may_be_live x.dead || not
+      (leads net w (without Inseparable s avoid.Nothing) s.one x.number))
       (le-or (r.may_be_live x.dead) (w.may_be_live x.dead)
       (not (leads net r (without Inseparable s avoid.Nothing) s.one x.number))
       (not (leads net w (without Inseparable s avoid.Nothing) s.one x.number))

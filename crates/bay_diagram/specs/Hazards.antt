@@ -85,7 +85,8 @@ has_beside net r s e =
 -- the source is dead.
 abbrev pub earths_by : Network → Reading → Branch → (ℕ → ℕ → Bool) → (ℕ → ℕ → Bool) → Bool
 earths_by net r s gapless inseparable = list_any (λ x. x.is_source
-    && (gapless s.one x.number && (r.may_be_live x.dead || not (inseparable s.one x.number)))) net.nodes
+    && (gapless s.one x.number && (r.may_be_live x.dead || not (inseparable s.one x.number))))
+    net.nodes
 
 -- the earthing switch would close onto a node that is not isolated
 abbrev pub earths : Network → Reading → Branch → Bool
@@ -126,7 +127,8 @@ breaks net r s =
 -- A: s would close the path  p .. b - s - a .. x - d - y .. q  of a current through d. Either the
 -- path passes no terminal between a and x, and one of p, q is live and the other a terminal; or it
 -- passes no source there, p is live, and q is a terminal that is no source: s energises it.
-abbrev pub reaches_both : Network → Reading → Branch → Branch → ℕ → ℕ → ℕ → ℕ → Target → Target → Bool
+abbrev pub reaches_both : Network → Reading → Branch → Branch → ℕ → ℕ → ℕ → ℕ → Target → Target
+    → Bool
 reaches_both net r s d a b x y p q =
     reaches net r s (without_both Possible s d (avoid.NodesAndEnd a x y)) b p
     && reaches net r s (without_both Possible s d (avoid.NodesAndEnd a x b)) y q
@@ -136,7 +138,8 @@ abbrev pub makes_near : Network → Reading → Branch → Branch → ℕ → �
 makes_near net r s d a b x y =
     not (is_terminal net a || is_terminal net x)
     && (leads net r (without_both Possible s d (avoid.TerminalsAndNodes b y)) a x
-    && (reaches_both net r s d a b x y Live Terminal || reaches_both net r s d a b x y Terminal Live))
+    && (reaches_both net r s d a b x y Live Terminal
+    || reaches_both net r s d a b x y Terminal Live))
 
 -- s would energise a terminal that is no source by a path through d, which passes no source between
 -- a and x

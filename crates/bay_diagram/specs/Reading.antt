@@ -88,7 +88,8 @@ may_be_open a (Other closed opened) = may_have_value a opened true && may_have_v
 -- the switch may be known to be closed
 abbrev pub may_be_closed : Allowed → Device → Bool
 may_be_closed a (Own k) = a.position k On
-may_be_closed a (Other closed opened) = may_have_value a closed true && may_have_value a opened false
+may_be_closed a (Other closed opened) =
+    may_have_value a closed true && may_have_value a opened false
 
 -- the switch may be known neither to be open nor to be closed
 abbrev pub may_be_neither : Allowed → Device → Bool

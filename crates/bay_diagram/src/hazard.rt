@@ -322,7 +322,12 @@ fn makes_from(network: &Network, known: &Known, switch: &Branch, other: &Branch,
 
 // Returns whether the switch would close a path of a current through the other one, whichever sides
 // of the two face each other.
-pub(crate) fn makes_current(network: &Network, known: &Known, switch: &Branch, other: &Branch) -> bool
+pub(crate) fn makes_current(
+    network: &Network,
+    known: &Known,
+    switch: &Branch,
+    other: &Branch,
+) -> bool
     ensures { result ≡ spec.makes_current network.now (reading_in known.now) switch.now other.now }
 {
     let (u, v) = (switch.one, switch.other);
@@ -406,7 +411,12 @@ fn feeds_from(
 
 // Returns whether the switch would take away a path beside the other one, through which a current
 // can flow.
-pub(crate) fn leaves_current(network: &Network, known: &Known, switch: &Branch, other: &Branch) -> bool
+pub(crate) fn leaves_current(
+    network: &Network,
+    known: &Known,
+    switch: &Branch,
+    other: &Branch,
+) -> bool
     ensures { result ≡ spec.leaves_current network.now (reading_in known.now) switch.now other.now }
 {
     (lies_beside(network, known, switch, other, switch.one, switch.other)

@@ -8,7 +8,9 @@ ghost use Rattle.bay_diagram.specs.declared.shown.HazardKind.TheVariants as kind
 ghost use Rattle.bay_diagram.specs.declared.walk.Over.TheVariants as overs;
 
 use crate::ends::target_of;
-use crate::hazard::{Ends, Target, is_exposed, leaves_current, lies_beside, makes_current, without_both};
+use crate::hazard::{
+    Ends, Target, is_exposed, leaves_current, lies_beside, makes_current, without_both,
+};
 use crate::network::{Branch, Network};
 use crate::path::{walk_along, walk_over, walk_through};
 use crate::reading::Known;
@@ -208,7 +210,8 @@ fn show_make(
 fn made_through<'a>(network: &'a Network, known: &Known, switch: &Branch) -> Option<&'a Branch>
     ensures { option_copied result
         ≡ find (λ d. hazards.is_exposed network.now (reading_in known.now) switch.now d
-        && hazards.makes_current network.now (reading_in known.now) switch.now d) network.now.branches }
+        && hazards.makes_current network.now (reading_in known.now) switch.now d)
+        network.now.branches }
 {
     network.branches.as_slice().iter().find(|other| {
         is_exposed(network, known, switch, other) && makes_current(network, known, switch, other)
@@ -369,7 +372,8 @@ fn show_feeds(
 fn left_to<'a>(network: &'a Network, known: &Known, switch: &Branch) -> Option<&'a Branch>
     ensures { option_copied result
         ≡ find (λ d. hazards.is_exposed network.now (reading_in known.now) switch.now d
-        && hazards.leaves_current network.now (reading_in known.now) switch.now d) network.now.branches }
+        && hazards.leaves_current network.now (reading_in known.now) switch.now d)
+        network.now.branches }
 {
     network.branches.as_slice().iter().find(|other| {
         is_exposed(network, known, switch, other) && leaves_current(network, known, switch, other)

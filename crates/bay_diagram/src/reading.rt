@@ -117,7 +117,8 @@ impl Known {
                 open_input,
             } => {
                 self.may_have_value(closed_input, true) && self.may_have_value(open_input, true)
-                    || self.may_have_value(closed_input, false) && self.may_have_value(open_input, false)
+                    || self.may_have_value(closed_input, false)
+                        && self.may_have_value(open_input, false)
             }
         }
     }

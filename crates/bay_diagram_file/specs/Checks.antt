@@ -201,8 +201,10 @@ row_refusal kind which nodes switches =
 abbrev pub name_refusal : Bay → List NodeRow → List SwitchRow → Option DiagramFault
 name_refusal bay nodes switches =
     first_refusal (refusal DuplicateName places.Node (position (is_duplicate_node nodes) nodes))
-    (first_refusal (refusal DuplicateName places.Between (position (is_duplicate_switch switches) switches))
-    (first_refusal (refusal UnknownName places.Node (position (λ n. is_no_input bay.inputs n.dead) nodes))
+    (first_refusal (refusal DuplicateName places.Between
+    (position (is_duplicate_switch switches) switches))
+    (first_refusal (refusal UnknownName places.Node
+    (position (λ n. is_no_input bay.inputs n.dead) nodes))
     (refusal UnknownName places.Between (position (has_unknown_name bay nodes) switches))))
 
 -- the refusal of the first bad source, or else of the first switch with bad keys, or with bad nodes

@@ -71,7 +71,8 @@ file_refusal bay file =
 -- the diagram of a file, or its first refusal
 abbrev pub network_of_file : Bay → Members → Result Network DiagramFault
 network_of_file bay file =
-    unless_refused (file_refusal bay file) (network_of_tables bay (node_rows file) (switch_rows file))
+    unless_refused (file_refusal bay file)
+    (network_of_tables bay (node_rows file) (switch_rows file))
 
 -- a text that is not TOML is refused first
 abbrev pub network_of_document : Bay → Option Members → Result Network DiagramFault

@@ -406,7 +406,9 @@ fn unknown_input_node(inputs: &[Text], nodes: &[NodeRow]) -> Option<usize>
 fn unknown_name_switch(bay: &Bay, nodes: &[NodeRow], switches: &[SwitchRow]) -> Option<usize>
     ensures { result ≡ position (spec.has_unknown_name bay.now nodes.now) switches.now }
 {
-    switches.iter().position(|row| has_unknown_name(bay, nodes, row))
+    switches
+        .iter()
+        .position(|row| has_unknown_name(bay, nodes, row))
 }
 
 // Returns the refusal of the first name that two tables have, or that is unknown.
@@ -514,6 +516,9 @@ pub fn tables_refusal(bay: &Bay, nodes: &[NodeRow], switches: &[SwitchRow]) -> O
     let whole = whole_refusal(bay, nodes, switches);
     first_refusal(
         unknown,
-        first_refusal(missing, first_refusal(bad, first_refusal(name, first_refusal(shape, whole)))),
+        first_refusal(
+            missing,
+            first_refusal(bad, first_refusal(name, first_refusal(shape, whole))),
+        ),
     )
 }

@@ -6,7 +6,7 @@ ghost use Rattle.bay_config.specs.Switch.{kinds};
 ghost use Rattle.bay_diagram_file.specs.Row as spec;
 
 use crate::keys::{
-    copy_text_at, copy_or_empty, has_key, has_unknown_key, may_be_text, may_be_truth, text_at,
+    copy_or_empty, copy_text_at, has_key, has_unknown_key, may_be_text, may_be_truth, text_at,
     truth_at, values_at,
 };
 use crate::node_row::has_name;

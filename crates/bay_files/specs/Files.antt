@@ -75,5 +75,6 @@ WritesAtomically writes zero number name octets old new fault =
 WritesAtomically {F} writes (suc left) number name octets old new fault =
     (outcome : Result Bool FileFault) × (mid : F)
     × writes old name number octets outcome mid
-    × AttemptOutcome outcome (WritesAtomically writes left (number + 1) name octets mid new fault) mid new
+    × AttemptOutcome outcome (WritesAtomically writes left (number + 1) name octets mid new fault)
+    mid new
     fault

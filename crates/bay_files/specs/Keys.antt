@@ -22,7 +22,8 @@ key_in text =
 
 -- A key file was read: its key; or that it could not be read, that its mode permits some access to
 -- its group or others, or that it holds no key.
-abbrev pub ReadsKey : {F : Type 0} → ProtectedReads F → F → List ℕ → Result (List ℕ) KeyFault → Type 0
+abbrev pub ReadsKey : {F : Type 0} → ProtectedReads F → F → List ℕ → Result (List ℕ) KeyFault
+    → Type 0
 ReadsKey guards files name (Ok key) =
     (text : List ℕ) × guards files name (Ok (text, true)) × (key_in text ≡ Some key)
 ReadsKey guards files name (Err (Unread fault)) = guards files name (Err fault)

@@ -344,7 +344,8 @@ pub fn write_atomically<F: FileSystem>(
     ensures ok { OnOk result
         (WritesAtomically F.writes 100 0 name.now octets.now files.old files.new None) }
     ensures err { IfErr result
-        (λ fault. WritesAtomically F.writes 100 0 name.now octets.now files.old files.new (Some fault)) }
+        (λ fault. WritesAtomically F.writes 100 0 name.now octets.now files.old files.new
+        (Some fault)) }
 {
     for number in 0..TRIES {
         match files.write(alloc, name, number, octets) {

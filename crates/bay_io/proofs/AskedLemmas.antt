@@ -60,7 +60,8 @@ module _ {S C : Type 0} {does : S → C → S → Type 0} {fails : C → Bool} w
 
   abbrev pub AskedFew-more : (a b : S) (x y : Bool) (few most : ℕ) → few ≤ most
       → MakesFewCalls does fails few a x b y → MakesFewCalls does fails most a x b y
-  AskedFew-more a b x y few most h p = record { calls_made = p.calls_made; few = omega (arith, p.few, h) }
+  AskedFew-more a b x y few most h p =
+      record { calls_made = p.calls_made; few = omega (arith, p.few, h) }
 
 -- ---- which calls fail
 

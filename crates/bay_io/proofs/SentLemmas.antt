@@ -122,10 +122,12 @@ joined false false a b c pending front back middle left put more kept =
 
 module _ {W : Type 0} {contents : W → Option (List ℕ)} {does : W → WriteCall → W → Type 0} where
   -- a text was put, and then another
-  pub Puts-then : {old mid new : WriterState W} {front back : List ℕ} → Puts contents does old front mid
+  pub Puts-then : {old mid new : WriterState W} {front back : List ℕ}
+      → Puts contents does old front mid
       → Puts contents does mid back new → Puts contents does old (front ++ back) new
   Puts-then {old} {mid} {new} {front} {back} put more = record {
-    calls_made = Asked-then old.inner mid.inner new.inner old.has_failed mid.has_failed new.has_failed
+    calls_made =
+        Asked-then old.inner mid.inner new.inner old.has_failed mid.has_failed new.has_failed
         put.calls_made more.calls_made;
     sent = joined mid.has_failed new.has_failed (contents old.inner) (contents mid.inner)
         (contents new.inner) old.pending front back mid.pending new.pending put.sent more.sent
@@ -191,7 +193,8 @@ module _ {W : Type 0} {contents : W → Option (List ℕ)} {does : W → WriteCa
       }
 
   -- a text was kept in the buffer
-  pub Puts-kept : (old : WriterState W) (sink : SinkState W) (pending text left : List ℕ) (kept : Bool)
+  pub Puts-kept : (old : WriterState W) (sink : SinkState W) (pending text left : List ℕ)
+      (kept : Bool)
       → record {
         inner = sink.inner;
         has_failed = sink.has_failed;
@@ -246,7 +249,8 @@ module _ {W : Type 0} {contents : W → Option (List ℕ)} {does : W → WriteCa
         ap (λ (w : WriterState W). w.inner) (kept e),
         ap (λ (w : WriterState W). w.has_failed) (kept e) ∙ e,
       )) calls_made logs) put
-  Puts-after {X} {E} old mid new text (Err e) all none failed kept calls_made logs is put = absurd cc
+  Puts-after {X} {E} old mid new text (Err e) all none failed kept calls_made logs is put =
+      absurd cc
 
   -- it could not be written out
   pub Puts-stuck : {X E : Type 0} (old mid : WriterState W) (text : List ℕ) (r : Result X E)
@@ -287,7 +291,8 @@ module _ {W : Type 0} {contents : W → Option (List ℕ)} {does : W → WriteCa
   }
 
   -- all was put
-  pub Rest-end : {old new : WriterState W} {text rest : List ℕ} → Rest contents does old text rest new
+  pub Rest-end : {old new : WriterState W} {text rest : List ℕ}
+      → Rest contents does old text rest new
       → rest ≡ [] → Puts contents does old text new
   Rest-end {old} {new} {text} {rest} r e =
       Puts-as text (sym (r.whole ∙ ap (λ t. r.done ++ t) e ∙ append-nil r.done)) r.put

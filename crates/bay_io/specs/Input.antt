@@ -34,9 +34,11 @@ FailsAs limit calls OutOfMemory = IsEnded calls × (length (octets_of calls) ≤
 -- At most `limit` + 1 reads were made. The result is all octets that they returned, in their order,
 -- up to the end; or a fault.
 pub record ReadsAll {S A : Type 0} (does : S → ReadCall → S → Type 0) (octets : A → List ℕ)
-    (limit : ℕ) (old : S) (had_failed : Bool) (new : S) (has_failed : Bool) (result : Result A ReadFault)
+    (limit : ℕ) (old : S) (had_failed : Bool) (new : S) (has_failed : Bool)
+    (result : Result A ReadFault)
     : Type 0 where
   pub calls_made : MakesFewCalls does read_failed (limit + 1) old had_failed new has_failed
   pub gave : MatchResult result
-      (λ all. (octets all ≡ octets_of calls_made.calls_made.calls) × IsEnded calls_made.calls_made.calls)
+      (λ all. (octets all ≡ octets_of calls_made.calls_made.calls)
+      × IsEnded calls_made.calls_made.calls)
       (FailsAs limit calls_made.calls_made.calls)

@@ -35,7 +35,8 @@ pub record Puts {W : Type 0} (contents : W → Option (List ℕ)) (does : W → 
 -- The sink accepted all pending octets and was flushed. Or a write or the flush failed, now or
 -- before, and the sink accepted a prefix of the pending octets (and is unchanged if a call had
 -- failed before).
-abbrev pub FlushOutcome : {W X E : Type 0} → (W → Option (List ℕ)) → WriterState W → WriterState W → Result X E
+abbrev pub FlushOutcome : {W X E : Type 0} → (W → Option (List ℕ)) → WriterState W → WriterState W
+    → Result X E
     → Type 0
 FlushOutcome contents old new (Ok x) =
     (old.has_failed ≡ false) × Appends (contents old.inner) (contents new.inner) old.pending
@@ -46,7 +47,8 @@ FlushOutcome contents old new (Err e) =
 
 -- The writer was finished as `FlushOutcome` states, by these calls of the sink, none of which logs.
 pub record Finishes {W X E : Type 0} (contents : W → Option (List ℕ))
-    (does : W → WriteCall → W → Type 0) (old new : WriterState W) (result : Result X E) : Type 0 where
+    (does : W → WriteCall → W → Type 0) (old new : WriterState W) (result : Result X E)
+    : Type 0 where
   pub ends : FlushOutcome contents old new result
   pub calls_made : SomeCalls (Unlogged does) write_failed old.inner old.has_failed new.inner
       new.has_failed

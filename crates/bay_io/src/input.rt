@@ -25,7 +25,11 @@ pub enum ReadFault {
 }
 
 // Appends octets to the buffer, if all octets before them were appended.
-fn append_octets(all: &mut Vec<u8>, kept: Result<(), AllocError>, octets: &[u8]) -> Result<(), AllocError>
+fn append_octets(
+    all: &mut Vec<u8>,
+    kept: Result<(), AllocError>,
+    octets: &[u8],
+) -> Result<(), AllocError>
     ensures { is_ok result ≡ true
         → (is_ok kept ≡ true) × (all.new.items ≡ all.old.items ++ octets.now) }
 {

@@ -139,7 +139,8 @@ impl<W: Sink> WatchedWriter<W> {
             (SendsPart (W.contents self.old.inner) (W.contents self.new.inner) self.old.pending) }
         ensures empty { OnOk result (self.new.pending ≡ []) }
         ensures fault { is_err result ≡ self.new.has_failed }
-        ensures calls_made { SomeCalls (Unlogged W.does) write_failed self.old.inner self.old.has_failed
+        ensures calls_made { SomeCalls (Unlogged W.does) write_failed self.old.inner
+            self.old.has_failed
             self.new.inner self.new.has_failed }
         ensures kept { self.old.has_failed ≡ true → self.new ≡ self.old }
         ensures logs { self.new.logs ≡ self.old.logs }

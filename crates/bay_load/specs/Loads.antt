@@ -68,7 +68,8 @@ load_of_program bay (Err fault) = Err (text_error fault)
 -- what is loaded of a bay file and a program: a fault of the bay file comes before one of the
 -- program's text, that before one of its checks, and that before the refusal of an image that would
 -- be too long
-abbrev pub load_of_bay : Result Bay BayFault → Result PlainProgram TextFault → Result LoadData LoadError
+abbrev pub load_of_bay : Result Bay BayFault → Result PlainProgram TextFault
+    → Result LoadData LoadError
 load_of_bay (Ok bay) program = load_of_program bay program
 load_of_bay (Err fault) program = Err (bay_error fault)
 
@@ -111,7 +112,8 @@ LoadsDecoded bay (Err fault) result = result ≡ Err (image_error fault)
 
 -- A bay file and the octets of an image are loaded, or refused: a fault of the bay file comes
 -- before one of the octets, and that before one of the image.
-abbrev pub LoadsImageFiles : Result Bay BayFault → Result Code ImageFault → Result LoadData LoadError
+abbrev pub LoadsImageFiles : Result Bay BayFault → Result Code ImageFault
+    → Result LoadData LoadError
     → Type 0
 LoadsImageFiles (Ok bay) image result = LoadsDecoded bay image result
 LoadsImageFiles (Err fault) image result = result ≡ Err (bay_error fault)

@@ -100,7 +100,8 @@ pub record CompilesImage {F W : Type 0} (writes : FileWrites F) (contents : W �
   pub middle : WriterState W
   pub reported : Result ℕ WriteFault
   pub printed : Prints contents asks (IsOutput (report_text report) 0) old middle reported
-  pub continuation : WritesIfPrinted writes contents asks out image before after middle new reported answer
+  pub continuation : WritesIfPrinted writes contents asks out image before after middle new reported
+      answer
 
 -- what was loaded is compiled; the refusal of a load is reported, and no file is touched
 abbrev pub CompilesLoaded : {F W : Type 0} → FileWrites F
@@ -188,7 +189,8 @@ pub record CommandEnvironment (F H R W : Type 0) : Type 0 where
   pub reader : ReaderState R
   pub writer : WriterState W
 
-module _ {F L H R W : Type 0} (reads : FileReads F) (guards : ProtectedReads F) (writes : FileWrites F)
+module _ {F L H R W : Type 0} (reads : FileReads F) (guards : ProtectedReads F)
+    (writes : FileWrites F)
     (same : F → List ℕ → List ℕ → Bool → Type 0)
     (step : L → Call → L → Type 0) (acts : H → HostCall L → H → Type 0)
     (remaining : R → Option (List ℕ)) (contents : W → Option (List ℕ))
@@ -266,9 +268,11 @@ module _ {F L H R W : Type 0} (reads : FileReads F) (guards : ProtectedReads F) 
     pub untouched : new ≡ old
 
   -- Memory runs out while the arguments are read, which is printed.
-  pub record LacksMemory (old new : CommandEnvironment F H R W) (ended : CommandResult) : Type 0 where
+  pub record LacksMemory (old new : CommandEnvironment F H R W) (ended : CommandResult)
+      : Type 0 where
     pub answer : Result ℕ WriteFault
-    pub reported : Prints contents asks (IsOutput (codes "fault memory\n") 3) old.writer new.writer answer
+    pub reported : Prints contents asks (IsOutput (codes "fault memory\n") 3) old.writer new.writer
+        answer
     pub ends : IsCommandResult answer ended
     pub untouched : (new.files ≡ old.files) × (new.host ≡ old.host) × (new.reader ≡ old.reader)
 
@@ -277,4 +281,5 @@ module _ {F L H R W : Type 0} (reads : FileReads F) (guards : ProtectedReads F) 
   abbrev pub Obeys : List (List ℕ) → CommandEnvironment F H R W → CommandEnvironment F H R W
       → CommandResult → Type 0
   Obeys words old new ended =
-      ExecutesTask words old new ended ⊎ (RefusesArguments words old new ended ⊎ LacksMemory old new ended)
+      ExecutesTask words old new ended
+      ⊎ (RefusesArguments words old new ended ⊎ LacksMemory old new ended)

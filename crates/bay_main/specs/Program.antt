@@ -101,5 +101,6 @@ pub record RunsFresh {F L H R O E : Type 0} (reads : FileReads F) (guards : Prot
     : Type 0 where
   pub old : CommandEnvironment F H R (SystemOutput O E)
   pub fresh : old.writer ≡ unused_writer (fresh_output (names_serve words) out err)
-  pub runs : RunsProgram reads guards writes same step acts remaining contents log_contents words old
+  pub runs : RunsProgram reads guards writes same step acts remaining contents log_contents words
+      old
       status

@@ -286,7 +286,8 @@ pub fn obey<F: FileSystem, L: Link + Drop, H: Host<L>, R: OctetSource, W: Sink>(
     reader: &mut WatchedReader<R>,
     writer: &mut WatchedWriter<W>,
 ) -> CommandResult
-    ensures { Obeys F.reads F.guards F.writes F.same (CountedCall L.does L.failures) H.does R.remaining
+    ensures { Obeys F.reads F.guards F.writes F.same (CountedCall L.does L.failures) H.does
+        R.remaining
         W.contents W.does
         (map (λ w. w.now) words.now)
         (record { files = files.old; host = host.old; reader = reader.old; writer = writer.old })

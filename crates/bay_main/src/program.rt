@@ -107,7 +107,8 @@ fn obey_with<
     reader: &mut WatchedReader<S>,
     mut writer: WatchedWriter<SystemOutput<'_, R, O, E>>,
 ) -> ExitCode
-    ensures { RunsProgram F.reads F.guards F.writes F.same (CountedCall L.does L.failures) H.does S.remaining
+    ensures { RunsProgram F.reads F.guards F.writes F.same (CountedCall L.does L.failures) H.does
+        S.remaining
         O.contents E.contents (map (λ w. w.now) words.now)
         (record { files = files.old; host = host.old; reader = reader.old; writer = writer.entry })
         (exit_status result) }

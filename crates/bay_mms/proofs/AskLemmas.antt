@@ -73,7 +73,8 @@ pub asked-back : (octets : List ℕ) (m : MmsRequest) → IsBytes octets → req
 requested-back octets m b e = subst (Says octets) e (answer-says octets b)
 
 pub one-asked : (octets : List ℕ) (m n : MmsRequest) → Asks m octets → Asks n octets → m ≡ n
-one-asked octets m n a c = let same : (let made : Result MmsRequest MmsFault = Ok m in made) ≡ Ok n =
+one-asked octets m n a c =
+    let same : (let made : Result MmsRequest MmsFault = Ok m in made) ≡ Ok n =
     sym (asked-read octets m a) ∙ asked-read octets n c in cc
 
 pub unknown-is : (octets : List ℕ) (id : ℕ) → IsBytes octets

@@ -100,7 +100,8 @@ origin-is d o e =
     parts-are d f.0 f.1 ∙ ap (λ (ps : List Datum). structure (data_before ps no_data))
     (origin-parts-are f.0 o f.2)
 
-control-is : (a b c d e : Datum) (o : Control) → control_from_parts a b c d e ≡ Some o → (later : Data)
+control-is : (a b c d e : Datum) (o : Control) → control_from_parts a b c d e ≡ Some o
+    → (later : Data)
     → datum a (datum b (datum c (datum d (datum e later)))) ≡ control_before o later
 unfolding control_from_parts
 control-is a b c d e o is later =
@@ -162,7 +163,8 @@ unfolding cancel_from_data control_from_parts origin_from_data
 cancel-again d c is = rw is refl
 
 operate-again-at : (held : List ℕ) (o : Operate) → check_from_octets held ≡ Some o.check
-    → operate_from_data (structure (control_before o.control (datum (bits held 2) no_data))) ≡ Some o
+    → operate_from_data (structure (control_before o.control (datum (bits held 2) no_data)))
+    ≡ Some o
 unfolding operate_from_data control_from_parts origin_from_data
 operate-again-at held o e = rw e refl
 

@@ -176,7 +176,8 @@ are-ends names =
 
 -- ---- the page that is listed
 
-test-yes : (id size : ℕ) (names : List (List ℕ)) → page_length_with_id id (length (names_text names)) ≤ size
+test-yes : (id size : ℕ) (names : List (List ℕ))
+    → page_length_with_id id (length (names_text names)) ≤ size
     → fits id size names ≡ true
 test-yes id size names le =
     le-leb (length (page_text id names false)) size

@@ -104,7 +104,8 @@ names-some (v ∷ vs) count some = pick (has_count count (suc (length (map (λ w
 
 pub listing-some : (count : Option ℕ) (octets : List ℕ)
     → (each_in variable.reads octets ≡ Some [] → ⊥)
-    → has_no_names (form_result Bad (map_form (λ vs. requested_names count (variables vs)) (each variable))
+    → has_no_names (form_result Bad
+    (map_form (λ vs. requested_names count (variables vs)) (each variable))
     octets) ≡ false
 listing-some count octets some = pick (each_in variable.reads octets) refl
   where

@@ -137,7 +137,8 @@ abbrev pub names_from_parts : ℤ × (ObjectScope × (Option (List ℕ) × Unit 
 names_from_parts x = names x.0 x.1.0 x.1.1.0
 
 -- objectClass, objectScope, and continueAfter, which is optional
-unfoldable pub get_name_list_parts : Form (List Part) (ℤ × (ObjectScope × (Option (List ℕ) × Unit {0})))
+unfoldable pub get_name_list_parts
+    : Form (List Part) (ℤ × (ObjectScope × (Option (List ℕ) × Unit {0})))
 get_name_list_parts = value_then class_part (value_then scope_part (maybe (context 2) octets done))
 
 -- GetNameList-Request
@@ -240,7 +241,8 @@ leading_id = first_form (tagged (constructed 0) (first_form invoke_id))
 
 -- the result for a request that was read, or for none: then a bad PDU, with the invoke id if it can
 -- be read
-abbrev pub request_or_fault : Option ℕ → Option (Result MmsRequest Denial) → Result MmsRequest MmsFault
+abbrev pub request_or_fault : Option ℕ → Option (Result MmsRequest Denial)
+    → Result MmsRequest MmsFault
 request_or_fault known (Some (Ok message)) = Ok message
 request_or_fault known (Some (Err (unknown id))) = Err (fault.UnknownService id)
 request_or_fault known (Some (Err (many id))) = Err (fault.TooMany id)

@@ -8,8 +8,8 @@
 -- octets encode a request, a request for a service that is not served, one with too many variables,
 -- or none of these, with the invoke id if they begin with one.
 --
--- `RequestResults`: the request that some octets encode, or their fault. An allocation can fail only for a
--- read or a write that names a variable or has data.
+-- `RequestResults`: the request that some octets encode, or their fault. An allocation can fail
+-- only for a read or a write that names a variable or has data.
 --
 -- `Data`, `Types` and `Utc`: data and types of named variables as trees with their canonical texts,
 -- and the eight octets of a time. `Nodes`: the rows below a row of the tree, as data and as a type.

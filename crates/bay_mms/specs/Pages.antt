@@ -74,4 +74,5 @@ length_of_page id names = element_length (id + element_length (element_length na
 
 -- the number of octets of a response with this invoke id whose names take `names` octets
 abbrev pub page_length_with_id : ℕ → ℕ → ℕ
-page_length_with_id id names = length_of_page (element_length (length (integer_octets (pos id)))) names
+page_length_with_id id names =
+    length_of_page (element_length (length (integer_octets (pos id)))) names

@@ -18,13 +18,13 @@ use Rattle.bay_mms.specs.declared.fault.MmsFault.TheVariants.{BadPdu, UnknownSer
 -- whether the result has no names
 abbrev pub has_no_names : Result (List MmsName) Refusal → Bool
 has_no_names (Ok []) = true
-has_no_names form_result = false
+has_no_names other = false
 
 -- whether the service has no variables
 abbrev pub has_no_variables : Result ServiceRequest Refusal → Bool
 has_no_variables (Ok (read [])) = true
 has_no_variables (Ok (write [] [])) = true
-has_no_variables form_result = false
+has_no_variables other = false
 
 -- the unit, if the service makes the code build a list: it is a read or a write, other than a well
 -- encoded one without variables

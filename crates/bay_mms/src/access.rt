@@ -147,7 +147,8 @@ fn parse_variables<'a>(
     octets: &'a [u8],
 ) -> Result<Vec<ObjectName<'a>>, Refusal>
     ensures requested { ExactOr Refusal.OutOfMemory (λ v. map object_name_view v.items) result
-        (form_result Refusal.Bad (map_form (λ vs. requested_names count (variables vs)) (each variable))
+        (form_result Refusal.Bad
+        (map_form (λ vs. requested_names count (variables vs)) (each variable))
         octets.now) }
     ensures memory { IsErrOf result Refusal.OutOfMemory
         → has_no_names (form_result Refusal.Bad

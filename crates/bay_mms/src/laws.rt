@@ -36,7 +36,8 @@ pub fn written_is_read()
     ensures received { (datum : Datum) (depth : ℕ) → IsPlain datum
         → length (datum_text datum) < 4294967296 → depth_of datum ≤ depth
         → (datum_at depth).Spells (value (datum_tag datum) (datum_content datum)) datum }
-    ensures agreed { (agreed : AgreedLimits) → IsOneValue (initiate_response_text agreed) (constructed 9) }
+    ensures agreed { (agreed : AgreedLimits)
+        → IsOneValue (initiate_response_text agreed) (constructed 9) }
     ensures concluded { IsOneValue conclude_response_text (context 12) }
     ensures error { (id : ℕ) (class : ErrorClass)
         → IsOneValue (error_text id class) (constructed 2) }

@@ -126,7 +126,8 @@ fn service_with_id<'a>(
     ensures requested { ExactOr MmsFault.OutOfMemory request_view result
         (request_or_fault (leading_id.reads octets.now)
         ((try_map_form (request_with_id id) service_request).reads (part_of service.now))) }
-    ensures memory { IsErrOf result MmsFault.OutOfMemory → IsSome (needs_list (part_of service.now)) }
+    ensures memory { IsErrOf result MmsFault.OutOfMemory
+        → IsSome (needs_list (part_of service.now)) }
 {
     match service_from_value(alloc, service) {
         Ok(call) => Ok(Request::Confirmed { id, call }),
@@ -146,7 +147,8 @@ fn confirmed_from_parts<'a>(
 ) -> Result<Request<'a>, MmsFault>
     ensures requested { ExactOr MmsFault.OutOfMemory request_view result
         (request_or_fault (leading_id.reads octets.now)
-        ((try_map_form (λ x. request_with_id x.0 x.1.0) confirmed_parts).reads (map part_of parts.now))) }
+        ((try_map_form (λ x. request_with_id x.0 x.1.0) confirmed_parts).reads
+        (map part_of parts.now))) }
     ensures memory { IsErrOf result MmsFault.OutOfMemory
         → IsSome (list_service_parts.reads (map part_of parts.now)) }
 {
@@ -189,7 +191,8 @@ fn pdu_from_value<'a>(
 // Reads octets as a request.
 #[tactic(auto, unfolding(crate::specs::Grammar::request, crate::specs::Grammar::request_in))]
 fn parse_request<'a>(alloc: Global, octets: &'a [u8]) -> Result<Request<'a>, MmsFault>
-    ensures requested { ExactOr MmsFault.OutOfMemory request_view result (spec.request_in octets.now) }
+    ensures requested { ExactOr MmsFault.OutOfMemory request_view result
+        (spec.request_in octets.now) }
     ensures memory { IsErrOf result MmsFault.OutOfMemory
         → IsSome ((one list_service_pdu).reads octets.now) }
 {

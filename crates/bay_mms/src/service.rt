@@ -111,7 +111,8 @@ fn read_from_value<'a>(alloc: Global, value: &Value<'a>) -> Result<Call<'a>, Ref
         (form_result Refusal.Bad (map_form read_service (tagged (constructed 1) (one access)))
         (part_of value.now)) }
     ensures memory { IsErrOf result Refusal.OutOfMemory
-        → has_no_variables (form_result Refusal.Bad (map_form read_service (tagged (constructed 1) (one access)))
+        → has_no_variables (form_result Refusal.Bad
+        (map_form read_service (tagged (constructed 1) (one access)))
         (part_of value.now)) ≡ false }
 {
     let spec = inner_value(Tag::context_constructed(1), value).ok_or(Refusal::Bad)?;
@@ -123,7 +124,8 @@ fn read_from_value<'a>(alloc: Global, value: &Value<'a>) -> Result<Call<'a>, Ref
 #[tactic(auto, unfolding(crate::specs::Grammar::read_parts))]
 fn read_from_parts<'a>(alloc: Global, parts: &[Value<'a>]) -> Result<Call<'a>, Refusal>
     ensures requested { ExactOr Refusal.OutOfMemory call_view result
-        (form_result Refusal.Bad (map_form (λ x. read_service x.1.0) read_parts) (map part_of parts.now)) }
+        (form_result Refusal.Bad (map_form (λ x. read_service x.1.0) read_parts)
+        (map part_of parts.now)) }
     ensures memory { IsErrOf result Refusal.OutOfMemory
         → has_no_variables (form_result Refusal.Bad (map_form (λ x. read_service x.1.0) read_parts)
         (map part_of parts.now)) ≡ false }
@@ -161,7 +163,8 @@ fn write_from_parts<'a>(alloc: Global, parts: &[Value<'a>]) -> Result<Call<'a>, 
     ensures requested { ExactOr Refusal.OutOfMemory call_view result
         (form_result Refusal.Bad (map_form write_service write_parts) (map part_of parts.now)) }
     ensures memory { IsErrOf result Refusal.OutOfMemory
-        → has_no_variables (form_result Refusal.Bad (map_form write_service write_parts) (map part_of parts.now))
+        → has_no_variables (form_result Refusal.Bad (map_form write_service write_parts)
+        (map part_of parts.now))
         ≡ false }
 {
     match parts {

@@ -51,7 +51,8 @@ fn unsigned_from_data(given: &Data<'_>) -> Option<i64>
 
 // Returns the octets if the data are an octet string.
 fn octets_from_data<'a>(given: &Data<'a>) -> Option<&'a [u8]>
-    ensures { option_map (λ octets. octets.now) result ≡ spec.octets_from_data (datum_of given.now) }
+    ensures { option_map (λ octets. octets.now) result
+        ≡ spec.octets_from_data (datum_of given.now) }
 {
     match given {
         Data::Octets(value) => Some(value),
@@ -91,7 +92,8 @@ fn check_from_data(given: &Data<'_>) -> Option<Check>
 
 // Returns the components if the data are a structure.
 fn parts_from_data<'b, 'a>(given: &'b Data<'a>) -> Option<&'b [Data<'a>]>
-    ensures { option_map (λ parts. data_in parts.now) result ≡ spec.parts_from_data (datum_of given.now) }
+    ensures { option_map (λ parts. data_in parts.now) result
+        ≡ spec.parts_from_data (datum_of given.now) }
 {
     match given {
         Data::Structure(parts) => Some(parts.as_slice()),
@@ -157,7 +159,9 @@ fn cancel_from_parts<'a>(parts: &[Data<'a>]) -> Option<Shape<'a>>
     ensures { option_map shape_view result ≡ spec.cancel_from_parts (data_in parts.now) }
 {
     match parts {
-        [value, origin, number, moment, test] => control_from_parts(value, origin, number, moment, test),
+        [value, origin, number, moment, test] => control_from_parts(
+            value, origin, number, moment, test,
+        ),
         _ => None,
     }
 }

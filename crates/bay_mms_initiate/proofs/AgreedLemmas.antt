@@ -73,5 +73,6 @@ agreed_short a =
       detail-short a.parameters,
     )
 
-pub agreed_within : (a : AgreedLimits) → text_within_limit 200 (initiate_response_text a) ≡ Some (initiate_response_text a)
+pub agreed_within : (a : AgreedLimits)
+    → text_within_limit 200 (initiate_response_text a) ≡ Some (initiate_response_text a)
 agreed_within a = fits 200 (initiate_response_text a) (agreed_short a)

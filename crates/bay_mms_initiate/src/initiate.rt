@@ -161,7 +161,8 @@ fn proposal_from_parts(size: Option<i64>, parts: &[Value<'_>]) -> Option<Proposa
 // Reads the values of an initiate as a proposal.
 #[tactic(auto, unfolding(crate::specs::Initiate::proposal_parts))]
 fn initiate_from_parts(parts: &[Value<'_>]) -> Option<Proposal>
-    ensures { result ≡ option_map proposal_from_fields (proposal_parts.reads (map part_of parts.now)) }
+    ensures { result ≡ option_map proposal_from_fields
+        (proposal_parts.reads (map part_of parts.now)) }
 {
     match parts {
         [size, parts @ ..] if size.tag.is(Tag::context(0)) => {

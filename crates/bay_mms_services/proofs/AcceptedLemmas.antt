@@ -226,7 +226,8 @@ module _ (c : ClientContext) (b : Bay) (small : c.size ≤ 65000) where
       (λ k item o. decided-are k SelectWith item o.control
       (select_with_outcome c.association k (control_request_of o) c.now w.controls) w all)
       (λ k item o. decided-are k Operate item o.control
-      (operate_outcome c.association k (control_request_of o) (decision_view c k b) c.now w.controls) w
+      (operate_outcome c.association k (control_request_of o) (decision_view c k b) c.now
+      w.controls) w
       all)
       (λ k item control. decided-are k Cancel item control
       (cancel_outcome c.association k c.now w.controls) w all)
@@ -296,7 +297,8 @@ module _ (c : ClientContext) (small : c.size ≤ 65000) (n b : Bay) (alike : Are
     response = error_text id Resource;
     is = refl;
     stands = refl;
-    told = ap (λ (o : Option (List Part)). observed_in_read c.now c.association n ns (unwrap_or o []))
+    told = ap (λ (o : Option (List Part)). observed_in_read c.now c.association n ns
+        (unwrap_or o []))
         (no-read id) ∙ none-read c.now c.association n ns;
   }
 
@@ -402,7 +404,8 @@ response-tells c pdu n b later small alike =
     let first : first_response (request_may_report (request_in pdu))
     ((pdu_answer c pdu b).sent ++ later)
     ≡ (t.response, later) =
-    ap (λ (sent : List (List ℕ)). first_response (request_may_report (request_in pdu)) (sent ++ later))
+    ap (λ (sent : List (List ℕ)). first_response (request_may_report (request_in pdu))
+    (sent ++ later))
     t.is
     ∙ first-is (request_may_report (request_in pdu)) t.reports later t.response t.stands in (
       ap (λ (r : (List ℕ) × List (List ℕ)). observed_in_pdu c.now c.association pdu n r.0) first

@@ -44,7 +44,8 @@ module _ (c : ClientContext) (b : Bay) (opens : ℕ → Bool) (is_open : opens c
     read-leads [] r = none-leads opens r.controls
     read-leads (name ∷ ns) r =
         let next : ReadState = read_one c b name r in
-        two-lead (entries_on_call c r.controls (call_of_read c (target_of_row b (row_named b name))))
+        two-lead (entries_on_call c r.controls
+        (call_of_read c (target_of_row b (row_named b name))))
         (read_entries c b ns next) opens opens opens
         r.controls next.controls (read_all c b ns next).controls
         (read-row-leads r (row_named b name)) (read-leads ns next)
@@ -62,7 +63,8 @@ module _ (c : ClientContext) (b : Bay) (opens : ℕ → Bool) (is_open : opens c
         (λ k item o. one-leads (call.SelectWith c.association k (control_request_of o)) c.now opens
         opens
         w.controls is_open (λ a. refl))
-        (λ k item o. one-leads (call.Operate c.association k (control_request_of o) (decision_view c k b))
+        (λ k item o. one-leads (call.Operate c.association k (control_request_of o)
+        (decision_view c k b))
         c.now opens
         opens w.controls is_open (λ a. refl))
         (λ k item control. one-leads (call.Cancel c.association k) c.now opens opens w.controls
@@ -90,7 +92,8 @@ module _ (c : ClientContext) (b : Bay) (opens : ℕ → Bool) (is_open : opens c
 
 pub request-leads : (c : ClientContext) (pdu : List ℕ) (b : Bay) (opens : ℕ → Bool)
     → opens c.association ≡ true
-    → LeadsControls (entries_on_pdu c pdu b) opens b.controls opens (pdu_answer c pdu b).after.controls
+    → LeadsControls (entries_on_pdu c pdu b) opens b.controls opens
+    (pdu_answer c pdu b).after.controls
 request-leads c pdu b opens is_open = message-leads c b opens is_open (request_in pdu)
 
 -- no request changes the values of the inputs

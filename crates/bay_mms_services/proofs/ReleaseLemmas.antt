@@ -48,7 +48,8 @@ lasting-if now controls x e false is h =
 pub lasting : (now : ℕ) (controls : List SwitchControl) (o : Option Execution) (e : Execution)
     → execution_at now controls o ≡ Some e → execution_at now controls (Some e) ≡ Some e
 lasting now controls None e h = absurd (cc)
-lasting now controls (Some x) e h = lasting-if now controls x e (is_expired_at now controls x) refl h
+lasting now controls (Some x) e h =
+    lasting-if now controls x e (is_expired_at now controls x) refl h
 
 -- no row of an answer that accepts refuses
 row-passed : (refuses : Bool) (cause : AddCause) (rest : Result (Unit {0}) AddCause)
@@ -174,7 +175,8 @@ sole-still now commands s t same busy sole =
     }
 
 -- an operate lasts beyond its moment
-starting : (now k : ℕ) (operation : Operation) (controls : List SwitchControl) → HaveTravelTime controls
+starting : (now k : ℕ) (operation : Operation) (controls : List SwitchControl)
+    → HaveTravelTime controls
     → is_controlled (control_of controls k).model ≡ true
     → execution_at now controls (Some (record { switch = k; start = now; operation = operation }))
     ≡ Some (record { switch = k; start = now; operation = operation })
@@ -194,7 +196,8 @@ pub leaves-with : (now : ℕ) (b : Bay) (x : State) → Busies now b.controls x
     → ChangesNoValue now b (with_controls x b)
 leaves-with now b x busy = record { rows = refl; busy = busy }
 
-pub leaves-then : (now : ℕ) (b d e : Bay) → ChangesNoValue now b d → ChangesNoValue now d e → ChangesNoValue now b e
+pub leaves-then : (now : ℕ) (b d e : Bay) → ChangesNoValue now b d → ChangesNoValue now d e
+    → ChangesNoValue now b e
 leaves-then now b d e p q =
     record { rows = q.rows ∙ p.rows; busy = λ x h. q.busy x (p.busy x h) }
 
@@ -293,7 +296,8 @@ module _ (c : ClientContext) (b : Bay) (s : State) (k : ℕ) (o : asked.Operate)
   unfolding outcome
   single-operated (Ok done) timed is =
       let seen =
-      saw c.association k (control_request_of o) (decision_view c k b) (controls_at c.now s) (ap is_ok is)
+      saw c.association k (control_request_of o) (decision_view c k b) (controls_at c.now s)
+      (ap is_ok is)
       in
       let e : Execution =
       record { switch = k; start = c.now; operation = operation_of o.control.ctl_val } in
@@ -351,7 +355,8 @@ kept-operate c b k item w o kept =
           };
     }
 
-kept-row : (c : ClientContext) (b : Bay) (given : Datum) (w : WriteState) (row : Option ℕ) → Kept c b w
+kept-row : (c : ClientContext) (b : Bay) (given : Datum) (w : WriteState) (row : Option ℕ)
+    → Kept c b w
     → Kept c b (write_row c b given w row)
 kept-row c b given w row kept =
     write-by c b w (λ asks asked next. Kept c b next)
@@ -416,7 +421,8 @@ pub commands-each : (c : ClientContext) (pdu : List ℕ) (b : Bay)
     → AllByRecursion (IsReleased c b) (pdu_answer c pdu b).commands
 commands-each c pdu b = (does-answer c b (request_in pdu)).released
 
-pub commands-sole : (c : ClientContext) (pdu : List ℕ) (b : Bay) → HaveTravelTime b.controls.controls
+pub commands-sole : (c : ClientContext) (pdu : List ℕ) (b : Bay)
+    → HaveTravelTime b.controls.controls
     → Sole c.now (pdu_answer c pdu b).commands (pdu_answer c pdu b).after.controls
 commands-sole c pdu b timed = (does-answer c b (request_in pdu)).sole timed
 

@@ -113,7 +113,8 @@ answer_response-fits c id b pdu found was is some =
 pub responded-over : (c : ClientContext) (id : ℕ) (b : Bay) (pdu : List ℕ) (was : Option (List ℕ))
     → was ≡ pdu_within_size c.size pdu → was ≡ None
     → response_answer c id b pdu ≡ plain_answer (error_text id Resource) b
-answer_response-over c id b pdu was is none = within-over c id b pdu (plain_answer pdu b) (sym is ∙ none)
+answer_response-over c id b pdu was is none =
+    within-over c id b pdu (plain_answer pdu b) (sym is ∙ none)
 
 pub read-fits : (c : ClientContext) (id : ℕ) (b : Bay) (r : ReadState) (found : List ℕ)
     (was : Option (List ℕ)) → was ≡ pdu_within_size c.size (read_text id r.results)
@@ -232,7 +233,8 @@ pub all_three : (r : Result (Unit {0}) AllocError) (P Q S R : Type 0) → OnOk r
 all_three (Ok done) P Q S R p q s f = f p q s
 all_three (Err e) P Q S R p q s f = tt
 
-pub answered_from : (r : Result PduAnswer AllocError) (x : Bay → AnswerData) (b : Bay) (y : AnswerData)
+pub answered_from : (r : Result PduAnswer AllocError) (x : Bay → AnswerData) (b : Bay)
+    (y : AnswerData)
     → IfOk r (λ a. (d : Bay) → AnswersAs a d.controls d (x d)) → y ≡ x b
     → IfOk r (λ a. AnswersAs a b.controls b y)
 answered_from (Ok a) x b y told is = subst (AnswersAs a b.controls b) (sym is) (told b)

@@ -80,7 +80,8 @@ endings-if c item o b true most = ending-short c item o b most
 accepted_termination-if c item o b false most = tt
 
 endings-short : (c : ClientContext) (k : ℕ) (item : List ℕ) (o : asked.Operate) (b : Bay)
-    (answer : Result (Unit {0}) AddCause) → c.size ≤ 65000 → IsShort (accepted_termination c k item o b answer)
+    (answer : Result (Unit {0}) AddCause) → c.size ≤ 65000
+    → IsShort (accepted_termination c k item o b answer)
 endings-short c k item o b (Ok done) most = endings-if c item o b (has_reports b k) most
 accepted_termination-short c k item o b (Err why) most = tt
 
@@ -107,7 +108,8 @@ module _ (c : ClientContext) (b : Bay) (most : c.size ≤ 65000) where
       → IsFit w → IsFit (write_operate c b k item w (Ok o))
   operate-short k item w o short =
       let out =
-      operate_outcome c.association k (control_request_of o) (decision_view c k b) c.now w.controls in (
+      operate_outcome c.association k (control_request_of o) (decision_view c k b) c.now w.controls
+      in (
         (decided-short k Operate item o.control out w short).0,
         later-short w.termination (accepted_termination c k item o b out.answer) short.1
             (endings-short c k item o b out.answer most),

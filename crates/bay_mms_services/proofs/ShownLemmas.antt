@@ -45,7 +45,8 @@ swap-if false true r a b x y here there apart = rw (here, there) refl
 swap-if false false r a b x y here there apart = rw (here, there) refl
 
 swapped : (rows : List Row) (a b : List ℕ) (x y : Leaf) → (bytes_eq b a ≡ true → x ≡ y)
-    → with_leaf_named a x (with_leaf_named b y rows) ≡ with_leaf_named b y (with_leaf_named a x rows)
+    → with_leaf_named a x (with_leaf_named b y rows)
+    ≡ with_leaf_named b y (with_leaf_named a x rows)
 swapped [] a b x y apart = refl
 swapped (r ∷ rows) a b x y apart =
     let first = swap-if (bytes_eq r.name a) (bytes_eq r.name b) r a b x y refl refl apart in
@@ -78,7 +79,8 @@ twice (r ∷ rows) name value =
     ∙ ap (λ rs. written (bytes_eq r.name name) value r ∷ rs) (twice rows name value)
 
 -- a tree in which none was written shows none
-shows-none : (count : ℕ) (rows : List Row) → ShowNoSelection count (rows_with_selection None count rows)
+shows-none : (count : ℕ) (rows : List Row)
+    → ShowNoSelection count (rows_with_selection None count rows)
 shows-none zero rows k low = absurd (omega (arith, low))
 shows-none (suc n) rows k low =
     let off = leaf.Truth false in
@@ -134,7 +136,8 @@ pub seen-none : (count : ℕ) (rows : List Row) → ShowNoSelection count rows
 seen-none count rows none = unmarked None count rows (λ k low. refl) none
 
 -- else with TRUE for the one that is selected
-pub seen-one : (k count : ℕ) (rows : List Row) → count < 2 ^ 64 → k < count → ShowNoSelection count rows
+pub seen-one : (k count : ℕ) (rows : List Row) → count < 2 ^ 64 → k < count
+    → ShowNoSelection count rows
     → rows_with_selection (Some k) count rows
     ≡ with_leaf_named ((control_names k).selected) (leaf.Truth true) rows
 seen-one k zero rows few low none = absurd (omega (arith, low))
@@ -151,7 +154,8 @@ seen-one k (suc n) rows few low none =
           ∙ swapped rows name ((control_names k).selected) (leaf.Truth false) (leaf.Truth true)
           (λ is. absurd (names-differ k n (omega (arith, few, less)) (omega (arith, few))
           (λ e. omega (arith, e, less)) is))
-          ∙ ap (with_leaf_named ((control_names k).selected) (leaf.Truth true)) (none n (omega arith))
+          ∙ ap (with_leaf_named ((control_names k).selected) (leaf.Truth true))
+          (none n (omega arith))
       | inr more ↦
           let same : k ≡ n = omega (arith, low, more) in
           ap (with_leaf_named name (leaf.Truth (k == n)))
@@ -248,7 +252,8 @@ marked-if controls rows k (Some own) here tree are few none =
     ∙ sym (seen-one k (length controls) rows few (slice_get_within controls k own here) none)
 
 pub marked-seen : (controls : List ControlRows) (rows : List Row) (o : Option ℕ) → IsTree rows
-    → AreAllControlRows rows controls → length controls < 2 ^ 64 → ShowNoSelection (length controls) rows
+    → AreAllControlRows rows controls → length controls < 2 ^ 64
+    → ShowNoSelection (length controls) rows
     → rows_marked (marked_row controls o) rows ≡ rows_with_selection o (length controls) rows
 marked-seen controls rows None tree are few none = sym (seen-none (length controls) rows none)
 marked-seen controls rows (Some k) tree are few none =

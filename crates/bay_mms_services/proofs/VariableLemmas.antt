@@ -50,7 +50,8 @@ row-alike b d (domain e item) alike =
     (place_of-same d.rows b.rows item alike.names)
 row-alike b d (association name) alike = refl
 
-target-alike : (b d : Bay) (row : Option ℕ) → AreNamedAlike b d → target_of_row d row ≡ target_of_row b row
+target-alike : (b d : Bay) (row : Option ℕ) → AreNamedAlike b d
+    → target_of_row d row ≡ target_of_row b row
 target-alike b d None alike = refl
 target-alike b d (Some place) alike =
     ap (λ (switches : List Switch). target_of (length switches) (name_at d.rows place))
@@ -228,7 +229,8 @@ AllRead c n b ns r =
     AllTold (observed_in_read c.now c.association n ns) (read_entries c b ns r) r.results
     (read_all c b ns r).results
 
-pub all-read : (c : ClientContext) (n b : Bay) (ns : List MmsName) (r : ReadState) → AreNamedAlike n b
+pub all-read : (c : ClientContext) (n b : Bay) (ns : List MmsName) (r : ReadState)
+    → AreNamedAlike n b
     → AllRead c n b ns r
 all-read c n b [] r alike = none-told _ r.results refl
 all-read c n b (name ∷ ns) r alike =

@@ -21,7 +21,8 @@ there switches lent k d is within =
 
 pub seen-position : (switches : List BoundSwitch) (rows : List Row) (k : ℕ) (bound : BoundSwitch)
     (p : Dbpos) → slice_get switches k ≡ Some bound
-    → switch_names_in (layout_of rows) bound.rows ≡ switch_names (switches_of switches) k bound.switch
+    → switch_names_in (layout_of rows) bound.rows
+    ≡ switch_names (switches_of switches) k bound.switch
     → leaf_named (row_name_in (layout_of rows) bound.rows.position.value) rows ≡ Some (leaf.Dbpos p)
     → p ≡ dbpos_of (position_leaf (switches_of switches) rows k
     (slice_get (switches_of switches) k))

@@ -25,7 +25,8 @@ pub put-down : (c : ClientContext) (b : Bay) (k : ℕ) (part : ControlPart) (ite
     → after ≡ o.after → answer ≡ o.answer → given ≡ control
     → results ≡ w.results ++ decision_result answer
     → reports ≡ w.reports ++ refusal_reports c k item given b answer → commands ≡ w.commands
-    → decisions ≡ w.decisions ++ written_decision c k part given answer ∷ [] → termination ≡ w.termination
+    → decisions ≡ w.decisions ++ written_decision c k part given answer ∷ []
+    → termination ≡ w.termination
     → record {
       controls = after;
       results = results;

@@ -147,9 +147,11 @@ termination_reports c item o b = record {
 }
 
 -- the reports for the end of an accepted operate, if the switch has enhanced security
-abbrev pub accepted_termination : ClientContext → ℕ → List ℕ → Operate → Bay → Result (Unit {0}) AddCause
+abbrev pub accepted_termination : ClientContext → ℕ → List ℕ → Operate → Bay
+    → Result (Unit {0}) AddCause
     → Option TerminationReports
-accepted_termination c k item o b (Ok done) = if has_reports b k then Some (termination_reports c item o b) else None
+accepted_termination c k item o b (Ok done) =
+    if has_reports b k then Some (termination_reports c item o b) else None
 accepted_termination c k item o b (Err why) = None
 
 -- The reports for the end of an operate have at most 65,000 octets, like every PDU of MMS that is

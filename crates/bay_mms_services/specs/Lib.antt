@@ -13,8 +13,8 @@
 -- Cancel as a whole; 7 and 11 for data of another shape or out of range; 3 for a refused request.
 -- `Names`: lists of names. `Replies`: whether a PDU fits.
 --
--- `Rows`, `Targets` and `RowParts`: the row and the control that a name denotes. `Controls`: the view
--- of a switch on which a decision depends, from the rows of the tree, and the reports: with
+-- `Rows`, `Targets` and `RowParts`: the row and the control that a name denotes. `Controls`: the
+-- view of a switch on which a decision depends, from the rows of the tree, and the reports: with
 -- enhanced security a report of a refusal precedes the response, and an accepted operate has two
 -- reports for its end. A report that is too long is left out.
 --

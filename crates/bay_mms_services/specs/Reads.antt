@@ -51,7 +51,8 @@ read_after_value b place r =
 -- a read after a variable that is a part of a control
 abbrev pub read_part : ClientContext → Bay → ℕ → ReadState → ℕ → ControlPart → ReadState
 read_part c b place r k Select =
-    read_after_select c b k (name_at b.rows place) r (select_outcome c.association k c.now r.controls)
+    read_after_select c b k (name_at b.rows place) r
+    (select_outcome c.association k c.now r.controls)
 read_part c b place r k SelectWith = read_after_value b place r
 read_part c b place r k Operate = read_after_value b place r
 read_part c b place r k Cancel = read_after_value b place r

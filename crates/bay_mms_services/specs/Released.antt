@@ -25,7 +25,8 @@ pub record IsReleased (c : ClientContext) (b : Bay) (command : Command) : Type 0
   pub heard : c.lost ≡ false
   pub remote : is_local (control_of b.controls.controls command.switch).key b.inputs ≡ false
   pub fresh : c.fresh ≡ true
-  pub enabled : is_truth true (leaf_named (enable_name command.switch command.operation) b.rows) ≡ true
+  pub enabled : is_truth true (leaf_named (enable_name command.switch command.operation) b.rows)
+      ≡ true
   pub idle : (controls_at c.now b.controls).execution ≡ None
 
 -- A client changes no value of the tree, and no execution that has not expired.

@@ -24,7 +24,8 @@ part_of_row rows place =
     else None
 
 -- the rows of the switch at index k have its names and their types
-pub record IsBoundByName (layout : Layout) (switches : List BoundSwitch) (k : ℕ) (bound : BoundSwitch)
+pub record IsBoundByName (layout : Layout) (switches : List BoundSwitch) (k : ℕ)
+    (bound : BoundSwitch)
     : Type 0 where
   pub named : switch_names_in layout bound.rows ≡ switch_names (switches_of switches) k bound.switch
   pub leaf_typed : AreSwitchRows layout bound.rows

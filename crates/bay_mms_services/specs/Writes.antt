@@ -66,7 +66,8 @@ after_decision c b k part item control o w = record w {
 
 -- an accepted operate is one command
 abbrev pub operate_commands : ℕ → asked.Operate → Result (Unit {0}) AddCause → List Command
-operate_commands k o (Ok done) = record { switch = k; operation = operation_of o.control.ctl_val } ∷ []
+operate_commands k o (Ok done) =
+    record { switch = k; operation = operation_of o.control.ctl_val } ∷ []
 operate_commands k o (Err why) = []
 
 -- the reports for the end of an operate; later ones replace earlier ones
@@ -99,7 +100,8 @@ abbrev pub write_operate : ClientContext → Bay → ℕ → List ℕ → WriteS
 write_operate c b k item w (Err error) = write_after_error error w
 write_operate c b k item w (Ok o) =
     after_operate c b k item o
-    (operate_outcome c.association k (control_request_of o) (decision_view c k b) c.now w.controls) w
+    (operate_outcome c.association k (control_request_of o) (decision_view c k b) c.now w.controls)
+    w
 
 -- a write after a variable that is Cancel, or the error of its data
 abbrev pub write_cancel : ClientContext → Bay → ℕ → List ℕ → WriteState
@@ -110,14 +112,16 @@ write_cancel c b k item w (Ok control) =
     after_decision c b k Cancel item control (cancel_outcome c.association k c.now w.controls) w
 
 -- a write to a part of a control; SBO can only be read
-abbrev pub write_part : ClientContext → Bay → ℕ → List ℕ → Datum → WriteState → ControlPart → WriteState
+abbrev pub write_part : ClientContext → Bay → ℕ → List ℕ → Datum → WriteState → ControlPart
+    → WriteState
 write_part c b k item given w Select = write_after_error ObjectAccessDenied w
 write_part c b k item given w SelectWith = write_select_with c b k item w (operate_or_error given)
 write_part c b k item given w Operate = write_operate c b k item w (operate_or_error given)
 write_part c b k item given w Cancel = write_cancel c b k item w (cancel_or_error given)
 
 -- a write after a variable that exists, by its target; it must be a part of a control
-abbrev pub write_target : ClientContext → Bay → List ℕ → Datum → WriteState → Option Target → WriteState
+abbrev pub write_target : ClientContext → Bay → List ℕ → Datum → WriteState → Option Target
+    → WriteState
 write_target c b item given w None = write_after_error ObjectAccessDenied w
 write_target c b item given w (Some t) = write_part c b t.switch item given w t.part
 

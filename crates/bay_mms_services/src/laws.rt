@@ -47,7 +47,8 @@ pub fn commands_are_released()
         → (pdu_answer c pdu b).commands ≡ operates_in (entries_on_pdu c pdu b) }
     ensures released { (c : ClientContext) (pdu : List ℕ) (b : Bay)
         → All (IsReleased c b) (pdu_answer c pdu b).commands }
-    ensures single { (c : ClientContext) (pdu : List ℕ) (b : Bay) → HaveTravelTime b.controls.controls
+    ensures single { (c : ClientContext) (pdu : List ℕ) (b : Bay)
+        → HaveTravelTime b.controls.controls
         → length (pdu_answer c pdu b).commands ≤ 1 }
     ensures leaves { (c : ClientContext) (pdu : List ℕ) (b : Bay)
         → ChangesNoValue c.now b (pdu_answer c pdu b).after }
@@ -58,7 +59,8 @@ pub fn commands_are_released()
 pub fn requests_lead()
     ensures { (c : ClientContext) (pdu : List ℕ) (b : Bay) (opens : ℕ → Bool)
         → opens c.association ≡ true
-        → LeadsControls (entries_on_pdu c pdu b) opens b.controls opens (pdu_answer c pdu b).after.controls }
+        → LeadsControls (entries_on_pdu c pdu b) opens b.controls opens
+        (pdu_answer c pdu b).after.controls }
 {}
 
 /// The octets of a PDU and of its response, with the names of a bay's variables, determine the
@@ -70,8 +72,10 @@ pub fn answers_show_decisions()
         → c.size ≤ longest_pdu
         → AreNamedAlike named b
         → (observed_in_pdu c.now c.association pdu named
-        (first_response (request_may_report (request_in pdu)) ((pdu_answer c pdu b).sent ++ later)).0
+        (first_response (request_may_report (request_in pdu))
+        ((pdu_answer c pdu b).sent ++ later)).0
         ≡ entries_on_pdu c pdu b)
-        × ((first_response (request_may_report (request_in pdu)) ((pdu_answer c pdu b).sent ++ later)).1
+        × ((first_response (request_may_report (request_in pdu))
+        ((pdu_answer c pdu b).sent ++ later)).1
         ≡ later) }
 {}

@@ -109,7 +109,10 @@ fn answer_fault(alloc: Global, fault: MmsFault) -> Result<PduAnswer, AllocError>
 impl Invocation<'_> {
     // Returns the answer with a response, with no effect; with an error if the response has more
     // octets than agreed.
-    fn answer_response(&self, response: Result<Outgoing, EncodeFault>) -> Result<PduAnswer, AllocError>
+    fn answer_response(
+        &self,
+        response: Result<Outgoing, EncodeFault>,
+    ) -> Result<PduAnswer, AllocError>
         ensures { (pdu : List ℕ) (b : Bay)
             → ExactOr EncodeFault.OutOfMemory (λ octets. octets) response
             (text_within self.now.client.size pdu)

@@ -72,7 +72,10 @@ impl Readiness {
     }
 
     /// Registers a listener, whose token is its index.
-    pub(crate) fn add_listener(&mut self, listener: &TcpListener) -> io::Result<Rc<ListenerState, Global>> {
+    pub(crate) fn add_listener(
+        &mut self,
+        listener: &TcpListener,
+    ) -> io::Result<Rc<ListenerState, Global>> {
         let descriptor = listener.as_raw_fd();
         let token = Token(self.listeners.len());
         let registry = self.poll.registry();

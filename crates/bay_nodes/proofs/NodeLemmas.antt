@@ -40,7 +40,8 @@ device-appended n old device physical d p =
 
 -- groups of rows that are appended one after another
 pub two-groups : (node : List ℕ) (old a b : List Row)
-    → (old ++ map (row_of_node node) a) ++ map (row_of_node node) b ≡ old ++ map (row_of_node node) (a ++ b)
+    → (old ++ map (row_of_node node) a) ++ map (row_of_node node) b
+    ≡ old ++ map (row_of_node node) (a ++ b)
 two-groups node old a b = simp (append_assoc, map-append)
 
 pub four-groups : (node : List ℕ) (old a b c d : List Row)
@@ -50,7 +51,8 @@ four-groups node old a b c d = simp (append_assoc, map-append)
 
 -- and behind a node's own row
 node-groups : (node : List ℕ) (old a b c d : List Row)
-    → ((((old ++ row (node ++ []) None ∷ []) ++ map (row_of_node node) a) ++ map (row_of_node node) b)
+    → ((((old ++ row (node ++ []) None ∷ []) ++ map (row_of_node node) a)
+    ++ map (row_of_node node) b)
     ++ map (row_of_node node) c) ++ map (row_of_node node) d
     ≡ old ++ row node None ∷ map (row_of_node node) (a ++ (b ++ (c ++ d)))
 node-groups node old a b c d = simp (append_assoc, append-nil, map-append)
@@ -83,7 +85,8 @@ configuration control timeout =
 -- what is appended for a control makes its node
 control-appended : (old : List Row) (node : List ℕ) (control : Control) (timeout : ℕ)
     → ((((old ++ row (node ++ []) None ∷ []) ++ map (row_of_node node) control_group)
-    ++ map (row_of_node node) (command_rows control)) ++ map (row_of_node node) (control_model control))
+    ++ map (row_of_node node) (command_rows control))
+    ++ map (row_of_node node) (control_model control))
     ++ row (node ++ codes "$CF$Pos$sboTimeout") (Some (Unsigned32 timeout)) ∷ []
     ≡ old ++ node_rows (record { name = node; parts = control_parts control timeout })
 control-appended old node control timeout =

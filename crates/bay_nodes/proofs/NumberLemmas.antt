@@ -159,7 +159,8 @@ class-other Earthing h = refl
 breakers-class : (ss : List Switch)
     → AllByRecursion (λ s. class_of s.kind ≡ codes "XCBR") (filter (is_in_group true) ss)
 breakers-class ss =
-    weaker (λ (s : Switch). is_in_group true s ≡ true) (λ (s : Switch). class_of s.kind ≡ codes "XCBR")
+    weaker (λ (s : Switch). is_in_group true s ≡ true)
+    (λ (s : Switch). class_of s.kind ≡ codes "XCBR")
     (filter (is_in_group true) ss) (λ s h. class-breaker s.kind h)
     (recursion_from_All (λ (s : Switch). is_in_group true s ≡ true) (filter (is_in_group true) ss)
     (filter_passes (is_in_group true) ss))
@@ -167,7 +168,8 @@ breakers-class ss =
 others-class : (ss : List Switch)
     → AllByRecursion (λ s. class_of s.kind ≡ codes "XSWI") (filter (is_in_group false) ss)
 others-class ss =
-    weaker (λ (s : Switch). is_in_group false s ≡ true) (λ (s : Switch). class_of s.kind ≡ codes "XSWI")
+    weaker (λ (s : Switch). is_in_group false s ≡ true)
+    (λ (s : Switch). class_of s.kind ≡ codes "XSWI")
     (filter (is_in_group false) ss) (λ s h. class-other s.kind h)
     (recursion_from_All (λ (s : Switch). is_in_group false s ≡ true) (filter (is_in_group false) ss)
     (filter_passes (is_in_group false) ss))
@@ -286,7 +288,8 @@ nodes-good n ss ms few fewer =
     let positions =
     both IsGood (position_nodes true ss)
     (position_nodes false ss ++ (control_nodes ss ++ (interlocking_nodes ss ++ meter_nodes ms)))
-    (good-numbered position_node good-position 1 (filter (is_in_group true) ss) (omega arith)) others
+    (good-numbered position_node good-position 1 (filter (is_in_group true) ss) (omega arith))
+    others
     in
     (good-device n, (good-physical n, positions))
 
@@ -295,8 +298,10 @@ names-nodes : (n : Nameplate) (ss : List Switch) (ms : List (List ℕ))
     ≡ codes "LLN0" ∷ codes "LPHD1" ∷ flat_map family_names (families_of ss ms)
 names-nodes n ss ms =
     let name : Node → List ℕ = λ node. node.name in
-    let breakers = names-positions (codes "XCBR") 1 (filter (is_in_group true) ss) (breakers-class ss) in
-    let others = names-positions (codes "XSWI") 1 (filter (is_in_group false) ss) (others-class ss) in
+    let breakers =
+    names-positions (codes "XCBR") 1 (filter (is_in_group true) ss) (breakers-class ss) in
+    let others =
+    names-positions (codes "XSWI") 1 (filter (is_in_group false) ss) (others-class ss) in
     let controls = names-numbered (codes "CSWI") control_node (λ n t. refl) 1 ss in
     let interlockings = names-numbered (codes "CILO") interlocking_node (λ n t. refl) 1 ss in
     let meters = names-numbered (codes "MMXU") meter_node (λ n t. refl) 1 ms in

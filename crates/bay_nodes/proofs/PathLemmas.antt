@@ -113,12 +113,14 @@ found-under node earlier done p h =
     let long : length (earlier ++ map (row_of_node node) done)
     ≡ length earlier + length (map (row_of_node node) done) =
     length-append earlier (map (row_of_node node) done) in
-    let same : length (map (row_of_node node) done) ≡ length done = length-map done (row_of_node node) in (
+    let same : length (map (row_of_node node) done) ≡ length done =
+    length-map done (row_of_node node) in (
       length earlier + w.0,
       row_of_node node w.1,
       omega (arith, w.2),
       get_or-append-add earlier (map (row_of_node node) done) w.0 (row_of_node node w.1)
-          ∙ get_or-map (row_of_node node) done w.0 w.1 (row_of_node node w.1) w.2 ∙ ap (row_of_node node) w.3,
+          ∙ get_or-map (row_of_node node) done w.0 w.1 (row_of_node node w.1) w.2
+          ∙ ap (row_of_node node) w.3,
       record { named = ap (λ n. node ++ n) w.4.named; structure = w.4.structure },
     )
 
@@ -164,12 +166,14 @@ IsApart earlier node = AllByRecursion (λ o. head_of o.name ≢ node) earlier
 
 row-follows : (node : List ℕ) (earlier done : List Row) (r : Row) → IsPlain node
     → IsApart earlier node → is_among (map (λ q. q.name) done) r.name ≡ false
-    → parent_stands done r.name ≡ true → CanFollow (earlier ++ map (row_of_node node) done) (row_of_node node r)
+    → parent_stands done r.name ≡ true
+    → CanFollow (earlier ++ map (row_of_node node) done) (row_of_node node r)
 row-follows node earlier done r plain apart new parent =
     let head : head_of (node ++ r.name) ≡ node =
     head-word node r.name plain (path-stands done r.name parent) in
     record {
-      distinct = All-append (λ (o : Row). o.name ≢ node ++ r.name) earlier (map (row_of_node node) done)
+      distinct =
+          All-append (λ (o : Row). o.name ≢ node ++ r.name) earlier (map (row_of_node node) done)
           (All-from_recursion (λ (o : Row). o.name ≢ node ++ r.name) earlier
           (weaker (λ (o : Row). head_of o.name ≢ node) (λ (o : Row). o.name ≢ node ++ r.name)
           earlier (λ o other same. other (ap head_of same ∙ head)) apart))
@@ -179,7 +183,8 @@ row-follows node earlier done r plain apart new parent =
     }
 
 rows-follow : (node : List ℕ) (earlier done rest : List Row) → IsPlain node → IsApart earlier node
-    → stands done rest ≡ true → Follow (earlier ++ map (row_of_node node) done) (map (row_of_node node) rest)
+    → stands done rest ≡ true
+    → Follow (earlier ++ map (row_of_node node) done) (map (row_of_node node) rest)
 rows-follow node earlier done [] plain apart h = tt
 rows-follow node earlier done (r ∷ rs) plain apart h =
     let parts =

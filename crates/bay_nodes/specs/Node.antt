@@ -154,7 +154,8 @@ abbrev pub command_parts : Control → List NodePart
 command_parts Status = []
 command_parts Direct = control_structure (operate_part (codes "Oper") ∷ [])
 command_parts Sbo =
-    control_structure (value (codes "SBO") (Reference []) ∷ operate_part (codes "Oper") ∷ cancel_part ∷ [])
+    control_structure (value (codes "SBO") (Reference []) ∷ operate_part (codes "Oper")
+    ∷ cancel_part ∷ [])
 command_parts SboEnhanced =
     control_structure (operate_part (codes "SBOw") ∷ operate_part (codes "Oper") ∷ cancel_part ∷ [])
 
@@ -205,7 +206,8 @@ meter_parts =
     parts_of
     (inside (codes "MX")
     (measured_value (codes "TotW") ∷ measured_value (codes "TotVAr") ∷ measured_value (codes "Hz")
-    ∷ inside (codes "A") (phase_value (codes "phsA") ∷ phase_value (codes "phsB") ∷ phase_value (codes "phsC")
+    ∷ inside (codes "A") (phase_value (codes "phsA") ∷ phase_value (codes "phsB")
+    ∷ phase_value (codes "phsC")
     ∷ []) ∷ [])
     ∷ [])
 
@@ -294,4 +296,5 @@ bay_rows nameplate switches meters = flat_map node_rows (nodes_of nameplate swit
 
 -- the number of the switch at an index: one more than the number of switches of its class before it
 abbrev pub node_number : List Switch → Switch → ℕ → ℕ
-node_number switches s index = length (filter (is_in_group (is_breaker s.kind)) (take index switches)) + 1
+node_number switches s index =
+    length (filter (is_in_group (is_breaker s.kind)) (take index switches)) + 1

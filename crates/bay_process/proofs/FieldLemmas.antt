@@ -18,7 +18,8 @@ field-leaf_typed layout rows PhaseB h = h.phase_b
 field-leaf_typed layout rows PhaseC h = h.phase_c
 
 pub field-named : (layout : Layout) (rows : MeterRows) (field : MeterField)
-    → status_names_in layout (field_rows rows field) ≡ field_names field (meter_names_in layout rows)
+    → status_names_in layout (field_rows rows field)
+    ≡ field_names field (meter_names_in layout rows)
 field-named layout rows TotW = refl
 field-named layout rows TotVAr = refl
 field-named layout rows Hz = refl

@@ -24,7 +24,8 @@ from-length : (rows : List Row) (k : ℕ) (ss : List Switch)
 from-length rows k [] = refl
 from-length rows k (s ∷ ss) = ap suc (from-length rows (k + 1) ss)
 
-pub from-shown : (rows : List Row) (n : ℕ) (ss : List Switch) (j i : ℕ) (e : SwitchEnables) → i ≡ n + j
+pub from-shown : (rows : List Row) (n : ℕ) (ss : List Switch) (j i : ℕ) (e : SwitchEnables)
+    → i ≡ n + j
     → slice_get (enabled_from rows n ss) j ≡ Some e → enabled_at rows i ≡ e
 from-shown rows n [] zero i e at here = absurd cc
 from-shown rows n [] (suc j) i e at here = absurd cc
@@ -36,7 +37,8 @@ from-shown rows n (s ∷ ss) (suc j) i e at here =
 
 from-all : (rows : List Row) (n : ℕ) (ss : List Switch) (enables : List SwitchEnables)
     → length enables ≡ length ss
-    → ((j i : ℕ) (e : SwitchEnables) → i ≡ n + j → slice_get enables j ≡ Some e → enabled_at rows i ≡ e)
+    → ((j i : ℕ) (e : SwitchEnables) → i ≡ n + j → slice_get enables j ≡ Some e
+    → enabled_at rows i ≡ e)
     → enables ≡ enabled_from rows n ss
 from-all rows n [] [] sized all = refl
 from-all rows n [] (e ∷ enables) sized all = absurd (omega (arith, sized))
@@ -117,7 +119,8 @@ beq-true : (b : Bool) → beq true b ≡ b
 beq-true true = refl
 beq-true false = refl
 
-told-shown : (rows : List Row) (k : ℕ) (e : SwitchEnables) → HoldsRelease rows k e → enabled_at rows k ≡ e
+told-shown : (rows : List Row) (k : ℕ) (e : SwitchEnables) → HoldsRelease rows k e
+    → enabled_at rows k ≡ e
 enables-shown rows k e is =
     ap (λ o. let d : SwitchEnables = record {
       may_open = is_truth true o;
@@ -127,14 +130,17 @@ enables-shown rows k e is =
       may_open = beq true e.may_open;
       may_close = is_truth true o;
     } in d) is.closing.value_is
-    ∙ ap (λ b. let d : SwitchEnables = record { may_open = b; may_close = beq true e.may_close } in d)
+    ∙ ap (λ b. let d : SwitchEnables = record { may_open = b; may_close = beq true e.may_close } in
+    d)
     (beq-true e.may_open)
     ∙ ap (λ b. let d : SwitchEnables = record { may_open = e.may_open; may_close = b } in d)
     (beq-true e.may_close)
 
 -- what stands is not written again
-pub output-same : (rows : List Row) (k : ℕ) (stood e : SwitchEnables) (names : SwitchNames) (now : ℕ)
-    → names.ena_opn ≡ opening_names_at k → names.ena_cls ≡ closing_names_at k → HoldsRelease rows k stood
+pub output-same : (rows : List Row) (k : ℕ) (stood e : SwitchEnables) (names : SwitchNames)
+    (now : ℕ)
+    → names.ena_opn ≡ opening_names_at k → names.ena_cls ≡ closing_names_at k
+    → HoldsRelease rows k stood
     → beq e.may_open stood.may_open ≡ true → beq e.may_close stood.may_close ≡ true
     → with_output names e.may_open e.may_close now rows ≡ rows
 output-same rows k stood e names now opens closes is one other =
@@ -226,7 +232,8 @@ module _ (rows : List Row) (bs : List BoundSwitch) (i : ℕ) (b : BoundSwitch)
   text-turn =
       let rest = rest-text rows (i + 1) (drop (i + 1) bs) in
       ap (λ xs. t ++ rest-text rows i xs) next
-      ∙ ap (λ x. t ++ (switch_text b.switch.id x (is_truth true (leaf_named (closing_names_at i).value rows))
+      ∙ ap (λ x. t ++ (switch_text b.switch.id x
+      (is_truth true (leaf_named (closing_names_at i).value rows))
       ++ rest)) (sym opens)
       ∙ ap (λ x. t ++ (switch_text b.switch.id o x ++ rest)) (sym closes)
       ∙ sym (append_assoc t (switch_text b.switch.id o c) rest)

@@ -180,9 +180,11 @@ found-names rows names handles f =
 
 pub found-switch : (rows : List Row) (names : SwitchNames) (handles : SwitchRows)
     → HasSwitch rows names
-    → AreHandlesOf rows names.position handles.position → AreHandlesOf rows names.control handles.control
+    → AreHandlesOf rows names.position handles.position
+    → AreHandlesOf rows names.control handles.control
     → AreHandlesOf rows names.operations handles.operations
-    → AreHandlesOf rows names.ena_opn handles.ena_opn → AreHandlesOf rows names.ena_cls handles.ena_cls
+    → AreHandlesOf rows names.ena_opn handles.ena_opn
+    → AreHandlesOf rows names.ena_cls handles.ena_cls
     → AreSwitchRowsOf (layout_of rows) names handles
 found-switch rows names handles h p d n o c =
     let position : status_names_in (layout_of rows) handles.position ≡ names.position =
@@ -210,7 +212,8 @@ pub found-meter : (rows : List Row) (names : MeterNames) (handles : MeterRows)
     → HasMeterLeaves rows names
     → AreHandlesOf rows names.tot_w handles.tot_w → AreHandlesOf rows names.tot_var handles.tot_var
     → AreHandlesOf rows names.hz handles.hz
-    → AreHandlesOf rows names.phase_a handles.phase_a → AreHandlesOf rows names.phase_b handles.phase_b
+    → AreHandlesOf rows names.phase_a handles.phase_a
+    → AreHandlesOf rows names.phase_b handles.phase_b
     → AreHandlesOf rows names.phase_c handles.phase_c
     → AreMeterRowsOf (layout_of rows) names handles
 found-meter rows names handles h w v z a b c =
@@ -245,7 +248,8 @@ bound-meter rows k node handles there own =
     record { named = own.named ∙ ap meter_names_of there.named; leaf_typed = own.leaf_typed }
 
 -- one switch more
-pub rows-snoc : (layout : Layout) (nodes : List SwitchNodes) (rows : List SwitchRows) (n : SwitchNodes)
+pub rows-snoc : (layout : Layout) (nodes : List SwitchNodes) (rows : List SwitchRows)
+    (n : SwitchNodes)
     (r : SwitchRows) → AreRowsOfNodes layout nodes rows → slice_get nodes (length rows) ≡ Some n
     → AreSwitchRowsOf layout (nodes_names n) r
     → AreRowsOfNodes layout nodes (rows ++ r ∷ [])

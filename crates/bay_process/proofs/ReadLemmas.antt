@@ -331,7 +331,8 @@ module _ (rows new : List Row) (layout : layout_of new ≡ layout_of rows)
       of-switch None here = refl
       of-switch (Some b) here =
           let named = ap (λ (n : SwitchNames). n.position.value) (bound k b here).named in
-          ap (λ (l : Layout). position_value point (leaf_named (row_name_in l b.rows.position.value) new))
+          ap (λ (l : Layout). position_value point
+          (leaf_named (row_name_in l b.rows.position.value) new))
           layout
           ∙ ap (λ (n : List ℕ). position_value point (leaf_named n new)) named
           ∙ ap (position_value point) (stays b here)
@@ -396,7 +397,8 @@ module _ (rows new : List Row) (layout : layout_of new ≡ layout_of rows)
           let own : slice_get ss j ≡ Some b.switch =
           slice_get-map (λ (b : BoundSwitch). b.switch) switches j
           ∙ ap (λ o. option_map (λ (b : BoundSwitch). b.switch) o) here in
-          let node : (x y : List ℕ) → switch_node ss j b.switch ++ 36 ∷ x ≢ switch_node ss k s ++ 36 ∷ y =
+          let node : (x y : List ℕ)
+          → switch_node ss j b.switch ++ 36 ∷ x ≢ switch_node ss k s ++ 36 ∷ y =
           nodes-apart ss few j k b.switch s apart own is in
           let control : (x y : List ℕ)
           → switch_node ss j b.switch ++ x ≢ node_name (codes "CSWI") (k + 1) ++ y =

@@ -12,7 +12,8 @@ abbrev plain : List ℕ → List Switch → List SwitchEnables → List ℕ
 plain end [] enables = end
 plain end (s ∷ ss) [] = end
 plain end (s ∷ ss) (e ∷ enables) =
-    text_before_digits s ++ (digit_octet e.may_open ∷ digit_octet e.may_close ∷ plain end ss enables)
+    text_before_digits s ++ (digit_octet e.may_open ∷ digit_octet e.may_close
+    ∷ plain end ss enables)
 
 two-digits : (o c : Bool) (rest : List ℕ)
     → (digit_text o ++ digit_text c) ++ rest ≡ digit_octet o ∷ digit_octet c ∷ rest
@@ -27,7 +28,8 @@ part-plain s o c rest =
     append_assoc (text_before_digits s) (digit_text o ++ digit_text c) rest
     ∙ ap (λ t. text_before_digits s ++ t) (two-digits o c rest)
 
-is-plain : (end : List ℕ) (ss : List Switch) (enables : List SwitchEnables) → length enables ≡ length ss
+is-plain : (end : List ℕ) (ss : List Switch) (enables : List SwitchEnables)
+    → length enables ≡ length ss
     → released_text ss enables ++ end ≡ plain end ss enables
 is-plain end [] enables sized = refl
 is-plain end (s ∷ ss) [] sized = absurd (omega (arith, sized))
@@ -75,7 +77,8 @@ seam-length front l x y n e =
 -- ---- the digits of a switch
 
 module _ (end : List ℕ) where
-  patched : (front : List ℕ) (ss : List Switch) (enables : List SwitchEnables) (k : ℕ) (new : SwitchEnables)
+  patched : (front : List ℕ) (ss : List Switch) (enables : List SwitchEnables) (k : ℕ)
+      (new : SwitchEnables)
       (n : ℕ) (text : List ℕ) → n ≡ length front → text ≡ front ++ plain end ss enables
       → length enables ≡ length ss → k < length ss
       → slice_set (slice_set text (slice_index_or (digits_from n ss) k 0)
@@ -122,7 +125,8 @@ module _ (end : List ℕ) where
         length-append (text_before_digits s) (x ∷ y ∷ plain end ss enables),
       )
 
-  read : (front : List ℕ) (ss : List Switch) (enables : List SwitchEnables) (k n : ℕ) (text : List ℕ)
+  read : (front : List ℕ) (ss : List Switch) (enables : List SwitchEnables) (k n : ℕ)
+      (text : List ℕ)
       → n ≡ length front → text ≡ front ++ plain end ss enables → length enables ≡ length ss
       → k < length ss
       → (e : SwitchEnables) × (slice_get enables k ≡ Some e)

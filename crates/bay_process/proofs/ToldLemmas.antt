@@ -404,7 +404,8 @@ pub closing-stands : (k : ℕ) (b c : Bool) (now : ℕ) (rows : List Row)
     → HoldsTruth (with_enabled (opening_names_at k) b now rows) (closing_names_at k) c
 closing-stands k b c now rows s = record {
   value_is = other-enabled _ (opening_names_at k) b now rows (opening-other k _ refl) ∙ s.value_is;
-  quality_is = other-enabled _ (opening_names_at k) b now rows (opening-other k _ refl) ∙ s.quality_is;
+  quality_is =
+      other-enabled _ (opening_names_at k) b now rows (opening-other k _ refl) ∙ s.quality_is;
 }
 
 -- opening and closing have three names each
@@ -413,7 +414,8 @@ suffix-apart : (k n a b : ℕ) (s t : List ℕ) → get_or s n 0 ≡ a → get_o
 suffix-apart k n a b s t here there apart =
     one-node k s t (λ e. apart (sym here ∙ ap (λ l. get_or l n 0) e ∙ there))
 
-opening-own : (rows : List Row) (k : ℕ) → AreValued rows (opening_names_at k) → AreOwn rows (opening_names_at k)
+opening-own : (rows : List Row) (k : ℕ) → AreValued rows (opening_names_at k)
+    → AreOwn rows (opening_names_at k)
 opening-own rows k valued = record {
   value_quality = suffix-apart k 11 115 113 _ _ refl refl (λ e. omega (arith, e));
   value_time = suffix-apart k 12 116 0 _ _ refl refl (λ e. omega (arith, e));
@@ -421,7 +423,8 @@ opening-own rows k valued = record {
   valued = valued;
 }
 
-closing-own : (rows : List Row) (k : ℕ) → AreValued rows (closing_names_at k) → AreOwn rows (closing_names_at k)
+closing-own : (rows : List Row) (k : ℕ) → AreValued rows (closing_names_at k)
+    → AreOwn rows (closing_names_at k)
 closing-own rows k valued = record {
   value_quality = suffix-apart k 11 115 113 _ _ refl refl (λ e. omega (arith, e));
   value_time = suffix-apart k 12 116 0 _ _ refl refl (λ e. omega (arith, e));
@@ -431,8 +434,10 @@ closing-own rows k valued = record {
 
 -- both values stand after they were written
 pub told-here : (k : ℕ) (enabled : SwitchEnables) (now : ℕ) (rows mid new : List Row)
-    → AreValued rows (opening_names_at k) → mid ≡ with_enabled (opening_names_at k) enabled.may_open now rows
-    → AreValued mid (closing_names_at k) → new ≡ with_enabled (closing_names_at k) enabled.may_close now mid
+    → AreValued rows (opening_names_at k)
+    → mid ≡ with_enabled (opening_names_at k) enabled.may_open now rows
+    → AreValued mid (closing_names_at k)
+    → new ≡ with_enabled (closing_names_at k) enabled.may_close now mid
     → HoldsRelease new k enabled
 told-here k enabled now rows mid new opens first closes second =
     let opened =
@@ -443,9 +448,11 @@ told-here k enabled now rows mid new opens first closes second =
     rw second record {
       opening = record {
         value_is =
-            other-enabled _ (closing_names_at k) _ now mid (closing-other k _ refl) ∙ stood.value_is;
+            other-enabled _ (closing_names_at k) _ now mid (closing-other k _ refl)
+            ∙ stood.value_is;
         quality_is =
-            other-enabled _ (closing_names_at k) _ now mid (closing-other k _ refl) ∙ stood.quality_is;
+            other-enabled _ (closing_names_at k) _ now mid (closing-other k _ refl)
+            ∙ stood.quality_is;
       };
       closing = closed;
     }

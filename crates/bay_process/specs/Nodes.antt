@@ -24,7 +24,8 @@ pub record AreNodesOf (bay : Bay) (index : ℕ) (nodes : SwitchNodes) : Type 0 w
 
 -- the nodes of each switch of a bay have their names
 abbrev pub AreSwitchNodes : Bay → List SwitchNodes → Type 0
-AreSwitchNodes bay nodes = (k : ℕ) (n : SwitchNodes) → slice_get nodes k ≡ Some n → AreNodesOf bay k n
+AreSwitchNodes bay nodes =
+    (k : ℕ) (n : SwitchNodes) → slice_get nodes k ≡ Some n → AreNodesOf bay k n
 
 -- the names of the values below a switch's three nodes
 abbrev pub nodes_names : SwitchNodes → SwitchNames
@@ -65,20 +66,23 @@ pub record IsHandleOf (rows : List Row) (name : List ℕ) (handle : ℕ) : Type 
   pub value : leaf_at rows handle ≡ leaf_named name rows
 
 -- the handles of a value, its quality and its time stamp
-pub record AreHandlesOf (rows : List Row) (names : StatusNames) (handles : StatusRows) : Type 0 where
+pub record AreHandlesOf (rows : List Row) (names : StatusNames) (handles : StatusRows)
+    : Type 0 where
   pub value_found : IsHandleOf rows names.value handles.value
   pub quality_found : IsHandleOf rows names.quality handles.quality
   pub time_found : IsHandleOf rows names.time handles.time
 
 -- the handles of a switch's values have their names and their types
-pub record AreSwitchRowsOf (layout : Layout) (names : SwitchNames) (rows : SwitchRows) : Type 0 where
+pub record AreSwitchRowsOf (layout : Layout) (names : SwitchNames) (rows : SwitchRows)
+    : Type 0 where
   pub named : switch_names_in layout rows ≡ names
   pub leaf_typed : AreSwitchRows layout rows
 
 -- the handles of each switch are those of its nodes
 abbrev pub AreRowsOfNodes : Layout → List SwitchNodes → List SwitchRows → Type 0
 AreRowsOfNodes layout nodes rows =
-    (k : ℕ) (n : SwitchNodes) (r : SwitchRows) → slice_get nodes k ≡ Some n → slice_get rows k ≡ Some r
+    (k : ℕ) (n : SwitchNodes) (r : SwitchRows) → slice_get nodes k ≡ Some n
+    → slice_get rows k ≡ Some r
     → AreSwitchRowsOf layout (nodes_names n) r
 
 -- the names are those of the meters' nodes

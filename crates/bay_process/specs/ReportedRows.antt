@@ -45,7 +45,8 @@ enabled_from rows k (s ∷ ss) = enabled_at rows k ∷ enabled_from rows (k + 1)
 -- switches and, once a scan is complete, those of all switches; these have good quality.
 pub record AreStored (rows : List Row) (switches : List Switch) (n : ℕ)
     (kept : Releases) : Type 0 where
-  pub shows : ShowsReleases switches (enabled_from rows 0 switches) kept.text.items kept.offsets.items
+  pub shows : ShowsReleases switches (enabled_from rows 0 switches) kept.text.items
+      kept.offsets.items
   pub written : (k : ℕ) (enabled : SwitchEnables)
       → slice_get (enabled_from rows 0 switches) k ≡ Some enabled
       → (kept.is_written ≡ true) ⊎ (k < n) → HoldsRelease rows k enabled

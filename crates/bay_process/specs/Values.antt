@@ -192,7 +192,8 @@ output_of k point writes outputs = is_true (output_at (position (is_point k poin
 -- changes
 abbrev pub with_enabled : StatusNames → Bool → ℕ → List Row → List Row
 with_enabled names value now rows =
-    if is_truth value (leaf_named names.value rows) && is_quality Good (leaf_named names.quality rows)
+    if is_truth value (leaf_named names.value rows)
+    && is_quality Good (leaf_named names.quality rows)
     then rows
     else with_status names (leaf.Truth value) Good now rows
 

@@ -34,7 +34,8 @@ fn is_end_position(position: Dbpos) -> bool
 // Counts one more operation, unless the count has its maximum.
 fn count_operation(tree: &mut Tree, rows: StatusRows, now: u64)
     requires { AreStatusRows (layout_of tree.old) leaf_type.Int32 rows }
-    ensures rows { tree.new ≡ rows_after_operation (status_names_in (layout_of tree.old) rows) now tree.old }
+    ensures rows { tree.new ≡ rows_after_operation (status_names_in (layout_of tree.old) rows) now
+        tree.old }
     ensures layout { layout_of tree.new ≡ layout_of tree.old }
 {
     let count = count_at(tree, rows.value);
@@ -47,7 +48,8 @@ fn count_operation(tree: &mut Tree, rows: StatusRows, now: u64)
 // Returns whether the rows already have this position, with its quality.
 fn has_position(tree: &Tree, rows: StatusRows, position: Dbpos) -> bool
     requires { AreStatusRows (layout_of tree.now) leaf_type.Dbpos rows }
-    ensures { result ≡ spec.has_position (status_names_in (layout_of tree.now) rows) position tree.now }
+    ensures { result ≡ spec.has_position (status_names_in (layout_of tree.now) rows) position
+        tree.now }
 {
     let is_same = is_position(tree, rows.value, position);
     let has_same_quality = is_quality(tree, rows.quality, position_quality(position));
@@ -58,7 +60,8 @@ fn has_position(tree: &Tree, rows: StatusRows, position: Dbpos) -> bool
 // reaches an end position.
 fn put_position(tree: &mut Tree, rows: &SwitchRows, position: Dbpos, now: u64)
     requires { AreSwitchRows (layout_of tree.old) rows.now }
-    ensures rows { tree.new ≡ rows_after_change (switch_names_in (layout_of tree.old) rows.now) position
+    ensures rows { tree.new ≡ rows_after_change (switch_names_in (layout_of tree.old) rows.now)
+        position
         now tree.old }
     ensures layout { layout_of tree.new ≡ layout_of tree.old }
 {
@@ -90,7 +93,8 @@ pub fn apply_position(tree: &mut Tree, rows: &SwitchRows, position: Dbpos, now: 
     ensures changed { result
         ≡ not (spec.has_position (status_names_in (layout_of tree.old) rows.now.position) position
         tree.old) }
-    ensures rows { tree.new ≡ rows_after_contact (switch_names_in (layout_of tree.old) rows.now) position
+    ensures rows { tree.new ≡ rows_after_contact (switch_names_in (layout_of tree.old) rows.now)
+        position
         now tree.old }
     ensures layout { layout_of tree.new ≡ layout_of tree.old }
 {

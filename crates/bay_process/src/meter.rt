@@ -62,7 +62,8 @@ pub fn apply_measure(tree: &mut Tree, rows: StatusRows, value: i32, now: u64) ->
     requires { AreStatusRows (layout_of tree.old) leaf_type.Int32 rows }
     ensures changed { result
         ≡ not (has_measure (status_names_in (layout_of tree.old) rows) value tree.old) }
-    ensures rows { tree.new ≡ rows_after_measure (status_names_in (layout_of tree.old) rows) value now
+    ensures rows { tree.new ≡ rows_after_measure (status_names_in (layout_of tree.old) rows) value
+        now
         tree.old }
     ensures layout { layout_of tree.new ≡ layout_of tree.old }
 {
@@ -81,7 +82,8 @@ pub fn apply_bad_measure(tree: &mut Tree, rows: StatusRows, now: u64) -> bool
     requires { AreStatusRows (layout_of tree.old) leaf_type.Int32 rows }
     ensures changed { result
         ≡ not (has_invalid_measure (status_names_in (layout_of tree.old) rows) tree.old) }
-    ensures rows { tree.new ≡ rows_after_bad_measure (status_names_in (layout_of tree.old) rows) now tree.old }
+    ensures rows { tree.new ≡ rows_after_bad_measure (status_names_in (layout_of tree.old) rows) now
+        tree.old }
     ensures layout { layout_of tree.new ≡ layout_of tree.old }
 {
     if is_quality(tree, rows.quality, Quality::Invalid) {

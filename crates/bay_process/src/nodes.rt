@@ -96,7 +96,11 @@ pub fn find_status_rows(
 }
 
 // Returns the rows of a switch: those of its node, of its control and of its interlocking.
-fn find_switch_rows(alloc: Global, tree: &Tree, nodes: &SwitchNodes) -> Result<SwitchRows, AllocError>
+fn find_switch_rows(
+    alloc: Global,
+    tree: &Tree,
+    nodes: &SwitchNodes,
+) -> Result<SwitchRows, AllocError>
     requires { HasSwitch tree.now (nodes_names nodes.now) }
     ensures { IfOk result (AreSwitchRowsOf (layout_of tree.now) (nodes_names nodes.now)) }
 {

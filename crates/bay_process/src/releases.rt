@@ -56,7 +56,8 @@ impl Releases {
             × ShowsReleases ss enables self.old.text.items self.old.offsets.items }
         ensures shows { (ss : List Switch) (enables : List EnablesData)
             → ShowsReleases ss enables self.old.text.items self.old.offsets.items
-            → ShowsReleases ss (slice_set enables index enabled) self.new.text.items self.new.offsets.items }
+            → ShowsReleases ss (slice_set enables index enabled) self.new.text.items
+            self.new.offsets.items }
         ensures offsets { self.new.offsets ≡ self.old.offsets }
         ensures flag { self.new.is_written ≡ self.old.is_written }
     {

@@ -39,7 +39,8 @@ pub struct SwitchRows {
 #[inline(always)]
 pub fn put(tree: &mut Tree, handle: Handle, leaf: Leaf)
     requires { HasLeafType (layout_of tree.old) handle (leaf_type_of leaf) }
-    ensures rows { tree.new ≡ with_leaf_named (row_name_in (layout_of tree.old) handle) leaf tree.old }
+    ensures rows { tree.new ≡ with_leaf_named (row_name_in (layout_of tree.old) handle) leaf
+        tree.old }
     ensures layout { layout_of tree.new ≡ layout_of tree.old }
 {
     match tree.set(handle, leaf) {
@@ -52,7 +53,8 @@ pub fn put(tree: &mut Tree, handle: Handle, leaf: Leaf)
 #[inline(always)]
 pub fn put_status(tree: &mut Tree, rows: StatusRows, value: Leaf, quality: Quality, now: u64)
     requires { AreStatusRows (layout_of tree.old) (leaf_type_of value) rows }
-    ensures rows { tree.new ≡ with_status (status_names_in (layout_of tree.old) rows) value quality now
+    ensures rows { tree.new ≡ with_status (status_names_in (layout_of tree.old) rows) value quality
+        now
         tree.old }
     ensures layout { layout_of tree.new ≡ layout_of tree.old }
 {
@@ -64,7 +66,8 @@ pub fn put_status(tree: &mut Tree, rows: StatusRows, value: Leaf, quality: Quali
 /// Returns the position in a row.
 pub fn position_at(tree: &Tree, handle: Handle) -> Dbpos
     requires { HasLeafType (layout_of tree.now) handle leaf_type.Dbpos }
-    ensures { leaf_named (row_name_in (layout_of tree.now) handle) tree.now ≡ Some (leaves.Dbpos result) }
+    ensures { leaf_named (row_name_in (layout_of tree.now) handle) tree.now
+        ≡ Some (leaves.Dbpos result) }
 {
     match tree.get(handle) {
         Some(Leaf::Dbpos(position)) => *position,
@@ -87,7 +90,8 @@ fn quality_at(tree: &Tree, handle: Handle) -> Quality
 // Returns the truth value in a row.
 fn truth_at(tree: &Tree, handle: Handle) -> bool
     requires { HasLeafType (layout_of tree.now) handle leaf_type.Truth }
-    ensures { leaf_named (row_name_in (layout_of tree.now) handle) tree.now ≡ Some (leaves.Truth result) }
+    ensures { leaf_named (row_name_in (layout_of tree.now) handle) tree.now
+        ≡ Some (leaves.Truth result) }
 {
     match tree.get(handle) {
         Some(Leaf::Truth(truth)) => *truth,
@@ -98,7 +102,8 @@ fn truth_at(tree: &Tree, handle: Handle) -> bool
 /// Returns the number in a row.
 pub fn count_at(tree: &Tree, handle: Handle) -> i32
     requires { HasLeafType (layout_of tree.now) handle leaf_type.Int32 }
-    ensures { leaf_named (row_name_in (layout_of tree.now) handle) tree.now ≡ Some (leaves.Int32 result) }
+    ensures { leaf_named (row_name_in (layout_of tree.now) handle) tree.now
+        ≡ Some (leaves.Int32 result) }
 {
     match tree.get(handle) {
         Some(Leaf::Int32(count)) => *count,

@@ -181,7 +181,8 @@ fn output(outputs: &Outputs<'_>, index: Option<usize>) -> bool
 // Writes the interlocking values to the rows of a switch.
 fn write_output(tree: &mut Tree, rows: &SwitchRows, enabled: SwitchEnables, now: u64)
     requires { AreSwitchRows (layout_of tree.old) rows.now }
-    ensures rows { tree.new ≡ with_output (switch_names_in (layout_of tree.old) rows.now) enabled.may_open
+    ensures rows { tree.new ≡ with_output (switch_names_in (layout_of tree.old) rows.now)
+        enabled.may_open
         enabled.may_close now tree.old }
     ensures layout { layout_of tree.new ≡ layout_of tree.old }
     ensures holds_release { (k : ℕ) → AreEnabling (layout_of tree.old) k rows.now
@@ -205,7 +206,8 @@ fn write_interlocking(
     requires rows { IsInterlocked (layout_of tree.old) index rows.now }
     requires kept { (ss : List Switch) × AreStored tree.old ss index kept.old
         × (index < length ss) }
-    ensures rows { tree.new ≡ with_output (switch_names_in (layout_of tree.old) rows.now) enabled.may_open
+    ensures rows { tree.new ≡ with_output (switch_names_in (layout_of tree.old) rows.now)
+        enabled.may_open
         enabled.may_close now tree.old }
     ensures layout { layout_of tree.new ≡ layout_of tree.old }
     ensures kept { (ss : List Switch) → AreStored tree.old ss index kept.old → index < length ss

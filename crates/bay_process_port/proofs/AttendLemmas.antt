@@ -56,7 +56,8 @@ module _ {L : Type 0} (step : L → Call → L → Type 0) where
   -- what waits was offered
   pub offers-some : (old new : L) (before after : PortData) (taken : Option ℕ)
       (answer : Result (Unit {0}) DisconnectReason) → (length before.queue == 0) ≡ false
-      → IsPartResult (after_write taken before (Writes 1 before.queue taken ∷ [])).after after answer
+      → IsPartResult (after_write taken before (Writes 1 before.queue taken ∷ [])).after after
+      answer
       → MakesCalls step old (after_write taken before (Writes 1 before.queue taken ∷ [])).calls new
       → PerformsPart step offer_part old new before after answer
   offers-some old new before after taken answer some leads makes =
@@ -185,7 +186,8 @@ module _ {L : Type 0} (step : L → Call → L → Type 0) where
       talks-unoffered new after why does =
           let r = ran-offered new after (Err why) does in
           let a = and_then (with_report_queued t s before) (offer_part does.answers) in
-          let last = ran-out old new a.after a.calls after (read_part Silence) why r.makes r.leads in
+          let last =
+          ran-out old new a.after a.calls after (read_part Silence) why r.makes r.leads in
           record { answers = (does.answers, Silence); makes = last.makes; leads = last.leads }
 
       module _ (mid : L) (between : PortData)
@@ -199,7 +201,8 @@ module _ {L : Type 0} (step : L → Call → L → Type 0) where
           ran-read new after answer does =
               let a = and_then (with_report_queued t s before) (offer_part offers.answers) in
               let r = ran-offered mid between (Ok tt) offers in
-              ran-on old mid new a.after a.calls between after (read_part does.answers) answer r.makes
+              ran-on old mid new a.after a.calls between after (read_part does.answers) answer
+              r.makes
               r.leads (record { makes = does.makes; leads = does.leads })
 
           -- its report was queued, it was offered what waits, and read
@@ -230,7 +233,8 @@ module _ {L : Type 0} (step : L → Call → L → Type 0) where
         → PerformsPart step (first_part now s) old old before greeted (Err why)
     begins-not why greets =
         let r =
-        ran-out2 old old (greet_part now s before) greeted (read_part Silence) (read_part Silence) why
+        ran-out2 old old (greet_part now s before) greeted (read_part Silence) (read_part Silence)
+        why
         (ran-greeted (Err why) greets) in
         record { answers = (Silence, Silence); makes = r.makes; leads = r.leads }
 
@@ -251,7 +255,8 @@ module _ {L : Type 0} (step : L → Call → L → Type 0) where
       begins-gone new after why does =
           let r = ran-read-first new after (Err why) does in
           let a = and_then (greet_part now s before) (read_part does.answers) in
-          let last = ran-out old new a.after a.calls after (read_part Silence) why r.makes r.leads in
+          let last =
+          ran-out old new a.after a.calls after (read_part Silence) why r.makes r.leads in
           record { answers = (does.answers, Silence); makes = last.makes; leads = last.leads }
 
       -- it was read twice
@@ -285,7 +290,8 @@ module _ {L : Type 0} (step : L → Call → L → Type 0) where
         script = attends.script;
         makes = subst (λ (a : PollOutcome). MakesCalls step old a.calls new) (sym is) attends.makes;
         port = attends.port ∙ sym (ap (λ (a : PollOutcome). a.port) is);
-        connection_event_is = attends.connection_event_is ∙ sym (ap (λ (a : PollOutcome). a.connection_event) is);
+        connection_event_is =
+            attends.connection_event_is ∙ sym (ap (λ (a : PollOutcome). a.connection_event) is);
       }
 
   -- no connection was accepted
@@ -312,7 +318,8 @@ module _ {L : Type 0} (step : L → Call → L → Type 0) where
       → step old (Accepts 1 (Some (Some from))) mid
       → Polls step
       (λ script. after_greeting before
-      (first_part now s (script.heard, script.again) (with_no_data Present before))) mid new after connection_event
+      (first_part now s (script.heard, script.again) (with_no_data Present before))) mid new after
+      connection_event
       → Polls step (λ script. accept_outcome now s script.accepted
       (script.heard, script.again) before)
       old new after connection_event
@@ -407,7 +414,8 @@ module _ {L : Type 0} (step : L → Call → L → Type 0) where
 
     -- or it is closed
     pub attends-closed : (new : L) (why : DisconnectReason) → before.presence ≡ Present
-        → PerformsPart step (exchange_part t s) old mid before after (Err why) → step mid (Closes 1) new
+        → PerformsPart step (exchange_part t s) old mid before after (Err why)
+        → step mid (Closes 1) new
         → Polls step (λ script. poll_outcome t s script before) old new
         (with_no_data LossPending before)
         (Some (Closed why))
@@ -447,13 +455,15 @@ module _ {L : Type 0} (step : L → Call → L → Type 0) where
         })
 
     -- a process that a turn has dismissed
-    pub attends-dismissed : (new : L) (why : DisconnectReason) (connection_event : Option ConnectionEvent)
+    pub attends-dismissed : (new : L) (why : DisconnectReason)
+        (connection_event : Option ConnectionEvent)
         → before.presence ≡ Dismissed why
         → ClosesDismissed step before.presence old new before after connection_event
         → Polls step (λ script. poll_outcome t s script before) old new after connection_event
     attends-dismissed new why connection_event leaving closes =
         let k : ClosesDismissed step (Dismissed why) old new before after connection_event =
-        subst (λ presence. ClosesDismissed step presence old new before after connection_event) leaving closes
+        subst (λ presence. ClosesDismissed step presence old new before after connection_event)
+        leaving closes
         in
         attends-as (λ script. poll_outcome t s script before)
         (λ script. close_dismissed why before) old new after connection_event

@@ -65,7 +65,8 @@ check_moment-is limit now moment message said e = by-time (is_timely limit now m
 -- and its event
 pub timely-event : (limit now moment : ℕ) (message : ProcessMessage) (said : TimedMessage)
     → IsTimely limit now moment message said → event_in message ≡ event_in said.message
-check_moment-event limit now moment message said t = ap (λ (x : TimedMessage). event_in x.message) t.is
+check_moment-event limit now moment message said t =
+    ap (λ (x : TimedMessage). event_in x.message) t.is
 
 -- the event of a later line
 pub word-event : (event : Option ProcessEvent) → event_in (event_message event) ≡ event
@@ -88,7 +89,8 @@ plain-told s now (b ∷ bs) said e = by-event (event_in_line s (b ∷ bs)) e
         ap (λ (x : TimedMessage). event_in x.message) same
 
 -- a later line that can be taken names a moment in order, and in time
-pub record IsReport (w : WatchData) (now : ℕ) (timed : TimedLine) (said : TimedMessage) : Type 0 where
+pub record IsReport (w : WatchData) (now : ℕ) (timed : TimedLine) (said : TimedMessage)
+    : Type 0 where
   pub in_order : nat_lt timed.moment w.last ≡ false
   pub check_moment : IsTimely w.settings.limit now timed.moment (event_message timed.event) said
 
@@ -101,7 +103,8 @@ report-is line w now timed said e = by-order (nat_lt timed.moment w.last) refl
     by-order false in-order = record {
       in_order = in-order;
       check_moment =
-          timely-is w.settings.limit now timed.moment (event_message timed.event) said (rw in-order at e);
+          timely-is w.settings.limit now timed.moment (event_message timed.event) said
+          (rw in-order at e);
     }
 
 report-told : (s : State) (line : List ℕ) (w : WatchData) (now : ℕ) (said : TimedMessage)
@@ -116,11 +119,13 @@ report-told s line w now said e = by-line (timed_line_of s line) refl e
     by-line (Some timed) read is =
         let r = report-is line w now timed said is in
         timed-told s line timed read ∙ sym (word-event timed.event)
-        ∙ timely-event w.settings.limit now timed.moment (event_message timed.event) said r.check_moment
+        ∙ timely-event w.settings.limit now timed.moment (event_message timed.event) said
+        r.check_moment
 
 introduction-told : (s : State) (line : List ℕ) (settings : SupervisionSettings) (now : ℕ)
     (said : TimedMessage)
-    → judge_introduction settings now (introduction_moment settings.key s.domain s.revision line) ≡ Ok said
+    → judge_introduction settings now (introduction_moment settings.key s.domain s.revision line)
+    ≡ Ok said
     → event_in_line s line ≡ event_in said.message
 introduction-told s line settings now said e =
     by-moment (introduction_moment settings.key s.domain s.revision line) refl e
@@ -161,14 +166,16 @@ judged-line watch s now line said e =
     (sym (judged-told watch s now line said e))
     ∙ ap (λ v. if v then Some line else None) (told-some s line)
 
-had-event : (message : ProcessMessage) (line lines_read : List ℕ) → line_in message line ≡ Some lines_read
+had-event : (message : ProcessMessage) (line lines_read : List ℕ)
+    → line_in message line ≡ Some lines_read
     → input_of_event (event_in message) ≡ Ok (report_of_event (event_in message))
 had-event Blank line lines_read e = absurd cc
 lines_read-event (Reports event) line lines_read e = refl
 lines_read-event Introduces line lines_read e = absurd cc
 lines_read-event Lives line lines_read e = absurd cc
 
-had-line : (message : ProcessMessage) (line lines_read : List ℕ) → line_in message line ≡ Some lines_read → line ≡ lines_read
+had-line : (message : ProcessMessage) (line lines_read : List ℕ)
+    → line_in message line ≡ Some lines_read → line ≡ lines_read
 lines_read-line Blank line lines_read e = absurd cc
 lines_read-line (Reports event) line lines_read e = cc
 lines_read-line Introduces line lines_read e = absurd cc
@@ -181,4 +188,5 @@ pub judged-readable : (watch : Option WatchData) (s : State) (now : ℕ) (line l
     → input_of_event (event_in_line s lines_read) ≡ Ok (report_of_event (event_in said.message))
 judged-readable watch s now line lines_read said e is =
     ap (λ l. input_of_event (event_in_line s l)) (sym (had-line said.message line lines_read is))
-    ∙ ap input_of_event (judged-told watch s now line said e) ∙ had-event said.message line lines_read is
+    ∙ ap input_of_event (judged-told watch s now line said e)
+    ∙ had-event said.message line lines_read is

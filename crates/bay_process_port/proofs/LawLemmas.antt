@@ -114,7 +114,8 @@ behind-ended : (before : PortData) (r : Result PortData DisconnectReason) (calls
     → (let part = and_then (record { after = r; calls = calls }) (read_part heard) in
     reads_end part.calls ≡ true
     → Untaken before (opened_or_closed before part.after part.calls))
-behind-ended before (Err why) calls heard first ends = record { connection_event = refl; port = refl }
+behind-ended before (Err why) calls heard first ends =
+    record { connection_event = refl; port = refl }
 behind-ended before (Ok p) calls heard first ends = by-calls (reads_end calls) refl
   where
     by-calls : (v : Bool) → reads_end calls ≡ v
@@ -185,7 +186,8 @@ is-silent t s now jump script p = record {
       let part = exchange_part t s (script.taken, script.heard) p in
       let is = ap (λ presence. outcome_by_presence presence t s script p) here in
       ap (λ (a : PollOutcome). a.port) is
-      ∙ closed-empty p part.after part.calls why (ap (λ (a : PollOutcome). a.connection_event) (sym is) ∙ e);
+      ∙ closed-empty p part.after part.calls why
+      (ap (λ (a : PollOutcome). a.connection_event) (sym is) ∙ e);
   lost = λ leaving. ap (λ presence. presence_reading presence s now jump p) leaving;
   dismisses = λ why here e.
       let is = ap (λ presence. presence_reading presence s now jump p) here in
@@ -196,8 +198,10 @@ is-silent t s now jump script p = record {
   not_accepted = λ away ends.
       let is = ap (λ presence. outcome_by_presence presence t s script p) away in
       let u = accepted-untaken t.now s script.accepted (script.heard, script.again) p
-      (ap (λ (a : PollOutcome). reads_end a.calls) (sym is) ∙ ends) in
-      (ap (λ (a : PollOutcome). a.connection_event) is ∙ u.connection_event, ap (λ (a : PollOutcome). a.port) is ∙ u.port);
+      (ap (λ (a : PollOutcome). reads_end a.calls) (sym is) ∙ ends) in (
+        ap (λ (a : PollOutcome). a.connection_event) is ∙ u.connection_event,
+        ap (λ (a : PollOutcome). a.port) is ∙ u.port,
+      );
 }
 
 -- ---- what is told
@@ -297,7 +301,8 @@ tells-read heard p = by-front (is_waiting (first_line_of p.buffer)) refl
     by-heard StreamEnd = record { rest = p.queue; whole = refl; waits = λ q e. absurd cc }
     by-heard Failure = record { rest = p.queue; whole = refl; waits = λ q e. absurd cc }
 
-    by-front : (v : Bool) → is_waiting (first_line_of p.buffer) ≡ v → Tells p.queue (read_part heard p)
+    by-front : (v : Bool) → is_waiting (first_line_of p.buffer) ≡ v
+        → Tells p.queue (read_part heard p)
     by-front true e = rw e (by-heard heard)
     by-front false e = rw e (record {
       rest = p.queue;

@@ -93,7 +93,8 @@ same-said k sent last release knows = by-told sent refl
         by-same true same = knows r is ∙ ap Some (same-release r release same)
         by-same false same = rw here refl
 
-later-said : (s : State) (k j : ℕ) (last : Option ReleaseData) (sent : List (Option ReleaseData)) → k < j
+later-said : (s : State) (k j : ℕ) (last : Option ReleaseData) (sent : List (Option ReleaseData))
+    → k < j
     → last_release_sent k last (releases_from s j sent) ≡ last
 later-said s k j last [] lt = refl
 later-said s k j last (one ∷ sent) lt =
@@ -299,9 +300,11 @@ away-known said now s (Some (Some from)) heard p h =
     (has-behind q.sent g.after g.calls (read_part heard.0) (has-greeted now s q) (has-read heard.0))
     (has-read heard.1))
 
-attended-known : (presence : Presence) (said : List (ℕ × ReleaseData)) (t : ReportedTurn) (s : State)
+attended-known : (presence : Presence) (said : List (ℕ × ReleaseData)) (t : ReportedTurn)
+    (s : State)
     (script : Script) (p : PortData) → KnowsIn said p.sent
-    → KnowsIn (said ++ releases_sent_as presence s p) (outcome_by_presence presence t s script p).port.sent
+    → KnowsIn (said ++ releases_sent_as presence s p)
+    (outcome_by_presence presence t s script p).port.sent
 attended-known Absent said t s script p h =
     away-known said t.now s script.accepted (script.heard, script.again) p h
 attended-known LossPending said t s script p h = knows-same said p.sent p.sent h refl

@@ -188,7 +188,8 @@ introduction-starts : (settings : SupervisionSettings) (s : State) (now : ℕ)
     (domain revision line : List ℕ)
     (lines : List (List ℕ)) (said : TimedMessage) (o : Option ℕ)
     → introduction_moment settings.key domain revision line ≡ o
-    → judge_introduction settings now o ≡ Ok said → Starts settings.key domain revision (line ∷ lines)
+    → judge_introduction settings now o ≡ Ok said
+    → Starts settings.key domain revision (line ∷ lines)
 introduction-starts settings s now domain revision line lines said None read e = absurd cc
 introduction-starts settings s now domain revision line lines said (Some moment) read e =
     record { first = line; rest = lines; is = refl; moment = moment; introduces = read }
@@ -213,7 +214,8 @@ module _ (w : WatchData) (domain revision : List ℕ) (new : w.introduced ≡ fa
       (r : Result (Option TimedMessage) DisconnectReason) (f : LineSearchData)
       → judge_port s now jump p ≡ r → first_line_of p.buffer ≡ f → p.presence ≡ Present
       → p.watch ≡ Some w → s.domain ≡ domain → s.revision ≡ revision
-      → (judged_reading now r f p).port.presence ≡ Present → StaysPresent us (judged_reading now r f p).port
+      → (judged_reading now r f p).port.presence ≡ Present
+      → StaysPresent us (judged_reading now r f p).port
       → (StaysPresent us p → UsesBegin us p (removed_lines (moves_of us p) p.buffer).lines)
       → (let q = (judged_reading now r f p).port in
       UsesBegin us q (cut_by r f p.buffer (moves_of us q)).lines)
@@ -226,7 +228,8 @@ module _ (w : WatchData) (domain revision : List ℕ) (new : w.introduced ≡ fa
   taken-begin s now jump us p (Ok (Some said)) (Whole line rest) e there here is d v still stays
       more =
       let q = record p { buffer = rest; watch = watch_after now said p.watch } in
-      let k = uses-watched (after_timed_message now said w) us q here (ap (watch_after now said) is) stays in
+      let k = uses-watched (after_timed_message now said w) us q here (ap (watch_after now said) is)
+      stays in
       let judges : judge_line (Some w) s now line ≡ Ok said =
       ap (λ o. judge_line o s now line) (sym is)
       ∙ line-judged s now jump p line rest said there e in
@@ -237,7 +240,8 @@ module _ (w : WatchData) (domain revision : List ℕ) (new : w.introduced ≡ fa
             ∙ known-duties said.message
             (record w { heard = min now said.moment; last = said.moment });
         starts = λ i.
-            judged-starts w s now domain revision line (removed_lines (moves_of us q) rest).lines said
+            judged-starts w s now domain revision line (removed_lines (moves_of us q) rest).lines
+            said
             new d v judges;
       }
 

@@ -164,7 +164,8 @@ taken-keep before (Err why) calls buffer k here = absurd cc
 
 pub comes-keep : (sends : Bool) (settings : Option SupervisionSettings) (now : ℕ) (s : State)
     (accepted : Option (Option SocketAddrV4)) (heard : ReadOutcome × ReadOutcome)
-    → (accept_outcome now s accepted heard (empty_port sends settings Absent)).port.presence ≡ Present
+    → (accept_outcome now s accepted heard (empty_port sends settings Absent)).port.presence
+    ≡ Present
     → (accept_outcome now s accepted heard (empty_port sends settings Absent)).port.buffer
     ≡ octets_read_by (accept_outcome now s accepted heard (empty_port sends settings Absent)).calls
 comes-keep sends settings now s None heard here = absurd cc
@@ -176,7 +177,8 @@ comes-keep sends settings now s (Some (Some from)) heard here =
     let part = first_part now s heard p in
     taken-keep (empty_port sends settings Absent) part.after part.calls []
     (keeps-behind [] a.after a.calls (read_part heard.1)
-    (keeps-behind [] g.after g.calls (read_part heard.0) (keeps-greeted now s p) (keeps-read heard.0))
+    (keeps-behind [] g.after g.calls (read_part heard.0) (keeps-greeted now s p)
+    (keeps-read heard.0))
     (keeps-read heard.1))
     here
 
@@ -188,7 +190,8 @@ line_moves Overlong moves = moves
 line_moves (Whole line rest) moves = cuttings.Takes ∷ moves
 
 -- what was judged takes a line, or none
-abbrev pub moves_by : Result (Option TimedMessage) DisconnectReason → LineSearchData → List BufferStep
+abbrev pub moves_by : Result (Option TimedMessage) DisconnectReason → LineSearchData
+    → List BufferStep
     → List BufferStep
 moves_by (Err why) f moves = moves
 moves_by (Ok None) f moves = moves
@@ -225,7 +228,8 @@ moves_of (Polls t s script ∷ us) p =
     ∷ moves_of us (port_after (Polls t s script) p)
 
 -- What is kept, the lines that turns had, and what came are those of a cutting.
-pub record Follows (moves : List BufferStep) (c : RemovedLines) (buffer all : List ℕ) (lines_read : List (List ℕ))
+pub record Follows (moves : List BufferStep) (c : RemovedLines) (buffer all : List ℕ)
+    (lines_read : List (List ℕ))
     : Type 0 where
   pub keeps : c.buffer ≡ buffer
   pub had_is : lines_read ≡ filter has_process_event c.lines
@@ -237,7 +241,8 @@ UseFollows us p =
     (all_octets_read us p) (all_lines_read us p)
 
 -- a line is had where it tells something
-lines_read-told : (line : List ℕ) (lines_read lines : List (List ℕ)) → lines_read ≡ filter has_process_event lines
+lines_read-told : (line : List ℕ) (lines_read lines : List (List ℕ))
+    → lines_read ≡ filter has_process_event lines
     → option_to_list (line_or_none line) ++ lines_read ≡ filter has_process_event (line ∷ lines)
 had-told line lines_read lines e = by-told (has_process_event line) refl
   where
@@ -256,7 +261,8 @@ record TakeFollows (c : RemovedLines) (moves : List BufferStep) (us : List Use) 
 takes-follow : (s : State) (now jump : ℕ) (us : List Use) (p : PortData)
     (r : Result (Option TimedMessage) DisconnectReason) (f : LineSearchData)
     → judge_port s now jump p ≡ r → first_line_of p.buffer ≡ f
-    → (judged_reading now r f p).port.presence ≡ Present → UseFollows us (judged_reading now r f p).port
+    → (judged_reading now r f p).port.presence ≡ Present
+    → UseFollows us (judged_reading now r f p).port
     → (let moves = moves_of us (judged_reading now r f p).port in
     TakeFollows (cut_by r f p.buffer moves) (moves_by r f moves) us (judged_reading now r f p))
 takes-follow s now jump us p (Err why) f is there here h = absurd cc
@@ -277,7 +283,8 @@ takes-follow s now jump us p (Ok (Some said)) (Whole line rest) is there here h 
       all_is = h.all_is;
     }
 
-uses-follow : (us : List Use) (p : PortData) → p.presence ≡ Present → StaysPresent us p → UseFollows us p
+uses-follow : (us : List Use) (p : PortData) → p.presence ≡ Present → StaysPresent us p
+    → UseFollows us p
 unfolding moves_of
 uses-follow [] p here stays = record { keeps = refl; had_is = refl; all_is = refl }
 uses-follow (Takes s now jump ∷ us) p here stays =
@@ -317,7 +324,8 @@ uses-follow (Polls t s script ∷ us) p here stays =
 
 -- from the acceptance on
 pub starts-follow : (sends : Bool) (settings : Option SupervisionSettings) (us : List Use)
-    → StaysPresent us (empty_port sends settings Absent) → UseFollows us (empty_port sends settings Absent)
+    → StaysPresent us (empty_port sends settings Absent)
+    → UseFollows us (empty_port sends settings Absent)
 unfolding moves_of
 starts-follow sends settings [] stays = record { keeps = refl; had_is = refl; all_is = refl }
 starts-follow sends settings (Takes s now jump ∷ us) stays = absurd cc

@@ -111,7 +111,8 @@ steady-read w heard p h = by-front (is_waiting (first_line_of p.buffer)) refl
     by-heard StreamEnd calls = steady-closed w Ended
     by-heard Failure calls = steady-closed w LinkFailed
 
-    by-front : (v : Bool) → is_waiting (first_line_of p.buffer) ≡ v → Steady w (read_part heard p).after
+    by-front : (v : Bool) → is_waiting (first_line_of p.buffer) ≡ v
+        → Steady w (read_part heard p).after
     by-front true e = rw e (by-heard heard _)
     by-front false e = rw e (steady-port w p h)
 
@@ -178,7 +179,8 @@ attended-same w t s script p here is still =
 
 pub accepted-same : (w : WatchData) (now : ℕ) (s : State) (taken : Option (Option SocketAddrV4))
     (heard : ReadOutcome × ReadOutcome) (p : PortData) → p.presence ≡ Absent
-    → (with_no_data Present p).watch ≡ Some w → (accept_outcome now s taken heard p).port.presence ≡ Present
+    → (with_no_data Present p).watch ≡ Some w
+    → (accept_outcome now s taken heard p).port.presence ≡ Present
     → SameWatch w (accept_outcome now s taken heard p).port.watch
 accepted-same w now s None heard p away is here =
     let no : Absent ≡ Present = sym away ∙ here in absurd cc
@@ -222,7 +224,8 @@ judged-near s now w line said e = by-known w.introduced refl
     by-known : (v : Bool) → w.introduced ≡ v → now - min now said.moment ≤ w.settings.limit
     by-known true known = report-near line w now (timed_line_of s line) said (rw known at e)
     by-known false known =
-        introduction-near w.settings now (introduction_moment w.settings.key s.domain s.revision line) said
+        introduction-near w.settings now
+        (introduction_moment w.settings.key s.domain s.revision line) said
         (rw known at e)
 
 -- what was judged of a process that is believed: the clock has not jumped, and the first line, if
@@ -292,7 +295,8 @@ front-near s now w p (Whole line rest) is e =
 
 -- ---- what is known after a line
 
-pub known-duties : (message : ProcessMessage) (w : WatchData) → (after_message message w).settings ≡ w.settings
+pub known-duties : (message : ProcessMessage) (w : WatchData)
+    → (after_message message w).settings ≡ w.settings
 known-duties Blank w = refl
 known-duties (Reports event) w = refl
 known-duties Introduces w = refl
@@ -312,7 +316,8 @@ stays-introduced Introduces w known = refl
 stays-introduced Lives w known = known
 
 known-first : (w : WatchData) (now : ℕ) (o : Option ℕ) (said : TimedMessage)
-    → judge_introduction w.settings now o ≡ Ok said → (after_timed_message now said w).introduced ≡ true
+    → judge_introduction w.settings now o ≡ Ok said
+    → (after_timed_message now said w).introduced ≡ true
 known-first w now None said e = absurd cc
 known-first w now (Some moment) said e =
     sym (ap (λ (x : TimedMessage). (after_timed_message now x w).introduced)
@@ -327,7 +332,8 @@ known-later s now w line said e = by-known w.introduced refl
         stays-introduced said.message (record w { heard = min now said.moment; last = said.moment })
         known
     by-known false known =
-        known-first w now (introduction_moment w.settings.key s.domain s.revision line) said (rw known at e)
+        known-first w now (introduction_moment w.settings.key s.domain s.revision line) said
+        (rw known at e)
 
 -- ---- what a turn takes of a connected process
 
@@ -400,7 +406,8 @@ took-some s now jump p w (Whole line rest) said here watched j =
           (subst (λ (d : SupervisionSettings). now - min now said.moment ≤ d.limit)
           (sym (known-duties said.message before)) near);
       no_jump =
-          subst (λ (d : SupervisionSettings). jump ≤ d.limit) (sym (known-duties said.message before))
+          subst (λ (d : SupervisionSettings). jump ≤ d.limit)
+          (sym (known-duties said.message before))
           (jump-near jump w p.watch watched j.no_jump);
     }
 
@@ -482,7 +489,8 @@ attended-here w t s script p here is =
     let part = exchange_part t s (script.taken, script.heard) p in
     let whole : poll_outcome t s script p ≡ connected_outcome p part =
     ap (λ presence. outcome_by_presence presence t s script p) here in
-    subst (λ (a : PollOutcome). (a.port.presence ≡ LossPending) ⊎ (a.port.presence ≡ Present)) (sym whole)
+    subst (λ (a : PollOutcome). (a.port.presence ≡ LossPending) ⊎ (a.port.presence ≡ Present))
+    (sym whole)
     (here-or-lost w p part.after part.calls
     (steady-talked w t s (script.taken, script.heard) p
     (record { here = here; watch = same-watch w p.watch is })))
@@ -555,7 +563,8 @@ kept-owes : (w : WatchData) (before : PortData) (r : Result PortData DisconnectR
     → settings_in (closed_or_open before r calls).port.watch ≡ Some w.settings
 buffer-owes w before (Ok q) calls is h =
     let same : SameWatch w q.watch = (h q refl).watch in
-    ap settings_in same.is ∙ ap (λ d. let o : Option SupervisionSettings = Some d in o) same.settings
+    ap settings_in same.is ∙ ap (λ d. let o : Option SupervisionSettings = Some d in o)
+    same.settings
 buffer-owes w before (Err why) calls is h = owes-emptied LossPending before ∙ ap settings_in is
 
 come-owes : (w : WatchData) (before : PortData) (r : Result PortData DisconnectReason)
@@ -564,7 +573,8 @@ come-owes : (w : WatchData) (before : PortData) (r : Result PortData DisconnectR
     → settings_in (opened_or_closed before r calls).port.watch ≡ Some w.settings
 come-owes w before (Ok q) calls is h =
     let same : SameWatch (initial_watch w.settings) q.watch = (h q refl).watch in
-    ap settings_in same.is ∙ ap (λ d. let o : Option SupervisionSettings = Some d in o) same.settings
+    ap settings_in same.is ∙ ap (λ d. let o : Option SupervisionSettings = Some d in o)
+    same.settings
 come-owes w before (Err why) calls is h = owes-emptied Absent before ∙ ap settings_in is
 
 -- behind a turn

@@ -30,7 +30,8 @@ reads_end (Closes a ∷ calls) = reads_end calls
 -- line; the link is not called before. A process that a turn dismisses is lost in this turn, which
 -- reads no line of it; after the turn its connection is closed for the same reason. If a process
 -- has gone while it waited, the port buffers nothing of it and reports nothing.
-pub record ReportsNothing (t : ReportedTurn) (s : State) (now jump : ℕ) (script : Script) (p : PortData)
+pub record ReportsNothing (t : ReportedTurn) (s : State) (now jump : ℕ) (script : Script)
+    (p : PortData)
     : Type 0 where
   pub closed : (why : DisconnectReason) → p.presence ≡ Present
       → (poll_outcome t s script p).connection_event ≡ Some (Closed why)
@@ -65,6 +66,7 @@ accepted_octets (Closes a ∷ calls) = accepted_octets calls
 pub record WritesInOrder (t : ReportedTurn) (s : State) (script : Script) (p : PortData)
     : Type 0 where
   pub rest : List ℕ
-  pub whole : p.queue ++ all_output t s p ≡ accepted_octets (poll_outcome t s script p).calls ++ rest
+  pub whole : p.queue ++ all_output t s p
+      ≡ accepted_octets (poll_outcome t s script p).calls ++ rest
   pub waits : (poll_outcome t s script p).connection_event ≡ None
       → (poll_outcome t s script p).port.queue ≡ rest

@@ -145,9 +145,14 @@ first_part now s answers p =
 
 -- the connection is opened, or closed if it has ended
 abbrev pub opened_or_closed : PortData → Result PortData DisconnectReason → List Call → PollOutcome
-opened_or_closed before (Ok p) calls = record { port = p; connection_event = Some Opened; calls = calls }
+opened_or_closed before (Ok p) calls =
+    record { port = p; connection_event = Some Opened; calls = calls }
 opened_or_closed before (Err why) calls =
-    record { port = with_no_data Absent before; connection_event = None; calls = calls ++ Closes 1 ∷ [] }
+    record {
+      port = with_no_data Absent before;
+      connection_event = None;
+      calls = calls ++ Closes 1 ∷ [];
+    }
 
 -- a process that was greeted is connected, or its connection is closed again
 abbrev pub after_greeting : PortData → PollPart → PollOutcome
@@ -160,7 +165,8 @@ with_call call a = record a { calls = call ∷ a.calls }
 -- a connection that waits is accepted
 abbrev pub accept_outcome : ℕ → State → Option (Option SocketAddrV4) → ReadOutcome × ReadOutcome
     → PortData → PollOutcome
-accept_outcome now s None heard p = record { port = p; connection_event = None; calls = Accepts 1 None ∷ [] }
+accept_outcome now s None heard p =
+    record { port = p; connection_event = None; calls = Accepts 1 None ∷ [] }
 accept_outcome now s (Some None) heard p =
     record { port = p; connection_event = None; calls = Accepts 1 (Some None) ∷ [] }
 accept_outcome now s (Some (Some from)) heard p =
@@ -185,7 +191,8 @@ outcome_by_presence Absent t s script p =
     accept_outcome t.now s script.accepted (script.heard, script.again) p
 outcome_by_presence LossPending t s script p = unchanged_outcome p
 outcome_by_presence (Dismissed why) t s script p = close_dismissed why p
-outcome_by_presence Present t s script p = connected_outcome p (exchange_part t s (script.taken, script.heard) p)
+outcome_by_presence Present t s script p =
+    connected_outcome p (exchange_part t s (script.taken, script.heard) p)
 
 -- What the port does after a turn with this report, given the device after the turn.
 abbrev pub poll_outcome : ReportedTurn → State → Script → PortData → PollOutcome
@@ -194,7 +201,8 @@ poll_outcome t s script p = outcome_by_presence p.presence t s script p
 -- ---- as code does it
 
 -- a part resulted in this port, or in this reason; in the second case the port may be any
-abbrev pub IsPartResult : Result PortData DisconnectReason → PortData → Result (Unit {0}) DisconnectReason
+abbrev pub IsPartResult : Result PortData DisconnectReason → PortData
+    → Result (Unit {0}) DisconnectReason
     → Type 0
 IsPartResult (Ok p) after (Ok u) = after ≡ p
 IsPartResult (Ok p) after (Err why) = ⊥
@@ -225,7 +233,8 @@ module _ {L : Type 0} (step : L → Call → L → Type 0) where
   abbrev pub ClosesDismissed : Presence → L → L → PortData → PortData → Option ConnectionEvent
       → Type 0
   ClosesDismissed (Dismissed why) old new before after connection_event =
-      step old (Closes 1) new × (after ≡ with_no_data Absent before) × (connection_event ≡ Some (Closed why))
+      step old (Closes 1) new × (after ≡ with_no_data Absent before)
+      × (connection_event ≡ Some (Closed why))
   ClosesDismissed Absent old new before after connection_event = Unit {0}
   ClosesDismissed LossPending old new before after connection_event = Unit {0}
   ClosesDismissed Present old new before after connection_event = Unit {0}

@@ -140,7 +140,8 @@ judged_reading now (Ok (Some received)) f p = line_reading now received f p
 
 -- what a turn takes of a connected process
 abbrev pub connected_reading : State → ℕ → ℕ → PortData → PortReading
-connected_reading s now jump p = judged_reading now (judge_port s now jump p) (first_line_of p.buffer) p
+connected_reading s now jump p =
+    judged_reading now (judge_port s now jump p) (first_line_of p.buffer) p
 
 -- the loss of a process that has disconnected
 abbrev pub lost_reading : PortData → PortReading

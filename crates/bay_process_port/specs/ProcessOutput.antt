@@ -62,7 +62,8 @@ alive_text now lives = if lives then decimal now ++ codes " alive\n" else []
 abbrev pub greeting_text : ℕ → State → Option WatchData → List ℕ
 greeting_text now s None = []
 greeting_text now s (Some w) =
-    decimal now ++ codes " process " ++ decimal w.settings.limit ++ codes " " ++ s.domain ++ codes " "
+    decimal now ++ codes " process " ++ decimal w.settings.limit ++ codes " " ++ s.domain
+    ++ codes " "
     ++ s.revision ++ codes "\n"
 
 -- ---- the queue

@@ -88,7 +88,8 @@ abbrev pub judge_line : Option WatchData → State → ℕ → List ℕ → Resu
 judge_line None s now line = judge_plain_line now line (event_in_line s line)
 judge_line (Some w) s now line =
     if w.introduced then judge_later_line line w now (timed_line_of s line)
-    else judge_introduction w.settings now (introduction_moment w.settings.key s.domain s.revision line)
+    else judge_introduction w.settings now
+    (introduction_moment w.settings.key s.domain s.revision line)
 
 -- why the connection must be closed if there are more octets than a line may have, without an end
 abbrev pub overlong_reason : Option WatchData → List ℕ → DisconnectReason
@@ -121,7 +122,8 @@ after_message Lives w = record w { lives = true }
 -- a line counts from the moment that it names, but from no later one than that of its turn
 abbrev pub after_timed_message : ℕ → TimedMessage → WatchData → WatchData
 after_timed_message now received w =
-    after_message received.message (record w { heard = min now received.moment; last = received.moment })
+    after_message received.message
+    (record w { heard = min now received.moment; last = received.moment })
 
 -- what is known of the process after a message, if it is supervised
 abbrev pub watch_after : ℕ → TimedMessage → Option WatchData → Option WatchData

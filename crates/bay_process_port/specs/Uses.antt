@@ -83,7 +83,8 @@ pub record LosesNoLine (sends : Bool) (settings : Option SupervisionSettings) (u
   pub are : AreLines lines text
   pub given : all_octets_read uses (empty_port sends settings Absent)
       ≡ text ++ (after_uses uses (empty_port sends settings Absent)).buffer
-  pub lines_read : all_lines_read uses (empty_port sends settings Absent) ≡ filter has_process_event lines
+  pub lines_read : all_lines_read uses (empty_port sends settings Absent)
+      ≡ filter has_process_event lines
 
 -- ---- releases
 
@@ -108,8 +109,10 @@ all_releases_sent (u ∷ us) p = releases_sent u p ++ all_releases_sent us (port
 -- last for each switch is its release.
 abbrev pub IsUpToDate : Option SupervisionSettings → List Use → ReportedTurn → State → Script
     → Type 0
-IsUpToDate settings uses t s script = (after_uses uses (empty_port true settings Absent)).presence ≡ Present
-    → (poll_outcome t s script (after_uses uses (empty_port true settings Absent))).connection_event ≡ None
+IsUpToDate settings uses t s script =
+    (after_uses uses (empty_port true settings Absent)).presence ≡ Present
+    → (poll_outcome t s script (after_uses uses (empty_port true settings Absent))).connection_event
+    ≡ None
     → (k : ℕ) → k < 32 → k < length s.switches
     → last_release_sent k None
     (all_releases_sent (uses ++ Polls t s script ∷ []) (empty_port true settings Absent))

@@ -59,7 +59,8 @@ pub fn a_partial_line_ends_with_its_process()
 /// the last line that it was sent for a switch has the release of this switch. The first turn after
 /// its acceptance sends all of them.
 pub fn a_process_knows_the_releases()
-    ensures { (settings : Option SupervisionSettings) (uses : List Use) (t : ReportedTurn) (s : State)
+    ensures { (settings : Option SupervisionSettings) (uses : List Use) (t : ReportedTurn)
+        (s : State)
         (script : Script) → StaysPresent uses (empty_port true settings Absent)
         → IsUpToDate settings uses t s script }
 {}
@@ -80,8 +81,10 @@ pub fn a_supervised_process_is_of_this_bay()
     ensures { (sends : Bool) (settings : SupervisionSettings) (domain revision : List ℕ)
         (uses : List Use)
         (s : State) (now jump : ℕ) (event : ProcessEvent)
-        → StaysPresent uses (empty_port sends (Some settings) Absent) → AreOfBay domain revision uses
-        → (port_reading s now jump (after_uses uses (empty_port sends (Some settings) Absent))).event
+        → StaysPresent uses (empty_port sends (Some settings) Absent)
+        → AreOfBay domain revision uses
+        → (port_reading s now jump
+        (after_uses uses (empty_port sends (Some settings) Absent))).event
         ≡ Some event
         → IsOfThisBay sends settings domain revision uses }
 {}

@@ -108,7 +108,8 @@ pub fn poll<L: Link>(
     turn: &Turn,
 ) -> Option<ConnectionEvent>
     ensures { Polls (CountedCall L.does L.failures)
-        (λ script. poll_outcome (reported_turn moment turn.now device.now) device.now script port.old)
+        (λ script. poll_outcome (reported_turn moment turn.now device.now) device.now script
+        port.old)
         link.old link.new port.new result }
 {
     match port.presence() {

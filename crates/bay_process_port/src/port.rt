@@ -111,8 +111,13 @@ impl Model for Port {
 
     ghost Value = { PortData };
 
-    ghost view = { λ p. record
-        { presence = p.presence; buffer = p.buffer; queue = p.queue; sent = p.sent; watch = p.watch } };
+    ghost view = { λ p. record {
+      presence = p.presence;
+      buffer = p.buffer;
+      queue = p.queue;
+      sent = p.sent;
+      watch = p.watch;
+    } };
 
     ghost use Rattle.bay_process_port.specs.Fit.{IsFirstLine};
 
@@ -244,7 +249,8 @@ impl Port {
     fn take_connected_line(&mut self, device: &Device, now: u64, jump: u64) -> PortInput
         ensures lost { result.is_lost ≡ (connected_reading device.now now jump self.old).is_lost }
         ensures event { result.event ≡ (connected_reading device.now now jump self.old).event }
-        ensures shown { result.shown ≡ shown_line (connected_reading device.now now jump self.old).line }
+        ensures shown { result.shown
+            ≡ shown_line (connected_reading device.now now jump self.old).line }
         ensures port { self.new ≡ (connected_reading device.now now jump self.old).port }
     {
         match self.check(device, now, jump) {
@@ -339,7 +345,8 @@ impl Port {
         moment: u64,
         turn: &Turn,
     ) -> Result<(), DisconnectReason>
-        ensures leads { IsPartResult (with_report_queued (reported_turn moment turn.now device.now) device.now
+        ensures leads { IsPartResult
+            (with_report_queued (reported_turn moment turn.now device.now) device.now
             self.old).after
             self.new result }
         ensures bound { StaysBound self.old self.new }
@@ -388,7 +395,8 @@ impl Port {
     /// Writes the queue once, as much as the link takes, if there is anything in it. Fails with
     /// `LinkFailed`.
     pub(crate) fn offer<L: Link>(&mut self, link: &mut L) -> Result<(), DisconnectReason>
-        ensures does { PerformsPart (CountedCall L.does L.failures) offer_part link.old link.new self.old
+        ensures does { PerformsPart (CountedCall L.does L.failures) offer_part link.old link.new
+            self.old
             self.new result }
         ensures bound { StaysBound self.old self.new }
     {
@@ -407,7 +415,8 @@ impl Port {
     /// Reads once, if no whole line is buffered. Fails with `Ended` if the process sends no more,
     /// and with `LinkFailed`.
     pub(crate) fn read<L: Link>(&mut self, link: &mut L) -> Result<(), DisconnectReason>
-        ensures does { PerformsPart (CountedCall L.does L.failures) read_part link.old link.new self.old self.new
+        ensures does { PerformsPart (CountedCall L.does L.failures) read_part link.old link.new
+            self.old self.new
             result }
         ensures bound { StaysBound self.old self.new }
     {
@@ -435,7 +444,8 @@ impl Port {
         device: &Device,
         moment: u64,
     ) -> Result<(), DisconnectReason>
-        ensures does { PerformsPart (CountedCall L.does L.failures) (first_part moment device.now) link.old
+        ensures does { PerformsPart (CountedCall L.does L.failures) (first_part moment device.now)
+            link.old
             link.new self.old self.new result }
         ensures bound { StaysBound self.old self.new }
     {

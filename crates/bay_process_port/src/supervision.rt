@@ -263,7 +263,11 @@ impl SupervisedProcess {
 }
 
 // Returns the message of a line of a process that is not supervised, or `BadLine`.
-fn check_plain_line(device: &Device, now: u64, line: &[u8]) -> Result<TimedMessage, DisconnectReason>
+fn check_plain_line(
+    device: &Device,
+    now: u64,
+    line: &[u8],
+) -> Result<TimedMessage, DisconnectReason>
     ensures { result ≡ judge_plain_line now line.now (event_in_line device.now line.now) }
 {
     let message = match read_process_event(device, line) {
@@ -271,7 +275,10 @@ fn check_plain_line(device: &Device, now: u64, line: &[u8]) -> Result<TimedMessa
         Some(event) => ProcessMessage::Reports(event),
         None => return Err(DisconnectReason::BadLine(EscapedText::new(line))),
     };
-    Ok(TimedMessage { moment: now, message })
+    Ok(TimedMessage {
+        moment: now,
+        message,
+    })
 }
 
 /// Returns the message of a line at a moment, with the moment from which it counts, or why the

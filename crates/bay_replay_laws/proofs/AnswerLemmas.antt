@@ -139,7 +139,8 @@ module _ (now a : ℕ) where
   on-pdus terms [] = All-nil IsOn
   on-pdus terms (pdu ∷ pdus) = All-cons IsOn _ _ refl (on-pdus terms pdus)
 
-  on-more : (octets : List ℕ) (d : StepState) → All IsOn d.sent → All IsOn (with_sent a octets d).sent
+  on-more : (octets : List ℕ) (d : StepState) → All IsOn d.sent
+      → All IsOn (with_sent a octets d).sent
   on-more octets d on = All-append IsOn d.sent _ on (All-cons IsOn _ [] refl (All-nil IsOn))
 
   on-next : (i : Indication) (d : StepState) (later : StepState → ReceiveResult) → All IsOn d.sent
@@ -345,7 +346,8 @@ module _ (first : State) (past : List PastEvent) (steps : EachPast Steps first p
             (hex-free 32 x.octets refl)
             ∙ ap (λ a. let o : Option PrintedSend =
             Some (record { association = decimal a; octets = encode_lower x.octets }) in o) on;
-        accepts = subst (λ response. Contains (operates_in (observed_in_pdu order.now from.association
+        accepts =
+            subst (λ response. Contains (operates_in (observed_in_pdu order.now from.association
             from.replied.pdu (bay_of first) response)) l.command) (sym sent.1.1.2)
             from.replied.accepts;
         remote = All-contains (IsAtRemote first at.earlier) l.step.commands l.command

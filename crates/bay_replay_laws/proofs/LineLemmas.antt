@@ -115,7 +115,8 @@ lines-are Is (line ∷ lines) each =
 pub ended-append : (xs ys : List (List ℕ)) → with_ends (xs ++ ys) ≡ with_ends xs ++ with_ends ys
 with_ends-append [] ys = refl
 with_ends-append (x ∷ xs) ys =
-    ap (λ t. x ++ 10 ∷ t) (ended-append xs ys) ∙ sym (append_assoc x (10 ∷ with_ends xs) (with_ends ys))
+    ap (λ t. x ++ 10 ∷ t) (ended-append xs ys)
+    ∙ sym (append_assoc x (10 ∷ with_ends xs) (with_ends ys))
 
 pub each-append : (Is : List ℕ → Type 0) (xs ys : List (List ℕ)) → Each Is xs → Each Is ys
     → Each Is (xs ++ ys)

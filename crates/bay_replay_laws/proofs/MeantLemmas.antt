@@ -300,7 +300,8 @@ run-within parts first text status run line scan at is =
 pub scans-are-within : ScansAreWithinBudget
 scans-are-within scenario log text status reported line scan at is =
     elim (of-each printed_scan other-no-scan load-none
-    (λ parts first text status run. AreWithinBudget text) run-within scenario log text status reported) [
+    (λ parts first text status run. AreWithinBudget text) run-within scenario log text status
+    reported) [
       | inl none ↦
           absurd (let no : ◌≡◌ {A = Option PrintedScan} None (Some scan) =
           sym (none line at) ∙ is in cc)

@@ -55,7 +55,8 @@ module _ (begin load : List ℕ) (load_is : begin ≡ load ++ 10 ∷ []) where
       ∙ sym (append_assoc load (10 ∷ []) (past_text past ++ with_ends part))
       ∙ ap (λ t. t ++ (past_text past ++ with_ends part)) (sym load_is)
 
-  pub printed-for : (p : PastEvent) (earlier : List PastEvent) (gs : Groups) (part rest : List (List ℕ))
+  pub printed-for : (p : PastEvent) (earlier : List PastEvent) (gs : Groups)
+      (part rest : List (List ℕ))
       (line : List ℕ) → AreGroups earlier gs
       → step_text p.now p.answer p.after ≡ with_ends (part ++ line ∷ rest)
       → IsCommandLineFor begin p earlier (load ∷ (flat gs ++ part)) line
@@ -223,7 +224,8 @@ module _ {A : Type 0} (read : List ℕ → Option A)
     by-load : (scenario : List ℕ) (parts : ScenarioParts) (log : Option (List ℕ))
         (text : List ℕ) (status : ℕ) (loaded : Result LoadData LoadError)
         → scenario_of scenario ≡ Some parts
-        → load_of parts.bay parts.logic ≡ loaded → LoadedTraceReport loaded parts.trace log text status
+        → load_of parts.bay parts.logic ≡ loaded
+        → LoadedTraceReport loaded parts.trace log text status
         → OfReport scenario text status
     by-load scenario parts log text status (Ok l) cut is reported =
         let first : State = device_of l in

@@ -158,7 +158,8 @@ placed (p ∷ past) (g ∷ gs) before after line are e = elim (cut (flat gs) g b
 
 -- ---- the group of one of the events
 
-pub record OneGroup (since : List PastEvent) (q : PastEvent) (earlier : List PastEvent) (gs : Groups)
+pub record OneGroup (since : List PastEvent) (q : PastEvent) (earlier : List PastEvent)
+    (gs : Groups)
     : Type 0 where
   pub own : List (List ℕ)
   pub is : IsGroup q own

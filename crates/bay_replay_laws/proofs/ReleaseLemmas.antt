@@ -85,7 +85,8 @@ told-first s k switches switch here =
 
 released-as : (s t : State) (id : List ℕ) (k : ℕ) (operation : Operation) → Keeps s.rows t.rows
     → is_truth true (leaf_named (enable_name k operation) t.rows) ≡ true
-    → releases_operation operation (record { id = id; opens = may_open s k; closes = may_close s k }) ≡ true
+    → releases_operation operation
+    (record { id = id; opens = may_open s k; closes = may_close s k }) ≡ true
 released-as s t id k operations.Open keeps enabled = ap (is_truth true) (sym (keeps k _)) ∙ enabled
 released-as s t id k operations.Close keeps enabled = ap (is_truth true) (sym (keeps k _)) ∙ enabled
 
@@ -259,7 +260,8 @@ module _ (age : ℕ) (first : State) (past : List PastEvent) (known : Known age 
       one-group s.since q s.earlier at.groups
       (subst (λ ps. AreGroups ps at.groups) s.split at.are) in
       let lines : ScanLines q steps g.own =
-      scan-lines q (expiry_report q.now old_q) steps g.own ids s.done.answered g.is.whole g.is.each in
+      scan-lines q (expiry_report q.now old_q) steps g.own ids s.done.answered g.is.whole g.is.each
+      in
       let k : ℕ = l.command.switch in
       let switch_is : slice_get q.after.switches k ≡ Some l.switch =
       ap (λ ss. slice_get ss k) (switches

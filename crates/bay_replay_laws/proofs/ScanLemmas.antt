@@ -191,7 +191,8 @@ same-since first past now age m steps h l =
     done-tells h.scan.now h.scan.event (device_after first h.earlier) h.scan.answer h.scan.after
     (past-in Steps first h.since h.scan h.earlier past h.split steps).0 h.scanned h.done in
     let same : Unchanged h.scan h.since =
-    recursion_from_All (λ (p : PastEvent). IsSameProcess h.scan.after p.after) h.since h.unchanged in
+    recursion_from_All (λ (p : PastEvent). IsSameProcess h.scan.after p.after) h.since h.unchanged
+    in
     let here = found h.scan h.earlier l.scan l.earlier tells h.since l.since is l.none same in
     All-from_recursion (λ (p : PastEvent). IsSameProcess l.scan.after p.after) l.since
     (each-since h.scan h.earlier l.scan l.earlier tells h.since l.since is l.none same here)

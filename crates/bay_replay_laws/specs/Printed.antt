@@ -126,7 +126,8 @@ command_from_parts _ id _ = None
 
 abbrev pub command_in : List (List ℕ) → Option PrintedCommand
 command_in (moment ∷ verb ∷ id ∷ order ∷ []) =
-    if bytes_eq verb (codes "command") then command_from_parts (number_of moment) id (operation_of order)
+    if bytes_eq verb (codes "command")
+    then command_from_parts (number_of moment) id (operation_of order)
     else None
 command_in _ = None
 

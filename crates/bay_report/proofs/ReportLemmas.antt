@@ -88,7 +88,8 @@ module _ {W : Type 0} {contents : W → Option (List ℕ)} {asks : W → WriteCa
       → Prints contents asks May old new r
   Prints-last {old} {mid} {text} new status r reported put f is = record {
     printed = last-printed new status r reported put f.ends is;
-    calls_made = Asked-then old.inner mid.inner new.inner old.has_failed mid.has_failed new.has_failed
+    calls_made =
+        Asked-then old.inner mid.inner new.inner old.has_failed mid.has_failed new.has_failed
         put.calls_made f.calls_made;
     same_logs = f.same_logs ∙ put.same_logs;
   }
@@ -125,7 +126,11 @@ weaker : {W : Type 0} (contents : W → Option (List ℕ)) (May Might : List ℕ
     → ((text : List ℕ) (status : ℕ) → May text status → Might text status)
     → Printed contents May old new r → Printed contents Might old new r
 weaker contents May Might old new (Ok status) wider p = (
-  record { text = p.0.text; reported = wider p.0.text status p.0.reported; appended = p.0.appended },
+  record {
+    text = p.0.text;
+    reported = wider p.0.text status p.0.reported;
+    appended = p.0.appended;
+  },
   p.1,
 )
 weaker contents May Might old new (Err fault) wider p = (
@@ -179,7 +184,8 @@ module _ {W : Type 0} {contents : W → Option (List ℕ)} {asks : W → WriteCa
       → Prints contents asks (IsOutput last status) old between r
       → Prints contents asks (IsLoggedOutput line last status line) old between r
   with-line {r} line p = Prints-weaker contents asks (IsOutput last status)
-      (IsLoggedOutput line last status line) old between r (λ text answered reported. (refl, reported)) p
+      (IsLoggedOutput line last status line) old between r
+      (λ text answered reported. (refl, reported)) p
 
   -- a text was printed, and its line was logged
   pub PrintsLogs-told : {new : WriterState W} (line : Option (List ℕ)) (answered : ℕ)
@@ -203,9 +209,11 @@ pub Prints-fault : {W : Type 0} {contents : W → Option (List ℕ)} {asks : W �
     (p : Prints contents asks May old new r) → old.has_failed ≡ false
     → is_err r ≡ some_call write_failed p.calls_made.calls
 Prints-fault old new (Ok status) p e =
-    sym p.printed.1.1 ∙ p.calls_made.failed ∙ ap (λ b. b || some_call write_failed p.calls_made.calls) e
+    sym p.printed.1.1 ∙ p.calls_made.failed
+    ∙ ap (λ b. b || some_call write_failed p.calls_made.calls) e
 Prints-fault old new (Err fault) p e =
-    sym p.printed.1 ∙ p.calls_made.failed ∙ ap (λ b. b || some_call write_failed p.calls_made.calls) e
+    sym p.printed.1 ∙ p.calls_made.failed
+    ∙ ap (λ b. b || some_call write_failed p.calls_made.calls) e
 
 -- of two, the first where the condition holds
 pub chosen : {A : Type 0} (B : Type 0) (b : Bool) → b ≡ true → A → MatchBool b A B

@@ -53,7 +53,8 @@ abbrev pub unread_line : List ℕ → ReadFault → Option (List ℕ)
 unread_line name unread.TooLong =
     Some (codes "bayctl: fault 121: " ++ (name ++ codes ": it is longer than 16,777,216 bytes\n"))
 unread_line name (unread.Failed kind) =
-    Some (codes "bayctl: fault 121: " ++ (name ++ (codes ": " ++ (read_error_words kind ++ codes "\n"))))
+    Some (codes "bayctl: fault 121: "
+    ++ (name ++ (codes ": " ++ (read_error_words kind ++ codes "\n"))))
 unread_line name unread.OutOfMemory = None
 
 -- the text that is printed for a file that can't be read

@@ -224,7 +224,8 @@ fn put_closed<W: Sink>(writer: &mut WatchedWriter<W>, moment: u64, closed: Optio
 
 // Writes the lines of an accepted event.
 fn put_accepted<W: Sink>(writer: &mut WatchedWriter<W>, device: &Device, moment: u64, step: &Step)
-    ensures { Puts W.contents W.does writer.old (accepted_text moment step.now device.now) writer.new }
+    ensures { Puts W.contents W.does writer.old (accepted_text moment step.now device.now)
+        writer.new }
 {
     put_ended(writer, moment, &step.ended);
     put_sends(writer, moment, step.sent.as_slice());

@@ -127,7 +127,8 @@ pub fn write_and_log<W: Sink>(
 /// Writes `fault memory` as the whole output, and returns the status 3. Fails if a write or a flush
 /// fails or failed before.
 pub fn write_out_of_memory<W: Sink>(writer: &mut WatchedWriter<W>) -> Result<u8, WriteFault>
-    ensures { PrintsLogs W.contents W.does (IsLoggedOutput None (codes "fault memory\n") 3) writer.old
+    ensures { PrintsLogs W.contents W.does (IsLoggedOutput None (codes "fault memory\n") 3)
+        writer.old
         writer.new result }
 {
     write_text(writer, NO_MEMORY, Status::Fault)

@@ -73,7 +73,8 @@ pub(crate) fn write_refusal<W: Sink>(
     writer: &mut WatchedWriter<W>,
     error: LoadError,
 ) -> Result<u8, WriteFault>
-    ensures { Prints W.contents W.does (IsOutput (load_refusal_text error) 1) writer.old writer.new result }
+    ensures { Prints W.contents W.does (IsOutput (load_refusal_text error) 1) writer.old writer.new
+        result }
 {
     put_load_refusal(writer, error);
     finish(writer, Status::Refused)

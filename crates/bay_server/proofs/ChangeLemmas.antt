@@ -60,7 +60,8 @@ word-stays now what id word = rw (same-text word) refl
 -- a view that stays is not logged
 view-stays : (column : Column) (now : ℕ) (id : List ℕ) (view : SwitchView)
     → view_log column now id view view ≡ []
-view-stays Position now id view = word-stays now (codes " position ") id (position_word view.position)
+view-stays Position now id view =
+    word-stays now (codes " position ") id (position_word view.position)
 view-stays Release now id view = word-stays now (codes " release ") id (release_word view.release)
 
 -- views that stay are not logged

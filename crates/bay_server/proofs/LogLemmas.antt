@@ -142,7 +142,8 @@ module _ {W : Type 0} (contents : W → Option (List ℕ)) (asks : W → WriteCa
     pub switches-start : (old : WriterState W) → LogsSwitches old 0 old
     switches-start old = record { goes = λ new rest. rest }
 
-    pub switches-next : (old mid next : WriterState W) (k : ℕ) (d : SwitchView) → LogsSwitches old k mid
+    pub switches-next : (old mid next : WriterState W) (k : ℕ) (d : SwitchView)
+        → LogsSwitches old k mid
         → k < length before
         → LogsAll contents asks mid (switch_log column now s k (get_or before k d)) next
         → LogsSwitches old (k + 1) next
@@ -156,7 +157,8 @@ module _ {W : Type 0} (contents : W → Option (List ℕ)) (asks : W → WriteCa
               (logs-then mid next new _ _ logged rest));
         }
 
-    pub switches-end : (old mid : WriterState W) (k : ℕ) → LogsSwitches old k mid → length before ≤ k
+    pub switches-end : (old mid : WriterState W) (k : ℕ) → LogsSwitches old k mid
+        → length before ≤ k
         → LogsAll contents asks old (switches_log column now s 0 before) mid
     switches-end old mid k upto end =
         upto.goes mid (subst (λ ls. LogsAll contents asks mid ls mid)

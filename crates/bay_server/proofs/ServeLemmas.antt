@@ -77,7 +77,8 @@ module _ (k : ℕ) (text : List ℕ) (all : List (ℕ × List ℕ))
 
 module _ {L B : Type 0} (below : B → L) (does : L → Call → L → Type 0) (failures : L → ℕ) where
   talks-below : (calls : List Call) (old new : B)
-      → MakesCalls (CountedCall (λ o call n. does (below o) call (below n)) (λ b. failures (below b)))
+      → MakesCalls (CountedCall (λ o call n. does (below o) call (below n))
+      (λ b. failures (below b)))
       old
       calls new
       → MakesCalls (CountedCall does failures) (below old) calls (below new)
@@ -90,7 +91,8 @@ module _ {L B : Type 0} (below : B → L) (does : L → Call → L → Type 0) (
 
   pub serves-below : (old new : B) (now : ℕ) (given : ProcessReport) (before after : ServerData)
       (turn : Turn)
-      → Serves (CountedCall (λ o call n. does (below o) call (below n)) (λ b. failures (below b))) old
+      → Serves (CountedCall (λ o call n. does (below o) call (below n)) (λ b. failures (below b)))
+      old
       new now given before after turn
       → Serves (CountedCall does failures) (below old) (below new) now given before after turn
   serves-below old new now given before after turn s = record {
@@ -138,7 +140,8 @@ module _ {L B H W : Type 0} (below : B → L) (does : L → Call → L → Type 
       link-before link-after (moment_at clock held-before) (report_in next.given) held-before
       held-after turn
       → before ≡ bay_view held-before.device
-      → ReportsAndPolls (CountedCall does failures) contents asks now count-before next before turn s
+      → ReportsAndPolls (CountedCall does failures) contents asks now count-before next before turn
+      s
       process-chosen process-after begun told-to answer
       → count-after ≡ count_after now turn count-before
       → LogsAll contents asks told-to (record_log now end) new
@@ -431,7 +434,8 @@ module _ {L H W : Type 0} (step : L → Call → L → Type 0) (acts : H → Hos
     serves = goes.serves;
     reported = goes.reported;
     reports =
-        reports-cut (moment_of goes.clocks before) before.count (chosen_input goes.clocks before).next
+        reports-cut (moment_of goes.clocks before) before.count
+        (chosen_input goes.clocks before).next
         (bay_view before.held.device) goes.turn after.held.device
         (chosen_input goes.clocks before).process after.process goes.begun goes.reported one other
         goes.reports;
@@ -441,7 +445,8 @@ module _ {L H W : Type 0} (step : L → Call → L → Type 0) (acts : H → Hos
   }
 
   -- its lines could not be written
-  pub tried-cut : (before : ServiceState L H) (old : WriterState W) (after : ServiceState L H) (new : WriterState W)
+  pub tried-cut : (before : ServiceState L H) (old : WriterState W) (after : ServiceState L H)
+      (new : WriterState W)
       (fault : WriteFault) (r : Result TurnAttempt WriteFault) → IsErr r
       → TurnServed step acts contents asks before old after new (Err fault)
       → TriesTurn step acts contents asks before old after new r
@@ -462,7 +467,8 @@ module _ {L H W : Type 0} (step : L → Call → L → Type 0) (acts : H → Hos
   }
 
   -- why it was not done could not be written
-  pub failed-cut : (before : ServiceState L H) (old : WriterState W) (after : ServiceState L H) (new : WriterState W)
+  pub failed-cut : (before : ServiceState L H) (old : WriterState W) (after : ServiceState L H)
+      (new : WriterState W)
       (fault : WriteFault) (r : Result TurnAttempt WriteFault) → IsErr r
       → TurnRefused step acts contents asks before old after.host new (Err fault)
       → TriesTurn step acts contents asks before old after new r
@@ -516,7 +522,8 @@ module _ {L H W : Type 0} (step : L → Call → L → Type 0) (acts : H → Hos
     Reached-done after next new (tried.Ends s) was_idle is fails pause = absurd cc
 
     -- it was not done
-    pub Reached-ends : (after : ServiceState L H) (new : WriterState W) (t : TurnAttempt) (status : ℕ)
+    pub Reached-ends : (after : ServiceState L H) (new : WriterState W) (t : TurnAttempt)
+        (status : ℕ)
         → t ≡ tried.Ends status → TriesTurn step acts contents asks here mid after new (Ok t)
         → ServesTurns step acts contents asks turns before old after.host new (Ok status)
     Reached-ends after new (tried.Done w) status is goes = absurd cc

@@ -143,7 +143,8 @@ id_of s k = unwrap_or (option_map (λ (switch : Switch). switch.id) (slice_get s
 abbrev pub written_line : ℕ → List ℕ → List ℕ → ControlDecision → ControlRequest → List ℕ
 written_line now id ident decision request =
     concat (utc_text now ∷ codes " association " ∷ decimal decision.association
-    ∷ service_words decision.part ∷ id ∷ position_words request.operation ∷ sign_text request.origin.cat
+    ∷ service_words decision.part ∷ id ∷ position_words request.operation
+    ∷ sign_text request.origin.cat
     ∷ decimal (unsigned_abs request.origin.cat) ∷ codes " orIdent="
     ∷ ident ∷ codes " ctlNum=" ∷ decimal request.ctl_num
     ∷ verdict_texts decision.answer)
@@ -184,7 +185,8 @@ refused_log now (Some code) shown = refused_line now code shown ∷ []
 abbrev pub turn_refusal_log : ServeFault → ℕ → List ℕ → List ℕ
 turn_refusal_log BadLine k shown =
     concat (codes "bayctl: fault 120 line " ∷ decimal k ∷ codes ": " ∷ shown ∷ codes "\n" ∷ [])
-turn_refusal_log MomentTooLarge k shown = codes "bayctl: fault 114: the clock is past the last moment\n"
+turn_refusal_log MomentTooLarge k shown =
+    codes "bayctl: fault 114: the clock is past the last moment\n"
 
 -- all turns were served
 abbrev pub all_served_log : ℕ → List ℕ

@@ -127,7 +127,8 @@ input_from_line s is_lost line = record {
 }
 
 -- the input of a turn from the port of the process, if there is one; its line has no number
-abbrev pub input_from_port : {L : Type 0} → State → ℕ → ℕ → List (ℕ × List ℕ) → Option (ProcessData L)
+abbrev pub input_from_port : {L : Type 0} → State → ℕ → ℕ → List (ℕ × List ℕ)
+    → Option (ProcessData L)
     → ChosenInput L
 input_from_port s now jump lines None = record {
   next = record { number = 0; shown = []; given = Ok (report_of_event None) };
@@ -160,7 +161,8 @@ input_from_trace (Some line) s now jump lines process = record {
 -- the input of a turn, by the lines of the trace that are left
 abbrev pub choose_input : {L : Type 0} → State → ℕ → ℕ → List (ℕ × List ℕ) → Option (ProcessData L)
     → ChosenInput L
-choose_input s now jump lines process = input_from_trace (slice_get lines 0) s now jump lines process
+choose_input s now jump lines process =
+    input_from_trace (slice_get lines 0) s now jump lines process
 
 -- ---- a turn
 
@@ -182,7 +184,8 @@ pub record ReadsClocks {L H W : Type 0} (acts : H → HostCall L → H → Type 
       (shift_of before.clock.side (moment_read clocks before.clock) clocks.system)) new
 
 -- a pause was made, or none
-abbrev pub MayPause : {L H : Type 0} → (H → HostCall L → H → Type 0) → ServiceState L H → ServiceState L H
+abbrev pub MayPause : {L H : Type 0} → (H → HostCall L → H → Type 0) → ServiceState L H
+    → ServiceState L H
     → Type 0
 MayPause acts before after = (after ≡ before)
     ⊎ (acts before.host Pauses after.host × (after ≡ record before { host = after.host }))
@@ -235,7 +238,8 @@ module _ {L H W : Type 0} (step : L → Call → L → Type 0) (acts : H → Hos
     (contents : W → Option (List ℕ)) (asks : W → WriteCall → W → Type 0) where
   -- The clock was read for the moment of a turn, and the input of the turn was chosen. The turn was
   -- refused: the reason is reported, and nothing has changed.
-  pub record TurnRefused (before : ServiceState L H) (old : WriterState W) (host : H) (new : WriterState W)
+  pub record TurnRefused (before : ServiceState L H) (old : WriterState W) (host : H)
+      (new : WriterState W)
       (answer : Result ℕ WriteFault) : Type 0 where
     pub clocks : Clocks
     pub begun : WriterState W
@@ -257,7 +261,8 @@ module _ {L H W : Type 0} (step : L → Call → L → Type 0) (acts : H → Hos
     pub clock : after.clock ≡ after_reading clocks before.clock
     pub lines : after.lines ≡ (chosen_input clocks before).lines
     pub turn : Turn
-    pub right : turn_refusal (moment_read clocks before.clock) (chosen_input clocks before).next.given
+    pub right : turn_refusal (moment_read clocks before.clock)
+        (chosen_input clocks before).next.given
         before.held ≡ None
     pub serves : Serves step before.link after.link (moment_of clocks before)
         (report_in (chosen_input clocks before).next.given) before.held after.held turn
@@ -271,7 +276,8 @@ module _ {L H W : Type 0} (step : L → Call → L → Type 0) (acts : H → Hos
 
   -- `turns` turns are served: all of them, which is logged; up to one that is refused; or up to one
   -- whose lines could not be written.
-  abbrev pub ServesTurns : ℕ → ServiceState L H → WriterState W → H → WriterState W → Result ℕ WriteFault
+  abbrev pub ServesTurns : ℕ → ServiceState L H → WriterState W → H → WriterState W
+      → Result ℕ WriteFault
       → Type 0
   ServesTurns zero before old host new answer =
       (host ≡ before.host) × Logs contents asks old (all_served_log before.held.device.moment) new

@@ -8,7 +8,7 @@ ghost use Rattle.bay_server_turn.specs.declared.fault.ServeFault.TheVariants.{Ba
 
 use crate::change_lines::{BayView, log_changes, log_ends, log_lost};
 use crate::clock::{ClockShift, ClockSide};
-use crate::connection_lines::{LineCount, take_first, log_left_out};
+use crate::connection_lines::{LineCount, log_left_out, take_first};
 use crate::control_lines::log_controls;
 use crate::host::BindFault;
 use crate::process::NextInput;
@@ -211,8 +211,8 @@ fn log_memories<W: Sink>(writer: &mut WatchedWriter<W>, moment: u64, memory: &[u
 }
 
 /// Logs what a turn reports and what has changed in it, given the count of the lines of connections
-/// before it, its input, the view of the bay before it, and the device after it. Looks at nothing if
-/// no lines are logged.
+/// before it, its input, the view of the bay before it, and the device after it. Looks at nothing
+/// if no lines are logged.
 pub fn log_turn<W: Sink>(
     writer: &mut WatchedWriter<W>,
     device: &Device,
@@ -246,7 +246,8 @@ pub fn log_turn<W: Sink>(
 
 // Logs which line of the trace is not valid.
 fn log_bad_line<W: Sink>(writer: &mut WatchedWriter<W>, number: usize, shown: &EscapedText)
-    ensures { Logs W.contents W.does writer.old (turn_refusal_log BadLine number shown.now) writer.new }
+    ensures { Logs W.contents W.does writer.old (turn_refusal_log BadLine number shown.now)
+        writer.new }
 {
     writer.log(&[
         LinePart::Text(b"bayctl: fault 120 line "),
@@ -264,7 +265,8 @@ pub fn log_turn_refusal<W: Sink>(
     number: usize,
     shown: &EscapedText,
 )
-    ensures { Logs W.contents W.does writer.old (turn_refusal_log fault number shown.now) writer.new }
+    ensures { Logs W.contents W.does writer.old (turn_refusal_log fault number shown.now)
+        writer.new }
 {
     match fault {
         ServeFault::BadLine => log_bad_line(writer, number, shown),
@@ -286,7 +288,8 @@ pub fn log_all_served<W: Sink>(writer: &mut WatchedWriter<W>, moment: u64)
 
 // Logs that the connection of the process was closed, with the number of the reason and in words.
 fn log_process_closed<W: Sink>(writer: &mut WatchedWriter<W>, moment: u64, code: u8, words: &[u8])
-    ensures { Logs W.contents W.does writer.old (process_closed_line moment code words.now) writer.new }
+    ensures { Logs W.contents W.does writer.old (process_closed_line moment code words.now)
+        writer.new }
 {
     writer.log(&[
         LinePart::Moment(moment),
@@ -316,7 +319,12 @@ fn log_disconnect<W: Sink>(writer: &mut WatchedWriter<W>, moment: u64, why: &Dis
     ensures { Logs W.contents W.does writer.old (disconnect_line moment why.now) writer.new }
 {
     match why {
-        DisconnectReason::Ended => log_process_closed(writer, moment, 0, b"it ended its connection"),
+        DisconnectReason::Ended => log_process_closed(
+            writer,
+            moment,
+            0,
+            b"it ended its connection",
+        ),
         DisconnectReason::BadLine(line) => log_process_closed(writer, moment, 120, line.as_slice()),
         DisconnectReason::QueueFull => {
             log_process_closed(
@@ -357,7 +365,12 @@ fn log_disconnect<W: Sink>(writer: &mut WatchedWriter<W>, moment: u64, why: &Dis
             )
         }
         DisconnectReason::Silent(limit_ms) => log_silence(writer, moment, *limit_ms),
-        DisconnectReason::Jumped => log_process_closed(writer, moment, 134, b"the clock has jumped"),
+        DisconnectReason::Jumped => log_process_closed(
+            writer,
+            moment,
+            134,
+            b"the clock has jumped",
+        ),
     }
 }
 
@@ -367,7 +380,8 @@ pub fn log_connection_event<W: Sink>(
     moment: u64,
     connection_event: &ConnectionEvent,
 )
-    ensures { Logs W.contents W.does writer.old (connection_event_log moment connection_event.now) writer.new }
+    ensures { Logs W.contents W.does writer.old (connection_event_log moment connection_event.now)
+        writer.new }
 {
     match connection_event {
         ConnectionEvent::Opened => writer.log(&[

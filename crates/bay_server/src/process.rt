@@ -85,7 +85,8 @@ fn take_port_input<L>(
     jump: u64,
 ) -> NextInput
     ensures next { result ≡ (input_from_port device.now moment jump [] process.old).next }
-    ensures process { process.new ≡ (input_from_port device.now moment jump [] process.old).process }
+    ensures process { process.new
+        ≡ (input_from_port device.now moment jump [] process.old).process }
 {
     match process {
         Some(process) => {
@@ -190,7 +191,8 @@ pub fn poll_process<L: Link, W: Sink>(
     turn: &Turn,
     writer: &mut WatchedWriter<W>,
 ) -> Result<u8, WriteFault>
-    ensures { PollsProcess (CountedCall L.does L.failures) W.contents W.does moment turn.now device.now
+    ensures { PollsProcess (CountedCall L.does L.failures) W.contents W.does moment turn.now
+        device.now
         process.old
         process.new writer.old writer.new result }
 {

@@ -12,7 +12,7 @@ use crate::change_lines::{BayView, view_for_log};
 use crate::clock::ServeClock;
 use crate::connection_lines::LineCount;
 use crate::host::Host;
-use crate::log_lines::{log_shift, log_all_served};
+use crate::log_lines::{log_all_served, log_shift};
 use crate::process::{NextInput, Process, next_input, poll_process, was_busy};
 use crate::record_line::log_record;
 use crate::trace_lines::TraceLines;
@@ -76,7 +76,8 @@ fn report_and_poll<L: Link, W: Sink>(
     turn: &Turn,
     writer: &mut WatchedWriter<W>,
 ) -> Result<u8, WriteFault>
-    ensures { ReportsAndPolls (CountedCall L.does L.failures) W.contents W.does moment count next.now
+    ensures { ReportsAndPolls (CountedCall L.does L.failures) W.contents W.does moment count
+        next.now
         before.now turn.now device.now process.old process.new writer.old writer.new result }
 {
     report_turn(writer, device, moment, count, next, before, turn)?;

@@ -93,7 +93,8 @@ fn write_turn<W: Sink>(
     moment: u64,
     turn: &Turn,
 ) -> Result<u8, WriteFault>
-    ensures { Prints W.contents W.does (IsOutput (turn_text moment turn.now device.now) 0) writer.old
+    ensures { Prints W.contents W.does (IsOutput (turn_text moment turn.now device.now) 0)
+        writer.old
         writer.new result }
 {
     put_turn(writer, device, moment, turn);
@@ -158,8 +159,13 @@ fn put_disconnect<W: Sink>(writer: &mut WatchedWriter<W>, moment: u64, why: &Dis
 }
 
 // Writes an event of the connection of the process.
-fn put_connection_event<W: Sink>(writer: &mut WatchedWriter<W>, moment: u64, connection_event: &ConnectionEvent)
-    ensures { Puts W.contents W.does writer.old (connection_event_text moment connection_event.now) writer.new }
+fn put_connection_event<W: Sink>(
+    writer: &mut WatchedWriter<W>,
+    moment: u64,
+    connection_event: &ConnectionEvent,
+)
+    ensures { Puts W.contents W.does writer.old (connection_event_text moment connection_event.now)
+        writer.new }
 {
     match connection_event {
         ConnectionEvent::Opened => put_opened(writer, moment),
@@ -173,7 +179,8 @@ fn write_connection_event<W: Sink>(
     moment: u64,
     connection_event: &ConnectionEvent,
 ) -> Result<u8, WriteFault>
-    ensures { Prints W.contents W.does (IsOutput (connection_event_text moment connection_event.now) 0) writer.old
+    ensures { Prints W.contents W.does
+        (IsOutput (connection_event_text moment connection_event.now) 0) writer.old
         writer.new
         result }
 {
@@ -188,7 +195,8 @@ pub fn report_connection_event<W: Sink>(
     moment: u64,
     connection_event: &Option<ConnectionEvent>,
 ) -> Result<u8, WriteFault>
-    ensures { ReportsConnectionEvent W.contents W.does moment connection_event.now writer.old writer.new
+    ensures { ReportsConnectionEvent W.contents W.does moment connection_event.now writer.old
+        writer.new
         result }
 {
     match connection_event {

@@ -65,7 +65,8 @@ module _ {L : Type 0} (step : L → Call → L → Type 0) where
       let none : drop done octets ≡ [] = drop_all done octets h in
       let whole : offer_outcome a octets (so_far.takes ++ []) false
       ≡ after_calls so_far.calls (offer_outcome a [] [] false) =
-      so_far.continues [] false ∙ ap (λ l. after_calls so_far.calls (offer_outcome a l [] false)) none in
+      so_far.continues [] false
+      ∙ ap (λ l. after_calls so_far.calls (offer_outcome a l [] false)) none in
       record {
         takes = so_far.takes ++ [];
         fails = false;

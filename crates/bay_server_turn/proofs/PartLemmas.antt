@@ -280,7 +280,8 @@ module _ {L : Type 0} (step : L → Call → L → Type 0) where
         makes = Talks-append step old q new _ _
             (Talks-append step old p q _ _
             (Talks-append step old m p _ _
-            (Talks-append step old l m _ _ (Talks-append step old k l _ _ a.performs.makes lost_talks)
+            (Talks-append step old l m _ _
+            (Talks-append step old k l _ _ a.performs.makes lost_talks)
             read_talks)
             lines)
             scans) offers;

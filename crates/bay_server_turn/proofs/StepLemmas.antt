@@ -76,7 +76,8 @@ taken now slot octets h after noted left result step sends commands decisions t 
     record {
       choice = choice;
       is = ap (λ (m : TurnData). with_noted m v) decided
-          ∙ ap (λ (ds : List ControlDecision). with_noted (with_decisions slot ds v.noted) v) all-decided
+          ∙ ap (λ (ds : List ControlDecision). with_noted (with_decisions slot ds v.noted) v)
+          all-decided
           ∙ ap (λ (x : TurnState). with_noted (with_decisions slot step.decisions x.noted) x) whole
           ∙ ap (λ (a : Result Step StepFault). put_answer slot a
           (with_device o.after (turn_state h noted))) (sym answer);

@@ -18,8 +18,8 @@
 -- `Served`: why a turn is refused, and what a turn promises that is not: there is a script such
 -- that the calls, the server after the turn and its report are the script's. `Supervised`: the
 -- lines of a supervised process, each with its moment. `Room`: a turn reports each closed
--- association once. `Code`: the numbers and the words of the reasons of closings, and the numbers of
--- the faults.
+-- association once. `Code`: the numbers and the words of the reasons of closings, and the numbers
+-- of the faults.
 
 -- What public clauses cite of the crates below.
 pub use Rattle.bay_device.specs.Device

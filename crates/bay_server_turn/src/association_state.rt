@@ -47,8 +47,9 @@ impl AssociationState {
         ensures { result ≡ spec.is_close_reported self }
     {
         match self {
-            AssociationState::Draining | AssociationState::DrainingFull | AssociationState::Closed =>
-                true,
+            AssociationState::Draining
+            | AssociationState::DrainingFull
+            | AssociationState::Closed => true,
             AssociationState::Steady | AssociationState::Full => false,
         }
     }

@@ -57,7 +57,8 @@ fn offer_one<L: Link>(
     slot: usize,
 )
     requires { slot < associations }
-    ensures { Performs (CountedCall L.does L.failures) (spec.offer_one now slot) (offer_calls now slot)
+    ensures { Performs (CountedCall L.does L.failures) (spec.offer_one now slot)
+        (offer_calls now slot)
         link.old link.new (turn_state server.old notes.old) (turn_state server.new notes.new) }
 {
     let association = slot as u16 + 1;

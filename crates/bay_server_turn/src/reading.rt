@@ -113,7 +113,8 @@ fn read_one<L: Link>(
 /// Reads all clients, in the order of their numbers.
 pub fn read_clients<L: Link>(server: &mut Server, notes: &mut TurnBuilder, link: &mut L, now: u64)
     requires { length notes.old.commands ≤ 0 }
-    ensures { PerformsEach (CountedCall L.does L.failures) (spec.read_one now) (read_calls now) link.old
+    ensures { PerformsEach (CountedCall L.does L.failures) (spec.read_one now) (read_calls now)
+        link.old
         link.new associations (turn_state server.old notes.old) (turn_state server.new notes.new) }
 {
     for slot in 0..ASSOCIATIONS {

@@ -94,7 +94,8 @@ pub fn serve_event<L: Link>(
     // There is a script such that the calls on the link, the server after the turn and what the
     // turn reports are the script's.
     ensures ok { IfOk result
-        (λ turn. Serves (CountedCall L.does L.failures) link.old link.new (moment_at clock server.old)
+        (λ turn. Serves (CountedCall L.does L.failures) link.old link.new
+        (moment_at clock server.old)
         (report_in given) server.old server.new turn) }
     // A turn succeeds exactly if its input has no fault and its moment is not too large; otherwise
     // the error is this fault.
@@ -112,7 +113,14 @@ pub fn serve_event<L: Link>(
     let over = server.device().expired_at(now);
     let mut notes = TurnBuilder::new();
     let opened = accept_one(server, &mut notes, link, now);
-    apply_event_if_any(server, &mut notes, link, now, given.loss_event(), source_line);
+    apply_event_if_any(
+        server,
+        &mut notes,
+        link,
+        now,
+        given.loss_event(),
+        source_line,
+    );
     read_clients(server, &mut notes, link, now);
     apply_event_if_any(server, &mut notes, link, now, given.event, source_line);
     scan(server, &mut notes, link, now);
@@ -140,7 +148,8 @@ pub fn serve_turn<L: Link>(
     line: Option<&str>,
 ) -> Result<Turn, ServeFault>
     ensures ok { IfOk result
-        (λ turn. Serves (CountedCall L.does L.failures) link.old link.new (moment_at clock server.old)
+        (λ turn. Serves (CountedCall L.does L.failures) link.old link.new
+        (moment_at clock server.old)
         (report_in (turn_input_of server.old.device (text_in line.entry))) server.old server.new
         turn) }
     ensures right { OnOk result

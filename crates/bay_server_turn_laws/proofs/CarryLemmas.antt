@@ -191,7 +191,8 @@ put-here : (now p : ℕ) (held taken sent octets : List ℕ) (s : TurnState) →
     → Carried now p held taken sent s
     → Carried now p held taken (sent ++ octets) (put_at (Some p) octets s)
 put-here now p held taken sent octets s h c =
-    put-here_if (accepts_replies (state_at p s) (is_open_at p s)) (has_room (turn_queue p s) octets) now p
+    put-here_if (accepts_replies (state_at p s) (is_open_at p s)) (has_room (turn_queue p s) octets)
+    now p
     held taken sent octets s h refl refl c
 
 -- ---- what is done at another place

@@ -218,7 +218,8 @@ pub knows-turn : (now : ℕ) (given : ProcessReport) (script : Script) (h : Serv
 knows-turn now given script h tidy time readings offers p low =
     let past = time.not_past in
     let m = turn-is-acts now 8 given script h (omega (arith, readings)) (omega (arith, offers)) in
-    (turned-keeps now 8 (Learned now p (server_queue p h)) (act-learned now p low past (server_queue p h)) h
+    (turned-keeps now 8 (Learned now p (server_queue p h))
+    (act-learned now p low past (server_queue p h)) h
     script.accepted (after_turn now given script h) (turn_calls now given script h)
     (turn_events now given script h) m (record {
       flowing = begins-flowing 8 now p low past h m.start m.calls m.events tidy time.not_before

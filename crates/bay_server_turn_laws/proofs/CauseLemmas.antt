@@ -47,7 +47,8 @@ pub record Knows (p : ℕ) (failed over : Bool) (reasons : List Why) (n : TurnDa
   untold : is_close_reported (noted_state p n) ≡ false → IsOpen failed over reasons (p + 1) n
   leaving : is_draining (noted_state p n) ≡ true → (over || has_reason reasons) ≡ true
   -- what was told of and nothing else closed had no room
-  pub reported : is_close_reported (noted_state p n) ≡ true → failed ≡ false → over ≡ false → reasons ≡ []
+  pub reported : is_close_reported (noted_state p n) ≡ true → failed ≡ false → over ≡ false
+      → reasons ≡ []
       → reports_close is_queue_full (p + 1) n.closed ≡ true
 
 pub knows-as : (p : ℕ) (a b : Bool) (c : List Why) (d e : Bool) (f : List Why) (n : TurnData)
@@ -96,7 +97,8 @@ Still-refl p n sized = record {
 }
 
 still-open : (p : ℕ) (a b : Bool) (c : List Why) (n m : TurnData) → Still p n m
-    → (is_close_reported (noted_state p m) ≡ false) → IsOpen a b c (p + 1) n → IsOpen a b c (p + 1) m
+    → (is_close_reported (noted_state p m) ≡ false) → IsOpen a b c (p + 1) n
+    → IsOpen a b c (p + 1) m
 still-open p a b c n m s e o = record {
   failed = o.failed;
   over = o.over;
@@ -222,12 +224,14 @@ module _ (p : ℕ) (low : p < 8) where
     leaves-other slot Ended m ne s =
         told-other (is_close_reported (noted_state slot m)) Draining slot closing.Ended m ne s
     leaves-other slot (Fault code) m ne s =
-        told-other (is_close_reported (noted_state slot m)) Draining slot (closing.Fault code) m ne s
+        told-other (is_close_reported (noted_state slot m)) Draining slot (closing.Fault code) m ne
+        s
     leaves-other slot Memory m ne s =
         memory-other (is_close_reported (noted_state slot m)) Draining slot m ne s
 
     -- its queue is full
-    overflows-own : (b : Bool) (m : TurnData) → is_close_reported (noted_state p m) ≡ b → Still p n m
+    overflows-own : (b : Bool) (m : TurnData) → is_close_reported (noted_state p m) ≡ b
+        → Still p n m
         → Still p n (with_state p Closed
         (cond b m (record m { closed = m.closed ++ (p + 1, closing.QueueFull) ∷ [] })))
     overflows-own true m e s =
@@ -250,7 +254,8 @@ module _ (p : ℕ) (low : p < 8) where
     overflows-at slot m s = elim (cases_eq slot p) [
       | inl e ↦ subst (λ q. Still p n (mark_closed q closing.QueueFull m)) (sym e)
           (overflows-own (is_close_reported (noted_state p m)) m refl s)
-      | inr ne ↦ told-other (is_close_reported (noted_state slot m)) Closed slot closing.QueueFull m ne
+      | inr ne ↦ told-other (is_close_reported (noted_state slot m)) Closed slot closing.QueueFull m
+          ne
           s
     ]
 
@@ -339,10 +344,12 @@ module _ (p : ℕ) (low : p < 8) where
       ≡ (over || has_some is_end reasons)
       → ((code : ℕ) → (reports_close (is_fault code) (p + 1) n.closed || is_fault code why)
       ≡ has_some (is_refusal code) reasons)
-      → has_number (p + 1) n.memory ≡ has_some is_memory reasons → (over || has_reason reasons) ≡ true
+      → has_number (p + 1) n.memory ≡ has_some is_memory reasons
+      → (over || has_reason reasons) ≡ true
       → Knows p x over reasons (with_state p Draining
       (cond b n (record n { closed = n.closed ++ (p + 1, why) ∷ [] })))
-  told-as true x y z over reasons why n e is k link queue ended fault out_of_memory some = absurd (cc)
+  told-as true x y z over reasons why n e is k link queue ended fault out_of_memory some =
+      absurd (cc)
   told-as false x y z over reasons why n e is k link queue ended fault out_of_memory some =
       left-as x y z over reasons n (n.closed ++ (p + 1, why) ∷ []) n.memory e k
       (tells-not is_link_failed p why n.closed link)
@@ -370,7 +377,8 @@ module _ (p : ℕ) (low : p < 8) where
       → is_close_reported (noted_state p n) ≡ false → Knows p x y z n
       → Knows p x (y || true) z (start_closing p Ended n)
   ended-knows x y z n e k =
-      told-as (is_close_reported (noted_state p n)) x y z (y || true) z closing.Ended n e e k refl refl
+      told-as (is_close_reported (noted_state p n)) x y z (y || true) z closing.Ended n e e k refl
+      refl
       (or-true _ ∙ sym (ap (λ b. b || has_some is_end z) (or-true y)))
       (λ code. sym (or-none _ false refl) ∙ k.caused.fault code) k.caused.out_of_memory
       (ap (λ b. b || has_reason z) (or-true y))
@@ -408,7 +416,8 @@ module _ (p : ℕ) (low : p < 8) where
       ∙ ap (λ b. y || b) (none-more is_end z (Fault number) refl))
       (λ code. ap (λ b. b || (number == code)) (k.caused.fault code)
       ∙ sym (one-more (is_refusal code) z (Fault number)))
-      (k.caused.out_of_memory ∙ none-more is_memory z (Fault number) refl) (has-more y z (Fault number))
+      (k.caused.out_of_memory ∙ none-more is_memory z (Fault number) refl)
+      (has-more y z (Fault number))
   closed-knows x y z Memory n e k =
       memory-as (is_close_reported (noted_state p n)) x y z (z ++ Memory ∷ []) n e e k
       (none-more is_end z Memory refl) (λ code. none-more (is_refusal code) z Memory refl)
@@ -493,7 +502,8 @@ module _ (p : ℕ) (low : p < 8) where
   ready-filled x y z slot n r = record {
     untold = elim (cases_eq slot p) [
       | inl e ↦ subst
-          (λ q. is_close_reported (noted_state p (with_state q (after_full (noted_state q n)) n)) ≡ false)
+          (λ q. is_close_reported (noted_state p (with_state q (after_full (noted_state q n)) n))
+          ≡ false)
           (sym e)
           (ap is_close_reported (at-own n.states (after_full (noted_state p n)) r.knows.sized)
           ∙ filled-told (noted_state p n) ∙ r.untold)

@@ -7,7 +7,8 @@ use Rattle.bay_device.specs.declared.fault.StepFault.{StepFault}
 use Rattle.bay_server_turn_laws.specs.Events.{ChosenEvent, outcomes_at, answer_commands, commands_of}
 
 pub record IsBoth (now : ℕ) (xs ys : List ChosenEvent) (s : State) : Type 0 where
-  pub after : (outcomes_at now (xs ++ ys) s).after ≡ (outcomes_at now ys (outcomes_at now xs s).after).after
+  pub after : (outcomes_at now (xs ++ ys) s).after
+      ≡ (outcomes_at now ys (outcomes_at now xs s).after).after
   pub answers : (outcomes_at now (xs ++ ys) s).answers
       ≡ (outcomes_at now xs s).answers ++ (outcomes_at now ys (outcomes_at now xs s).after).answers
 

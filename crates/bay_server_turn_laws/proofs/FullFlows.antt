@@ -25,7 +25,8 @@ reported-where-full now given script h tidy time room readings offers p low up =
     let t : TurnState = after_turn now given script h in
     let taken = written_by_calls (p + 1) (turn_calls now given script h) in
     let held = server_queue p h in
-    let sent = replies_to (p + 1) (outcomes_at now (turn_events now given script h) h.device).answers in
+    let sent =
+    replies_to (p + 1) (outcomes_at now (turn_events now given script h) h.device).answers in
     let flows = loses-nothing now given script h tidy time offers in
     let f = flows.flows p low in
     let knows = knows-turn now given script h tidy time readings offers p low in

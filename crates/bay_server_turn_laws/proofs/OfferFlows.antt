@@ -76,7 +76,8 @@ module _ (now p : ℕ) (held taken sent : List ℕ) (s : TurnState) (left : List
       let whole = open-carries most now p held taken sent s c is_open in
       let here : get_or (set s.server.queues p left) p [] ≡ left =
       get_or-set_same s.server.queues p left [] (omega (arith, c.sound.queues)) in
-      let kept : Carries (taken ++ o.taken) held sent (state_at p s) (is_open_at p s) left = record {
+      let kept : Carries (taken ++ o.taken) held sent (state_at p s) (is_open_at p s) left =
+      record {
         lost = [];
         is = ap (λ l. (taken ++ o.taken) ++ (left ++ l)) (sym whole.0)
             ∙ taken-more taken o.taken left q f.lost (held ++ sent) o.is f.is;

@@ -60,7 +60,8 @@ module _ (now p : ℕ) (low : p < 8) where
   -- an act that does not concern it
   far-open : (a : Act) (s : TurnState) → length s.noted.states ≡ 8 → Can 8 a s
       → Concerns (Others now p low) a
-      → (is_open_at p s ≡ true → up_at p (outcomes_at now (events_by a) s.server.device).after ≡ true)
+      → (is_open_at p s ≡ true
+      → up_at p (outcomes_at now (events_by a) s.server.device).after ≡ true)
       → Opened s → Opened (after now a s)
   far-open a s sized can may up o e =
       let still =

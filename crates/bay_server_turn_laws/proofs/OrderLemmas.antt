@@ -196,7 +196,8 @@ in-order now given script h readings offers =
     let final = s5.noted in
     let reported = final.closed in
     let why = λ (a : ℕ).
-    reports_close is_queue_full a reported || has_some (fails_for a) (turn_calls now given script h) in
+    reports_close is_queue_full a reported
+    || has_some (fails_for a) (turn_calls now given script h) in
     let lost = loss_event given in
     let line = given.event in
     let m1 = (accept-turned now 8 h (lowest_free_association h) script.accepted refl).passes in

@@ -57,7 +57,8 @@ pub open-carries : (most now p : ℕ) (held taken sent : List ℕ) (s : TurnStat
     (c : Carried now p held taken sent s) → IsOpenAt most p s
     → (c.carries.lost ≡ []) × ((r : List ℕ) → MayLose (state_at p s) (is_open_at p s) r [])
 open-carries most now p held taken sent s c o =
-    may-open (state_at p s) (is_open_at p s) (turn_queue p s) c.carries.lost c.carries.may o.up o.calm
+    may-open (state_at p s) (is_open_at p s) (turn_queue p s) c.carries.lost c.carries.may o.up
+    o.calm
 
 pub left-carried : (most now p : ℕ) (held taken sent : List ℕ) (why : Why) (d : State)
     (s : TurnState)

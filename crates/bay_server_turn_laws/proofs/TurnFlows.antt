@@ -31,7 +31,8 @@ use Rattle.bay_server_turn_laws.proofs.WalkLemmas.{Begins, Opening, Quietly, bef
 
 -- what is carried, by the calls and the answers up to here
 abbrev pub Flowing : ℕ → ℕ → List ℕ → Invariant
-Flowing now p held c e r s = Carried now p held (written_by_calls (p + 1) c) (replies_to (p + 1) r) s
+Flowing now p held c e r s =
+    Carried now p held (written_by_calls (p + 1) c) (replies_to (p + 1) r) s
 
 module _ (most now p : ℕ) (held : List ℕ) (low : p < 8) (past : now ≤ last_moment) (t u : List ℕ)
   where
@@ -78,7 +79,8 @@ module _ (most now p : ℕ) (held : List ℕ) (low : p < 8) (past : now ≤ last
       ]
 
       -- events that leave the association as open as it is
-      stepped : (event : Event) → up_at p (outcome None now event s.server.device).after ≡ is_open_at p s
+      stepped : (event : Event)
+          → up_at p (outcome None now event s.server.device).after ≡ is_open_at p s
           → Carried now p held t u (with_device (outcome None now event s.server.device).after s)
       stepped event up = device-carried now p held t u _ s (moment None event) up c
 
@@ -181,7 +183,8 @@ module _ (most now p : ℕ) (low : p < 8) (past : now ≤ last_moment) where
   pub act-flows : (held : List ℕ) → IsKept now most (Flowing now p held)
   act-flows held a c e r s sized can i =
       carried-as most now p held low past [] [] _ _ (after now a s)
-      (act-carried most now p held low past (written_by_calls (p + 1) c) (replies_to (p + 1) r) s i a
+      (act-carried most now p held low past (written_by_calls (p + 1) c) (replies_to (p + 1) r) s i
+      a
       can) _ _
       (sym (taken-append (p + 1) c (calls_by a)))
       (sym (sent-append (p + 1) r (answers_to now (events_by a) s)))
@@ -196,7 +199,8 @@ module _ (most now p : ℕ) (low : p < 8) (past : now ≤ last_moment) where
       let o = outcome None now (Open (slot + 1)) h.device in
       event-carried most now p (server_queue p h) low past [] [] c o.answer
       (after_opening now slot (turn_begin h)) refl
-      (put_quiet-carried now p (server_queue p h) [] [] o.answer (with_device o.after (turn_begin h))
+      (put_quiet-carried now p (server_queue p h) [] [] o.answer
+      (with_device o.after (turn_begin h))
       low
       (outcome-quiet None now (Open (slot + 1)) h.device tt)
       (begun-carried now p h o.after low tidy

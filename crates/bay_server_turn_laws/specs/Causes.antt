@@ -111,7 +111,8 @@ pub record IsCaused (failed over : Bool) (reasons : List Why) (a : ℕ)
     (reported : List (ℕ × CloseReason))
     (memory : List ℕ) : Type 0 where
   pub ended : reports_close is_ended a reported ≡ (over || has_some is_end reasons)
-  pub fault : (code : ℕ) → reports_close (is_fault code) a reported ≡ has_some (is_refusal code) reasons
+  pub fault : (code : ℕ) → reports_close (is_fault code) a reported
+      ≡ has_some (is_refusal code) reasons
   pub out_of_memory : has_number a memory ≡ has_some is_memory reasons
   pub link : reports_close is_link_failed a reported ≡ (failed && not (over || has_reason reasons))
   pub queue : reports_close is_queue_full a reported ≡ true

@@ -72,7 +72,8 @@ events_on_read now slot choice Failure s =
 
 -- an association is read if it is open
 abbrev pub read_events : ℕ → ℕ → Reading → TurnState → List ChosenEvent
-read_events now slot r s = if is_open_at slot s then events_on_read now slot r.choice r.heard s else []
+read_events now slot r s =
+    if is_open_at slot s then events_on_read now slot r.choice r.heard s else []
 
 -- an event of the process, if there is one
 abbrev pub line_events : ℕ → Option ProcessEvent → TurnState → List ChosenEvent

@@ -59,7 +59,8 @@ AreClosings has_reason events = All (IsClosing has_reason) events
 module _ (now : ℕ) (reported : List (ℕ × CloseReason)) where
   -- First come these events; then closings of associations whose queues were full; and then the
   -- rest, from the device after those.
-  pub record FirstThen (first : List ChosenEvent) (Rest : State → List ChosenEvent → Type 0) (d : State)
+  pub record FirstThen (first : List ChosenEvent) (Rest : State → List ChosenEvent → Type 0)
+      (d : State)
       (events : List ChosenEvent) : Type 0 where
     pub cut : List ChosenEvent
     pub rest : List ChosenEvent

@@ -14,7 +14,8 @@ OfferEnds {S} does rest new false = (rest ≢ []) × ((mid : S) × does mid (Wri
 
 -- A queue was written as far as the sink accepted it: the sink accepted a prefix, and the rest
 -- waits. `done` is false if the last call failed.
-pub record OffersQueue {S : Type 0} (contents : S → Option (List ℕ)) (does : S → WriteCall → S → Type 0)
+pub record OffersQueue {S : Type 0} (contents : S → Option (List ℕ))
+    (does : S → WriteCall → S → Type 0)
     (before : List ℕ) (old : S) (after : List ℕ) (new : S) (done : Bool) : Type 0 where
   pub sends : Sends (contents old) (contents new) before after
   pub left : OfferEnds does after new done

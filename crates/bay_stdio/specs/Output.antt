@@ -31,7 +31,8 @@ QueueOutcome {S} does octets left after new None =
 
 -- Octets were put into a queue, of which the sink may have accepted a prefix: all of them; or none,
 -- since they don't fit after the rest of the queue, or since the last call of the sink failed.
-pub record PutsIntoQueue {S : Type 0} (contents : S → Option (List ℕ)) (does : S → WriteCall → S → Type 0)
+pub record PutsIntoQueue {S : Type 0} (contents : S → Option (List ℕ))
+    (does : S → WriteCall → S → Type 0)
     (before : List ℕ) (old : S) (octets after : List ℕ) (new : S) (taken : Option ℕ) : Type 0 where
   pub left : List ℕ
   pub sends : Sends (contents old) (contents new) before left
@@ -45,7 +46,8 @@ abbrev pub Writes : {S : Type 0} → (S → Option (List ℕ)) → (S → WriteC
 Writes contents does None old octets after new taken =
     does old (Write octets taken) new × (after ≡ None)
 Writes contents does (Some queue) old octets after new taken =
-    (left : List ℕ) × (after ≡ Some left) × PutsIntoQueue contents does queue old octets left new taken
+    (left : List ℕ) × (after ≡ Some left)
+    × PutsIntoQueue contents does queue old octets left new taken
 
 -- the sink is flushed; or, with a queue, the queue is written as far as the sink accepts it
 abbrev pub Flushes : {S : Type 0} → (S → Option (List ℕ)) → (S → WriteCall → S → Type 0)

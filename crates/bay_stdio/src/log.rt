@@ -68,7 +68,8 @@ impl Log {
     // Appends the line with the number of lost lines, if any were lost. Returns whether it fitted.
     fn append_notice(&mut self) -> bool
         requires { length self.old.waiting ≤ 65536 }
-        ensures notice { AppendsIfFits self.old.waiting (notice self.old.lost) self.new.waiting result }
+        ensures notice { AppendsIfFits self.old.waiting (notice self.old.lost) self.new.waiting
+            result }
         ensures lost { self.new.lost ≡ self.old.lost }
     {
         if self.lost == 0 {

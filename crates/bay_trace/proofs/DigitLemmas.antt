@@ -93,7 +93,8 @@ pub octets-known : (word : List ℕ) → is_some (octets_of word) ≡ true
     → octets_of word ≡ Some (octets_or_empty word)
 octets-known word e = by-octets (octets_of word) refl
   where
-    by-octets : (o : Option (List ℕ)) → octets_of word ≡ o → octets_of word ≡ Some (octets_or_empty word)
+    by-octets : (o : Option (List ℕ)) → octets_of word ≡ o
+        → octets_of word ≡ Some (octets_or_empty word)
     by-octets None is = let no : false ≡ true = sym (ap is_some is) ∙ e in absurd cc
     by-octets (Some octets) is = is ∙ ap Some (sym (ap (λ o. unwrap_or o []) is))
 

@@ -163,7 +163,8 @@ received-told a octets less bytes some =
       octets-read octets bytes some,
     ) refl
 
-said-read : (s : State) (now : ℕ) (source : List ℕ) (event : Event) (tells : SpellsEvent s source event)
+said-read : (s : State) (now : ℕ) (source : List ℕ) (event : Event)
+    (tells : SpellsEvent s source event)
     → now < 2 ^ 64
     → trace_line_of (decimal now ++ codes " " ++ text_after_moment source)
     ≡ Some (at_moment now tells.named)

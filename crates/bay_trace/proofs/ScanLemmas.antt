@@ -37,7 +37,8 @@ no-measure : (id : List ℕ) (words : List (List ℕ)) → measure_of id words �
 no-measure id [] e = cc
 no-measure id (field ∷ tail) e = grind (arith, e)
 
-no-named : (verb name : List ℕ) (values : List (List ℕ)) → named_event_of verb name values ≢ Some scan
+no-named : (verb name : List ℕ) (values : List (List ℕ))
+    → named_event_of verb name values ≢ Some scan
 no-named verb name values =
     either (bytes_eq verb (codes "contact")) _ _
     (mapped (contact name) (option_and_then position_of (only_word values)) (λ x e. cc))
@@ -53,7 +54,8 @@ alone : (ws : List (List ℕ)) → event_of ws ≡ Some scan → ws ≡ codes "s
 alone [] e = absurd cc
 alone (verb ∷ word ∷ values) e =
     absurd (either (is_association_verb verb) _ _ (no-association verb word values)
-    (bound (λ name. named_event_of verb name values) (name_of word) (λ name. no-named verb name values))
+    (bound (λ name. named_event_of verb name values) (name_of word)
+    (λ name. no-named verb name values))
     e)
 alone (verb ∷ []) e = by-test (bytes_eq verb (codes "scan")) refl
   where

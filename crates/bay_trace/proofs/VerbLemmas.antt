@@ -213,7 +213,8 @@ no-verb text no_contact no_input no_measure no_scan no_lost =
             let d = other text verb (codes "measure") rest no_measure (sym e) in
             ap (λ v. cond v (association_event_by_verb verb (word ∷ values))
             (option_and_then (λ name. named_event_of verb name values) (name_of word))) is
-            ∙ unsaid (name_of word) (λ name. named_event_of verb name values) (λ name. rw (a, b, d) refl)
+            ∙ unsaid (name_of word) (λ name. named_event_of verb name values)
+            (λ name. rw (a, b, d) refl)
             ∙ sym (no-association verb (word ∷ values) is)
 
 -- a text that begins with no verb before an association and a space says nothing of one

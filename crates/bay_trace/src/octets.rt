@@ -99,7 +99,8 @@ impl LineOctets {
         ensures octets { OnOk result (self.new.octets ≡ octets_or_empty digits.entry.text.now) }
         ensures room { OnOk result
             (self.new.room ≡ max self.old.room (length (octets_or_empty digits.entry.text.now))) }
-        ensures refused { OnErr result (self.old.room < length (octets_or_empty digits.entry.text.now)) }
+        ensures refused { OnErr result
+            (self.old.room < length (octets_or_empty digits.entry.text.now)) }
     {
         let count = digits.text.len() / 2;
         self.make_room(count)?;

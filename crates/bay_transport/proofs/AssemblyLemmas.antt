@@ -245,7 +245,8 @@ same-alone : (old new : Assembly) (frame : List ℕ) → new.number ≡ old.numb
 same-alone old new frame number connection =
     ap (λ (e : TpduEffect). single_frame_run e (connection_of old))
     (same-effect old new frame number connection)
-    ∙ ap (λ (l : TransportConnection). single_frame_run (effect_of new.number (connection_of new) frame) l)
+    ∙ ap (λ (l : TransportConnection). single_frame_run
+    (effect_of new.number (connection_of new) frame) l)
     (sym connection)
 
 -- octets are taken, and then the frame that they end is done
@@ -254,7 +255,8 @@ pub takes-whole : (old middle new : Assembly) (piece : List ℕ) (used k : ℕ) 
     → used ≤ missing_count (rest_of old)
     → rest_of middle ≡ rest_of old ++ take used piece → connection_of middle ≡ connection_of old
     → middle.number ≡ old.number → frame_prefix (rest_of middle) ≡ Whole k
-    → single_frame_run (effect_of middle.number (connection_of middle) (rest_of middle)) (connection_of middle)
+    → single_frame_run (effect_of middle.number (connection_of middle) (rest_of middle))
+    (connection_of middle)
     ≡ run_of_result kind new → StepConsumes old piece used kind new
 takes-whole old middle new piece used k kind begun within moves few rest connection number whole
     does =

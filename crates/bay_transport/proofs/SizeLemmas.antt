@@ -145,13 +145,15 @@ delivers-size s octets tsdu later e =
 -- ---- what comes to nothing
 
 rest-going : (front : FramePrefix) (connection : TransportConnection) (rest : List ℕ)
-    → (run_of_rest front connection rest).doings ≡ [] → AcceptsOctets (run_of_rest front connection rest).left
+    → (run_of_rest front connection rest).doings ≡ []
+    → AcceptsOctets (run_of_rest front connection rest).left
 rest-going Begun connection rest e = tt
 rest-going NoFrame connection rest e = cc
 rest-going (Whole frame) connection rest e = tt
 
 effect-going : (effect : TpduEffect) (later : Run) → (run_with_effect effect later).doings ≡ []
-    → (later.doings ≡ [] → AcceptsOctets later.left) → AcceptsOctets (run_with_effect effect later).left
+    → (later.doings ≡ [] → AcceptsOctets later.left)
+    → AcceptsOctets (run_with_effect effect later).left
 effect-going (Joins group) later e going = going e
 effect-going effect later e going = cc
 

@@ -73,7 +73,8 @@ state_for_result Ended left = Over
 
 -- the doings of a result of this kind, and the state that the assembly represents
 abbrev pub run_of_result : Got → Assembly → Run
-run_of_result kind a = record { doings = doings_of_result kind a; left = state_for_result kind (stream_state_of a) }
+run_of_result kind a =
+    record { doings = doings_of_result kind a; left = state_for_result kind (stream_state_of a) }
 
 -- If nothing is completed, what was completed last stays.
 abbrev pub KeepsShown : Got → List ℕ → List ℕ → Type 0
@@ -104,7 +105,8 @@ pub record StepConsumes (old : Assembly) (piece : List ℕ) (used : ℕ) (kind :
 -- `used` octets of the piece are consumed, up to the end of the TPDU that completes something, or
 -- of the piece: their doings are those of the result, and the octets before the last of them
 -- complete nothing.
-pub record AdvanceConsumes (old : Assembly) (piece : List ℕ) (used : ℕ) (kind : Got) (new : Assembly)
+pub record AdvanceConsumes (old : Assembly) (piece : List ℕ) (used : ℕ) (kind : Got)
+    (new : Assembly)
     : Type 0 where
   pub within : used ≤ length piece
   pub all : kind ≡ More → used ≡ length piece

@@ -91,7 +91,8 @@ size_value (Some power) = Some (power ∷ [])
 -- request has it
 abbrev pub answer_parameters : Option ℕ → Option (List ℕ) → Option (List ℕ) → List ℕ
 answer_parameters power called calling =
-    optional_parameter 0xC0 (size_value power) ++ optional_parameter 0xC2 called ++ optional_parameter 0xC1 calling
+    optional_parameter 0xC0 (size_value power) ++ optional_parameter 0xC2 called
+    ++ optional_parameter 0xC1 calling
 
 -- a confirmation up to its parameters, which take `count` octets: its length indicator, D0, the
 -- reference of the calling side, the reference of the association, and class 0 (X.224 13.4)
@@ -132,7 +133,8 @@ with_parameters number high low (Some ps) =
 -- Whether a length indicator is right: it counts the octets of its TPDU after it, six and the
 -- parameters. 255 is reserved (X.224 13.2.1).
 abbrev pub is_right_indicator : ℕ → List ℕ → Bool
-is_right_indicator indicator octets = if indicator == 255 then false else indicator == length octets + 6
+is_right_indicator indicator octets =
+    if indicator == 255 then false else indicator == length octets + 6
 
 -- The confirmation of a request on the association with this number, or its fault. `indicator` is
 -- the length indicator; the octets are those after the code: two references of two octets, the

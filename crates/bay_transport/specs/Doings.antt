@@ -138,7 +138,8 @@ run_of number Broken octets = record { doings = []; left = Broken }
 -- the run of one frame with this effect, and no more octets
 abbrev pub single_frame_run : TpduEffect → TransportConnection → Run
 single_frame_run effect connection =
-    run_with_effect effect (record { doings = []; left = Going (connection_after effect connection) [] })
+    run_with_effect effect (record
+    { doings = []; left = Going (connection_after effect connection) [] })
 
 -- a run, followed by the run of more octets from its state
 abbrev pub and_then : ℕ → Run → List ℕ → Run

@@ -48,11 +48,10 @@ pub record Cut : Type 0 where
   pub rest : List ℕ
 
 -- The octets are these complete frames, followed by a rest that begins with no complete frame.
-pub record IsCut (octets : List ℕ) (cut_of : Cut) : Type 0 where
-  pub whole : AreFrames cut_of.frames
-  pub parts : octets ≡ concatenation cut_of.frames ++ cut_of.rest
-  pub ended : (frame length_of_rest : List ℕ) → IsFrame frame
-      → cut_of.rest ≡ frame ++ length_of_rest → ⊥
+pub record IsCut (octets : List ℕ) (cut : Cut) : Type 0 where
+  pub whole : AreFrames cut.frames
+  pub parts : octets ≡ concatenation cut.frames ++ cut.rest
+  pub ended : (frame more : List ℕ) → IsFrame frame → cut.rest ≡ frame ++ more → ⊥
 
 -- ---- own: cutting; a law proves that it agrees with the relation above
 

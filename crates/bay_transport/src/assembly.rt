@@ -110,7 +110,8 @@ impl Assembly {
         ensures sound { OnOk result (IsSound self.new) }
         ensures number { self.new.number ≡ self.old.number }
         ensures ok { IfOk result
-            (λ kind. single_frame_run (data_effect (connection_of self.old) indicator (body_of self.old))
+            (λ kind. single_frame_run
+            (data_effect (connection_of self.old) indicator (body_of self.old))
             (connection_of self.old) ≡ run_of_result kind self.new) }
         ensures shown { IfOk result
             (λ kind. KeepsShown kind self.old.shown.items self.new.shown.items) }
@@ -142,7 +143,8 @@ impl Assembly {
         ensures sound { OnOk result (IsSound self.new) }
         ensures number { self.new.number ≡ self.old.number }
         ensures ok { IfOk result
-            (λ kind. single_frame_run (effect_of self.old.number (connection_of self.old) (rest_of self.old))
+            (λ kind. single_frame_run
+            (effect_of self.old.number (connection_of self.old) (rest_of self.old))
             (connection_of self.old) ≡ run_of_result kind self.new) }
         ensures shown { IfOk result
             (λ kind. KeepsShown kind self.old.shown.items self.new.shown.items) }
@@ -188,7 +190,8 @@ impl Assembly {
         requires { IsSound self.old }
         ensures sound { OnOk result (IsSound self.new) }
         ensures number { self.new.number ≡ self.old.number }
-        ensures ok { IfOk result (λ taken. StepConsumes self.old piece.now taken.0 taken.1 self.new) }
+        ensures ok { IfOk result
+            (λ taken. StepConsumes self.old piece.now taken.0 taken.1 self.new) }
         ensures shown { IfOk result
             (λ taken. KeepsShown taken.1 self.old.shown.items self.new.shown.items) }
         ensures err { IfErr result
@@ -213,7 +216,8 @@ impl Assembly {
         requires { IsSound self.old }
         ensures sound { OnOk result (IsSound self.new) }
         ensures number { self.new.number ≡ self.old.number }
-        ensures ok { IfOk result (λ taken. AdvanceConsumes self.old piece.now taken.0 taken.1 self.new) }
+        ensures ok { IfOk result
+            (λ taken. AdvanceConsumes self.old piece.now taken.0 taken.1 self.new) }
         ensures shown { IfOk result
             (λ taken. KeepsShown taken.1 self.old.shown.items self.new.shown.items) }
         ensures err { IfErr result

@@ -118,7 +118,8 @@ fn append(out: &mut Vec<u8>, code: u8, value: Option<&[u8]>) -> Result<(), Alloc
 
 // Appends the size parameter, if there is one.
 fn append_size(out: &mut Vec<u8>, power: Option<u8>) -> Result<(), AllocError>
-    ensures { OnOk result (out.new.items ≡ out.old.items ++ optional_parameter 0xC0 (size_value power)) }
+    ensures { OnOk result (out.new.items
+        ≡ out.old.items ++ optional_parameter 0xC0 (size_value power)) }
 {
     if let Some(power) = power {
         out.extend_from_slice(&[SIZE, 1, power])?;

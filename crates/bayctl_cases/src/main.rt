@@ -28,9 +28,9 @@
 
 mod commands;
 mod eight;
+mod exchange;
 mod fronts;
 mod hostile;
-mod exchange;
 mod texts;
 
 use anyhow::Result;

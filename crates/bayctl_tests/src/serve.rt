@@ -569,7 +569,11 @@ pub fn check(rt: &impl Abort, alloc: Global, row: &ServedCase) -> Result<(), Fai
         &received,
     );
     clients.ends = row.asked.is_empty();
-    let mut process = MemoryLink::new(row.processes, row.lines.as_bytes().to_vec(alloc)?, &received);
+    let mut process = MemoryLink::new(
+        row.processes,
+        row.lines.as_bytes().to_vec(alloc)?,
+        &received,
+    );
     process.per_read = row.per_read;
     process.ends = !row.stays;
     process.fails_at = row.fails_at;

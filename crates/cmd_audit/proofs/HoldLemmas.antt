@@ -66,6 +66,7 @@ holds-are-read loaded rules text status words known written line hold at e =
     let g = program_of bay loaded.image in
     let pairs = zip rules written.answers in
     each-line
-    (said-lines bay names g words known rules written.answers written.releases text status written.right
+    (said-lines bay names g words known rules written.answers written.releases text status
+    written.right
     written.written)
     (lines.says-none bay names g words known pairs [] refl) line at hold e

@@ -58,7 +58,8 @@ module _ {W : Type 0} {contents : W → Option (List ℕ)} {does : W → WriteCa
   pub answered-first : {old new : WriterState W}
       → PutsText contents does (AnswersIf loaded rules) (codes "fault memory\n") 3 old new
       → PutsText contents does (AreAnswered loaded rules d) (codes "fault memory\n") 3 old new
-  answered-first {old} {new} a = record { text = a.text; put = a.put; prints = inr (refl, a.prints) }
+  answered-first {old} {new} a =
+      record { text = a.text; put = a.put; prints = inr (refl, a.prints) }
 
   -- memory ran out in the second part
   pub answered-second : (passed : Bool) {old mid new : WriterState W}
@@ -189,7 +190,8 @@ pub said-of : {W : Type 0} (contents : W → Option (List ℕ)) (does : W → Wr
     × PutsText contents does (AreAnswered loaded rules d) [] (code_of end.status) old new)
     (λ e. PutsText contents does (AreAnswered loaded rules d) (codes "fault memory\n") 3 old new)
     → MatchResult r
-    (λ end. PutsRulesText contents does loaded texts (log_in end.refused) (code_of end.status) old new)
+    (λ end. PutsRulesText contents does loaded texts (log_in end.refused) (code_of end.status) old
+    new)
     (λ e. PutsStopped contents does loaded texts old new)
 said-of contents does loaded texts rules d old new (Ok end) parses are p =
     subst (λ (refused : Option Refusal). PutsRulesText contents does loaded texts (log_in refused)

@@ -411,7 +411,8 @@ reads-named last before n (l ∷ ls) p all rest reads =
   where
     Goes : List LineContent → Type 0
     Goes ps =
-        (AreAllowed (before ++ (n, ps) ∷ []) × ReadsLines last (before ++ (n, ps) ∷ []) (n + 1) ls (Ok p))
+        (AreAllowed (before ++ (n, ps) ∷ [])
+        × ReadsLines last (before ++ (n, ps) ∷ []) (n + 1) ls (Ok p))
         ⊎ IsFaultyLine last n (before ++ (n, ps) ∷ []) (Ok p)
 
     Again : Type 0
@@ -432,7 +433,8 @@ reads-named last before n (l ∷ ls) p all rest reads =
     by-parts ts (Some ps) is named reads again =
         by-turn ps (line-named ts ps named ((lines_are_produced ts ps).1 is)) reads again
 
-    by-tokens : (r : Result (List Symbol) TextFault) → AreNamed r → ReadsTokens n Goes r (Ok p) → Again
+    by-tokens : (r : Result (List Symbol) TextFault) → AreNamed r → ReadsTokens n Goes r (Ok p)
+        → Again
         → Each IsDeclaredNamed p.declarations
     by-tokens (Ok ts) named reads again = by-parts ts (parts_of ts) refl named reads again
     by-tokens (Err fault) named reads again = absurd cc
@@ -449,7 +451,8 @@ program-named text p is =
 
 -- ---- what a program keeps
 
-variables-named : (ds : List DeclaredName) → Each IsDeclaredNamed ds → Each IsWord (variable_names ds)
+variables-named : (ds : List DeclaredName) → Each IsDeclaredNamed ds
+    → Each IsWord (variable_names ds)
 variables-named [] all = tt
 variables-named (d ∷ ds) all =
     each-append IsWord (variable_in d.scope d.kind d.name) (variable_names ds)

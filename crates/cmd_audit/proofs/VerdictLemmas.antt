@@ -125,7 +125,8 @@ range-free low high =
     (free-append 10 (signed_decimal low ++ codes "..") (signed_decimal high)
     (free-append 10 (signed_decimal low) (codes "..") (signed-free low) refl) (signed-free high))
 
-measure-free : (low high : ℤ) (name : List ℕ) → IsWord name → IsFree (spec.range_measure low high name)
+measure-free : (low high : ℤ) (name : List ℕ) → IsWord name
+    → IsFree (spec.range_measure low high name)
 measure-free low high name word =
     one-of (int_eq low (negsuc 2147483647) && int_eq high (pos 2147483647)) []
     (spec.name_text name ++ spec.range_text low high) refl
@@ -437,7 +438,8 @@ module _ (bay : Bay) (names : ProgramNames) (g : BoundProgram) (words : HasWords
       (one-line (front ++ written) (free-append 10 front written (front-free rule) (said-free a))
       (says-answer rule a pairs among right))
 
-  pub answers-lines : (rules : List Rule) (answers : List RuleAnswer) → AreRightAnswers g rules answers
+  pub answers-lines : (rules : List Rule) (answers : List RuleAnswer)
+      → AreRightAnswers g rules answers
       → AreLines (Says (zip rules answers)) (spec.answers_text bay names (zip rules answers))
   answers-lines [] [] right = no-lines
   answers-lines [] (a ∷ answers) right = absurd right

@@ -73,7 +73,8 @@ zip-parts g (r ∷ rules) others [] more all = absurd all
 
 -- ---- switches and operations
 
-ways-plus : (k d : ℕ) → (later : List (ℕ × Operation)) × (directions (k + d) ≡ directions k ++ later)
+ways-plus : (k d : ℕ) → (later : List (ℕ × Operation))
+    × (directions (k + d) ≡ directions k ++ later)
 ways-plus k zero =
     let e : k + 0 ≡ k = omega arith in ([], ap directions e ∙ sym (append-nil (directions k)))
 ways-plus k (suc d) =
@@ -85,7 +86,8 @@ ways-plus k (suc d) =
     )
 
 -- those of the first switches are the first of all
-directions-rest : (k n : ℕ) → k ≤ n → (later : List (ℕ × Operation)) × (directions n ≡ directions k ++ later)
+directions-rest : (k n : ℕ) → k ≤ n
+    → (later : List (ℕ × Operation)) × (directions n ≡ directions k ++ later)
 ways-rest k n low =
     let more = ways-plus k (n - k) in
     let e : n ≡ k + (n - k) = omega (arith, low) in
@@ -97,14 +99,16 @@ pub ways-at : (k n : ℕ) → k + 1 ≤ n
 ways-at k n low =
     let more = ways-rest (suc k) n (omega (arith, low)) in (
       more.0,
-      more.1 ∙ append_assoc (directions k) ((k, operations.Open) ∷ (k, operations.Close) ∷ []) more.0,
+      more.1 ∙ append_assoc (directions k) ((k, operations.Open) ∷ (k, operations.Close) ∷ [])
+          more.0,
     )
 
 pub ways-next : (k : ℕ)
     → (directions k ++ (k, operations.Open) ∷ []) ++ (k, operations.Close) ∷ [] ≡ directions (k + 1)
 ways-next k =
     let e : suc k ≡ k + 1 = omega arith in
-    append_assoc (directions k) ((k, operations.Open) ∷ []) ((k, operations.Close) ∷ []) ∙ ap directions e
+    append_assoc (directions k) ((k, operations.Open) ∷ []) ((k, operations.Close) ∷ [])
+    ∙ ap directions e
 
 pub ways-half : (k n : ℕ) → k + 1 ≤ n
     → (later : List (ℕ × Operation))
@@ -126,7 +130,8 @@ module _ {W : Type 0} {contents : W → Option (List ℕ)} {does : W → WriteCa
       Puts-out {X = X} {E = E} old new [] (Ok x)
       (subst (λ t. Appends (contents old.inner) (contents new.inner)
       t) (sym (append-nil old.pending)) f.ends.1)
-      tt f.ends.2 (sym f.ends.3.0) (λ failed. let well = f.ends.0 in absurd cc) f.calls_made f.same_logs
+      tt f.ends.2 (sym f.ends.3.0) (λ failed. let well = f.ends.0 in absurd cc) f.calls_made
+      f.same_logs
   Finishes-puts {X} {E} {old} {new} (Err e) f =
       Puts-out {X = X} {E = E} old new [] (Err e) tt
       (subst (λ t. SendsPart (contents old.inner) (contents new.inner) t)
@@ -148,7 +153,8 @@ module _ {W : Type 0} {contents : W → Option (List ℕ)} {does : W → WriteCa
 
     pub more-answers : (rules : List Rule) (passed : Bool) (rule : Rule) (answer : RuleAnswer)
         {old mid new : WriterState W} → PutsAnswers contents does bay names g rules passed old mid
-        → IsRightAnswer g rule answer → Puts contents does mid (answer_text bay names (rule, answer)) new
+        → IsRightAnswer g rule answer
+        → Puts contents does mid (answer_text bay names (rule, answer)) new
         → PutsAnswers contents does bay names g (rules ++ rule ∷ []) (passed && is_passed answer)
         old new
     more-answers rules passed rule answer {old} {mid} {new} p right put =
@@ -262,7 +268,8 @@ module _ {W : Type 0} {contents : W → Option (List ℕ)} {does : W → WriteCa
 
   module _ (loaded : LoadData) (rules : List Rule) where
     pub cut-answers : {old new : WriterState W}
-        → PutsFirstAnswers contents does loaded.bay (program_names loaded) (program_of loaded.bay loaded.image)
+        → PutsFirstAnswers contents does loaded.bay (program_names loaded)
+        (program_of loaded.bay loaded.image)
         rules old new
         → PutsText contents does (AuditText loaded rules) (codes "fault memory\n") 3 old new
     cut-answers {old} {new} p =
@@ -307,7 +314,8 @@ module _ {W : Type 0} {contents : W → Option (List ℕ)} {does : W → WriteCa
     pub cut-releases : (passed : Bool) {old mid new : WriterState W}
         → PutsAnswers contents does loaded.bay (program_names loaded)
         (program_of loaded.bay loaded.image) rules passed old mid
-        → PutsFirstReleases contents does loaded.bay (program_names loaded) (program_of loaded.bay loaded.image)
+        → PutsFirstReleases contents does loaded.bay (program_names loaded)
+        (program_of loaded.bay loaded.image)
         (directions (length loaded.bay.switches)) mid
         new
         → PutsText contents does (AuditText loaded rules) (codes "fault memory\n") 3 old new
@@ -377,12 +385,14 @@ module _ {W : Type 0} {contents : W → Option (List ℕ)} {does : W → WriteCa
             (subst (λ (n : ProgramNames). PutsFirstAnswers contents does loaded.bay n
             (program_of loaded.bay loaded.image)
             rules old new) e
-            (subst (λ (h : BoundProgram). PutsFirstAnswers contents does loaded.bay these h rules old new)
+            (subst (λ (h : BoundProgram). PutsFirstAnswers contents does loaded.bay these h rules
+            old new)
             f p))
 
         pub stopped-releases : (passed : Bool) {old mid new : WriterState W}
             → PutsAnswers contents does loaded.bay these g rules passed old mid
-            → PutsFirstReleases contents does loaded.bay these g (directions (length loaded.bay.switches)) mid new
+            → PutsFirstReleases contents does loaded.bay these g
+            (directions (length loaded.bay.switches)) mid new
             → PutsText contents does (AuditText loaded rules) (codes "fault memory\n") 3 old new
         stopped-releases passed {old} {mid} {new} a s =
             cut-releases passed
@@ -402,7 +412,8 @@ module _ {W : Type 0} {contents : W → Option (List ℕ)} {does : W → WriteCa
         pub whole : (passed : Bool) (releases : List Release) (text : List ℕ)
             {old mid last new : WriterState W}
             → PutsAnswers contents does loaded.bay these g rules passed old mid
-            → PutsReleases contents does loaded.bay these g (directions (length loaded.bay.switches))
+            → PutsReleases contents does loaded.bay these g
+            (directions (length loaded.bay.switches))
             releases mid last
             → text ≡ states_text loaded.bay these releases
             → Puts contents does last text new

@@ -40,7 +40,8 @@ status_of passed = if passed then 0 else 4
 
 -- The text has the lines of all answers and releases: there is a release for each switch and
 -- operation, also while the process is lost.
-pub record IsWhole (bay : Bay) (names : ProgramNames) (rules : List Rule) (answers : List RuleAnswer)
+pub record IsWhole (bay : Bay) (names : ProgramNames) (rules : List Rule)
+    (answers : List RuleAnswer)
     (releases : List Release) (text : List ℕ) (status : ℕ) : Type 0 where
   pub all : map direction_of releases ≡ directions (length bay.switches)
   pub written : text
@@ -165,7 +166,8 @@ pub record IsTextBy (loaded : LoadData) (rules : Option (List Rule)) (diagram : 
 -- logged then: the diagram file is not looked at
 abbrev pub ParsedRulesReport : LoadData → Result (Option (List Rule)) RuleFault → Option (List ℕ)
     → Option (List ℕ) → List ℕ → ℕ → Type 0
-ParsedRulesReport loaded (Ok rules) diagram log text status = IsTextBy loaded rules diagram log text status
+ParsedRulesReport loaded (Ok rules) diagram log text status =
+    IsTextBy loaded rules diagram log text status
 ParsedRulesReport loaded (Err fault) diagram log text status =
     IsLoggedOutput (refused_log fault) (refusal_text fault) 1 log text status
 

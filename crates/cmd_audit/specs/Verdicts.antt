@@ -30,7 +30,8 @@ operation_in word =
 
 abbrev pub hold_from_parts : List ℕ → List ℕ → Option Operation → Option PrintedHold
 hold_from_parts line id None = None
-hold_from_parts line id (Some operation) = Some (record { line = line; id = id; operation = operation })
+hold_from_parts line id (Some operation) =
+    Some (record { line = line; id = id; operation = operation })
 
 abbrev pub hold_in : List (List ℕ) → Option PrintedHold
 hold_in (rule ∷ line ∷ id ∷ operation ∷ verdict ∷ more) =

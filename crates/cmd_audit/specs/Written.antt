@@ -31,7 +31,8 @@ module _ {W : Type 0} (contents : W → Option (List ℕ)) (does : W → WriteCa
     pub put : Puts contents does old (answers_text bay names (zip rules answers)) new
 
   -- the lines of right answers to the first of these rules
-  pub record PutsFirstAnswers (bay : Bay) (names : ProgramNames) (g : BoundProgram) (rules : List Rule)
+  pub record PutsFirstAnswers (bay : Bay) (names : ProgramNames) (g : BoundProgram)
+      (rules : List Rule)
       (old new : WriterState W) : Type 0 where
     pub answered : List Rule
     pub others : List Rule
@@ -47,7 +48,8 @@ module _ {W : Type 0} (contents : W → Option (List ℕ)) (does : W → WriteCa
     pub put : Puts contents does old (release_text bay names r) new
 
   -- the lines of a right release of this switch and operation, or nothing
-  abbrev pub PutsReleaseIfAny : Bay → ProgramNames → BoundProgram → ℕ × Operation → WriterState W → WriterState W
+  abbrev pub PutsReleaseIfAny : Bay → ProgramNames → BoundProgram → ℕ × Operation → WriterState W
+      → WriterState W
       → Type 0
   PutsReleaseIfAny bay names g way old new =
       (new ≡ old) ⊎ ((r : Release) × PutsRelease bay names g way r old new)
@@ -96,7 +98,8 @@ module _ {W : Type 0} (contents : W → Option (List ℕ)) (does : W → WriteCa
     pub put : PutsJudged bay d g found passed old new
 
   -- the text after the line of a load
-  pub record PutsRulesText (loaded : LoadData) (texts : AuditTexts) (log : Option (List ℕ)) (status : ℕ)
+  pub record PutsRulesText (loaded : LoadData) (texts : AuditTexts) (log : Option (List ℕ))
+      (status : ℕ)
       (old new : WriterState W) : Type 0 where
     pub text : List ℕ
     pub put : Puts contents does old text new
@@ -108,7 +111,8 @@ module _ {W : Type 0} (contents : W → Option (List ℕ)) (does : W → WriteCa
       : Type 0 where
     pub text : List ℕ
     pub put : Puts contents does old text new
-    pub prints : RulesReport loaded texts.rules texts.diagram None (text ++ codes "fault memory\n") 3
+    pub prints : RulesReport loaded texts.rules texts.diagram None (text ++ codes "fault memory\n")
+        3
         ⊎ (text ≡ [])
 
   -- the text after the line of a load, also if it stopped

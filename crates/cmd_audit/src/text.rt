@@ -84,7 +84,12 @@ fn put_name(text: &mut Vec<u8>, name: &str) -> Result<(), AllocError>
 }
 
 // Adds the positions that a case allows the switch with this id, unless it allows each.
-fn put_switch_positions(text: &mut Vec<u8>, case: &Case, switch: usize, id: &str) -> Result<(), AllocError>
+fn put_switch_positions(
+    text: &mut Vec<u8>,
+    case: &Case,
+    switch: usize,
+    id: &str,
+) -> Result<(), AllocError>
     ensures { OnOk result
         (text.new.items ≡ text.old.items ++ spec.switch_positions case.now switch id.now) }
 {
@@ -236,7 +241,8 @@ fn put_dependencies(
     depends_on: &StateDependencies,
 ) -> Result<(), AllocError>
     ensures { OnOk result
-        (text.new.items ≡ text.old.items ++ spec.dependencies_text word.now names.now depends_on.now) }
+        (text.new.items ≡ text.old.items
+        ++ spec.dependencies_text word.now names.now depends_on.now) }
 {
     if depends_on.slots.as_slice().is_empty() && depends_on.timers.as_slice().is_empty() {
         return Ok(());

@@ -96,7 +96,8 @@ right-timer g rule timing (Since n cases) never timed how right =
     (λ timing. IsTimedAnswer g rule timing (Since n cases))) timed right in
     record {
       timer = n;
-      bears = subst (λ (kind : RuleKind). IsTimedAnswerOf kind g rule timing (Since n cases)) never until;
+      bears = subst (λ (kind : RuleKind). IsTimedAnswerOf kind g rule timing (Since n cases)) never
+          until;
     }
 right-timer g rule timing (Holds cases) never timed how right = absurd how
 right-timer g rule timing (Broken case) never timed how right = absurd how
@@ -226,7 +227,8 @@ module _ (bay : List ℕ) (f : Form) (program : List ℕ) where
         → OfOctets How bay f program rule
     audited rules is =
         let w = within (AnswersRuleIn How rule) f
-        (octets_with bay program (Some rules) is.diagram) is.log is.text is.status is.audit is.prints
+        (octets_with bay program (Some rules) is.diagram) is.log is.text is.status is.audit
+        is.prints
         in
         of-both w.loaded w.loads rules w.rules w.parses w.drawn w.text w.status w.prints w.is
 
@@ -264,7 +266,8 @@ module _ (bay : List ℕ) (f : Form) (program : List ℕ) where
         → HarmlessOfOctets bay f program net k operation
     held diagram is =
         let w = within (JudgesReleaseIn net k operation) f
-        (octets_with bay program is.rules (Some diagram)) is.log is.text is.status is.audit is.prints
+        (octets_with bay program is.rules (Some diagram)) is.log is.text is.status is.audit
+        is.prints
         in
         of-drawn w.loaded w.loads w.rules w.drawn w.text w.status w.prints w.is
 
@@ -296,7 +299,8 @@ text-begins bay program device loaded runs own image read made =
     let same : loaded.bay ≡ own = same-bay (parsed_bay bay) loaded.bay own loaded.read read in
     let run : loaded.image ≡ image =
     compiled-once (parsed_program program) own loaded.image image
-    (subst (λ (b : Bay). IsCompiled (parsed_program program) b loaded.image) same loaded.made) made in
+    (subst (λ (b : Bay). IsCompiled (parsed_program program) b loaded.image) same loaded.made) made
+    in
     let is : device ≡ initial_device own image =
     loaded.is ∙ ap (λ (b : Bay). initial_device b loaded.image) same
     ∙ ap (initial_device own) run in

@@ -181,7 +181,8 @@ module _ (f : Form) (both : FilesData) (l : LoadData)
 -- a diagram in which each release is judged to hold
 module _ (f : Form) (both : FilesData) (l : LoadData)
     (loads : LoadsTo both.bay f both.program (Ok l)) (text : List ℕ) (count : ℕ)
-    (file : IsFile f both.program) (ts : List DoneTurn) (are : AreTurns (new_server (device_of l)) ts)
+    (file : IsFile f both.program) (ts : List DoneTurn)
+    (are : AreTurns (new_server (device_of l)) ts)
     (given : AreGiven ts) where
   drawn-obeys : (parsed : Result Diagram DiagramFault) → diagram_of_file l.bay text ≡ parsed
       → JudgesDiagramRead l parsed (drawn.Hold count)

@@ -112,7 +112,8 @@ held-harmless g net releases right k operation h =
         → Safe g net (judged_way h.release)
     among [] right c = absurd (let low = c.1 in omega (arith, low))
     among (r ∷ rs) right (zero, low, is) =
-        let own = subst (λ x. IsHazardAnswer g net x.switch x.operation x.answer) is right.0.right in
+        let own =
+        subst (λ x. IsHazardAnswer g net x.switch x.operation x.answer) is right.0.right in
         harmless-by g net h.release.switch h.release.operation h.release.answer h.safe own
     among (r ∷ rs) right (suc j, low, is) = among rs right.1 (j, omega (arith, low), is)
 

@@ -159,7 +159,8 @@ module _ (bay : List ℕ) (f : Form) (program rules : List ℕ) (log : Option (L
     (whole : List ℕ) (status : ℕ) (file : IsFile f program) (line : List ℕ) (hold : PrintedHold)
     (e : printed_hold line ≡ Some hold) where
   of-answers : (l : LoadData) → LoadsTo bay f program (Ok l) → (rs : List Rule)
-      (text : List ℕ) (ended : ℕ) (written : AuditText l rs text ended) → Contains (lines_in text) line
+      (text : List ℕ) (ended : ℕ) (written : AuditText l rs text ended)
+      → Contains (lines_in text) line
       → ((How : RuleAnswer → Type 0) (rule : Rule) → IsAnswered How rs written.answers rule
       → IsAudited How bay f program rules rule) → IsLineOfRule bay f program rules hold
   of-answers l loads rs text ended written at more =
@@ -167,7 +168,8 @@ module _ (bay : List ℕ) (f : Form) (program rules : List ℕ) (log : Option (L
       let kept : IsImage l.image = image-kept f program l.bay l.image file made.made in
       let known : AreWords (program_names l) = names-are-words bay f program l loads kept in
       let h =
-      holds-are-read l rs text ended (bays-have-words bay l.bay made.read) known written line hold at e
+      holds-are-read l rs text ended (bays-have-words bay l.bay made.read) known written line hold
+      at e
       in
       let index = zip-at rs written.answers h.pair h.among in
       record {
@@ -226,7 +228,8 @@ module _ (bay : List ℕ) (f : Form) (program rules : List ℕ) (log : Option (L
       → IsAudited How bay f program rules rule) → IsLineOfRule bay f program rules hold
   of-rules l loads (Err fault) parses text prints at more =
       absurd (no-line text line hold
-      (subst (AreLines SaysNone) (sym prints.1.0) (rules-lines (code_of fault) (line_of fault))) at e)
+      (subst (AreLines SaysNone) (sym prints.1.0) (rules-lines (code_of fault) (line_of fault))) at
+      e)
   of-rules l loads (Ok None) parses text prints at more = absurd parses
   of-rules l loads (Ok (Some rs)) parses text prints at more =
       of-drawn l loads rs prints.parsed prints.parses text prints.prints at more
@@ -262,7 +265,8 @@ module _ (bay : List ℕ) (f : Form) (program rules : List ℕ) (log : Option (L
       absurd (no-line whole line hold
       (subst (AreLines SaysNone) (sym refused.reports.1.0) (refused-lines refused.error)) at e)
   of-audit (inl load) at =
-      of-says load.reports.prints (of-load load.reports.report load.reports.rest load.reports.whole at)
+      of-says load.reports.prints
+      (of-load load.reports.report load.reports.rest load.reports.whole at)
       (λ How rule prints. record {
         diagram = None;
         log = log;
@@ -285,7 +289,8 @@ module _ (bay : List ℕ) (f : Form) (program rules : List ℕ) (log : Option (L
           (subst (AreLines SaysNone) (sym memory.1.0) (one-line (codes "fault memory") refl refl))
           there e)
       of-says (inl prints) there more =
-          of-rules load.loaded load.loads prints.parsed prints.parses load.reports.rest prints.prints there more
+          of-rules load.loaded load.loads prints.parsed prints.parses load.reports.rest
+          prints.prints there more
 
 pub holds-audited : HoldsAreAudited
 holds-audited bay f program rules log text status file audit line hold at e =

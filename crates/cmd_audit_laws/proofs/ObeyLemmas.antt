@@ -222,7 +222,8 @@ module _ (bay : Bay) (image : Image) (is_bay : IsBay bay) where
         o.heard.front o.heard.first) g).0 o.allowed in (
           avoids,
           λ printed p switch here named on.
-              by-id (outcomes_at t.now p.ordered.heard.front h.device).after p.command p.switch switch
+              by-id (outcomes_at t.now p.ordered.heard.front h.device).after p.command p.switch
+              switch
               (avoids p.command p.ordered)
               (ap (λ ss. slice_get ss p.command.switch) (sym of_bay) ∙ p.here)
               (ap (λ ss. slice_get ss k) (sym of_bay) ∙ here) (sym p.named ∙ named)
@@ -268,7 +269,8 @@ module _ (bay : Bay) (image : Image) (is_bay : IsBay bay) where
   -- each command of a history is issued outside a set in which its release is refused
   pub past-avoids : (set : Process → Bool) (k : ℕ) (operation : Operation)
       → k < length bay.switches → IsRefusedWhere (program_of bay image) set k operation
-      → (first : State) (past : List PastEvent) → EachPast Steps first past → AreTypedPast first past
+      → (first : State) (past : List PastEvent) → EachPast Steps first past
+      → AreTypedPast first past
       → Good first → EachPast (CommandsOutsideAt set k operation) first past
   past-avoids set k operation there refused first past steps typed g =
       (past-goes (CommandsOutsideAt set k operation)

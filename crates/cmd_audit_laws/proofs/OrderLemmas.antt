@@ -256,7 +256,8 @@ old-orders-none first s h t step command o =
 pub lost-orders-none : (first : State) (h : ServerData) (t : DoneTurn) (past : List PastEvent)
     (command : Command) → h.device.is_lost ≡ true → IsRequested first h t past command → ⊥
 lost-orders-none first h t past command lost o =
-    let heard : (outcomes_at t.now o.heard.front h.device).after.is_lost ≡ false = o.allowed.heard in
+    let heard : (outcomes_at t.now o.heard.front h.device).after.is_lost ≡ false =
+    o.allowed.heard in
     let same : (outcomes_at t.now o.heard.front h.device).after.is_lost ≡ h.device.is_lost =
     ap (λ (p : Parts). p.lost) (same-events t.now o.heard.front h.device o.heard.first) in
     let no : true ≡ false = sym lost ∙ sym same ∙ heard in absurd cc
@@ -281,8 +282,10 @@ nothing-there xs x none has =
 low-none : (k n : ℕ) → k < n → n ≡ 0 → ⊥
 low-none k n low none = omega (arith, low, none)
 
-pub part-orders-none : (first s : State) (reported : Turn) (past : List PastEvent) (command : Command)
-    → IsRequested first (server_with_client s) (turn_with (octets_arrived (3 ∷ [])) reported) past command
+pub part-orders-none : (first s : State) (reported : Turn) (past : List PastEvent)
+    (command : Command)
+    → IsRequested first (server_with_client s) (turn_with (octets_arrived (3 ∷ [])) reported) past
+    command
     → ⊥
 part-orders-none first s reported past command o =
     let d : State = (server_with_client s).device in
@@ -291,7 +294,8 @@ part-orders-none first s reported past command o =
     let own = recv-same (ap (λ (e : ChosenEvent). e.1) only.1) in
     let here : connection_state_at (slot_of 1) (server_with_client s).device.connections
     ≡ Some o.talk =
-    subst (λ es. connection_state_at (slot_of 1) (outcomes_at 0 es d).after.connections ≡ Some o.talk)
+    subst (λ es. connection_state_at (slot_of 1) (outcomes_at 0 es d).after.connections
+    ≡ Some o.talk)
     only.0
     (subst (λ a. connection_state_at (slot_of a) (outcomes_at 0 i.front d).after.connections
     ≡ Some o.talk) own.0
@@ -304,7 +308,8 @@ ok-same x y is = cc
 
 pub refused-orders-none : (first s : State) (octet : ℕ) (octets : List ℕ)
     (reported : Turn) (past : List PastEvent) (command : Command)
-    → IsRequested first (server_with_client s) (turn_with (octets_refused (octet ∷ octets)) reported) past
+    → IsRequested first (server_with_client s)
+    (turn_with (octets_refused (octet ∷ octets)) reported) past
     command
     → ⊥
 refused-orders-none first s octet octets reported past command o =
@@ -312,7 +317,8 @@ refused-orders-none first s octet octets reported past command o =
     let i = o.heard in
     let only = only-heard s (Some 0) (octet ∷ octets) reported i in
     let here : (outcome i.choice 0 (Recv i.association i.octets) d).answer ≡ Ok i.step =
-    subst (λ es. (outcome i.choice 0 (Recv i.association i.octets) (outcomes_at 0 es d).after).answer
+    subst (λ es. (outcome i.choice 0 (Recv i.association i.octets)
+    (outcomes_at 0 es d).after).answer
     ≡ Ok i.step) only.0 i.answered in
     let none : [] ≡ i.step.sent =
     ap (λ (step : Step). step.sent) (ok-same _ i.step
@@ -329,7 +335,8 @@ quiet-are-ordered first h t u past none more = (
 )
 
 -- of turns of which the last tells a command and has no octets
-pub unordered : (first : State) (h : ServerData) (t : DoneTurn) (reported : Turn) (past : List PastEvent)
+pub unordered : (first : State) (h : ServerData) (t : DoneTurn) (reported : Turn)
+    (past : List PastEvent)
     (command : Command) → Contains reported.commands command
     → AreRequested first h past (t ∷ turn_with no_octets reported ∷ []) → ⊥
 unordered first h t reported past command has all =

@@ -98,7 +98,8 @@ unchanged-releases s t step age same = record {
         (All-nil (λ (p : PastEvent). IsSameProcess (with_enable_value true s) p.after));
     heard = refl;
   };
-  last = All-cons (λ (p : PastEvent). IfOk p.answer (λ step. step.scan ≡ None)) (contact_past t step) []
+  last = All-cons (λ (p : PastEvent). IfOk p.answer (λ step. step.scan ≡ None))
+      (contact_past t step) []
       refl (All-nil (λ (p : PastEvent). IfOk p.answer (λ step. step.scan ≡ None)));
   enabled = is-enabled true s;
   unchanged = same;
@@ -117,7 +118,8 @@ not-blocked now age past s t step h is =
     let enabled : is_truth true
     (leaf_named (enable_name 0 operation.Open) (with_enable_value false s).rows)
     ≡ true =
-    subst (λ (p : PastEvent). is_truth true (leaf_named (enable_name 0 operation.Open) p.after.rows) ≡ true)
+    subst (λ (p : PastEvent). is_truth true (leaf_named (enable_name 0 operation.Open) p.after.rows)
+    ≡ true)
     is
     h.enabled in
     let no : is_truth true (Some (leaf.Truth false)) ≡ true = sym (is-enabled false s) ∙ enabled in
@@ -141,7 +143,8 @@ earlier-releases-none s t step now age h =
     ⊎_elim (λ (is : h.scan.scan ≡ p). not-blocked now age (p ∷ q ∷ []) s t step h is)
     (λ (is : h.scan.since ≡ p ∷ []).
     let no : Some 1 ≡ None =
-    All-head Unscanned p [] (subst (λ (ps : List PastEvent). All Unscanned ps) is h.last) in absurd cc)
+    All-head Unscanned p [] (subst (λ (ps : List PastEvent). All Unscanned ps) is h.last) in
+    absurd cc)
     (two-there p q h.scan.since h.scan.earlier h.scan.scan h.scan.split)
 
 pub old-releases-none : (s t : State) (step : Step) (age : ℕ) (command : Command)

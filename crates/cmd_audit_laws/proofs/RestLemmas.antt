@@ -69,10 +69,12 @@ module _ (image : Image) (now : ℕ) (slots : List ℤ) (timers : List TimerStat
 -- A scan ends, and what it leaves has its types.
 pub record Rests (old : MachineData) (inputs : List Value) (now : ℕ) : Type 0 where
   pub ends : ScanEnds old inputs now
-  pub typed : HaveTypes (slot_types old.image) (length old.image.timers) ends.new.slots ends.new.timers
+  pub typed : HaveTypes (slot_types old.image) (length old.image.timers) ends.new.slots
+      ends.new.timers
 
 words-rest : (image : Image) (inputs : List Value) (now : ℕ) (slots : List ℤ)
-    (timers : List TimerState) → AreOctets image.code → IsSafe image → EncodesMemory image slots timers
+    (timers : List TimerState) → AreOctets image.code → IsSafe image
+    → EncodesMemory image slots timers
     → AreInputs image.points inputs → Rests (machine_data image slots timers) inputs now
 words-rest image inputs now slots timers octets safe is-held are =
     let taken : List ℤ = with_inputs image.points (words_of inputs) slots in
@@ -95,7 +97,8 @@ words-rest image inputs now slots timers octets safe is-held are =
 -- so it is from slots and timers of their types
 pub scan-rests : (image : Image) (slots : List Value) (timers : List TimerState)
     (inputs : List Value) (now : ℕ) → AreOctets image.code → IsSafe image
-    → HaveTypes (slot_types image) (length image.timers) slots timers → AreInputs image.points inputs
+    → HaveTypes (slot_types image) (length image.timers) slots timers
+    → AreInputs image.points inputs
     → Rests (record { image = image; slots = slots; timers = timers }) inputs now
 scan-rests image slots timers inputs now octets safe typed are =
     let is-held : EncodesMemory image (words_of slots) timers =

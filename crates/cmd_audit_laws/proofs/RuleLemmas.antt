@@ -136,7 +136,8 @@ module _ (bay : Bay) where
       by-timing k less (Some timed) = map-some _ _ written.when (λ when. less)
 
       by-switch : (o : Option ℕ) → IsThere count o
-          → IfSome (o >>= λ switch. timing_of written.timed >>= λ timed. option_map (λ when. record {
+          → IfSome (o >>= λ switch. timing_of written.timed
+          >>= λ timed. option_map (λ when. record {
             line = line;
             kind = written.kind;
             switch = switch;

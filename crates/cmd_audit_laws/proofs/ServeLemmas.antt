@@ -58,7 +58,8 @@ use Rattle.cmd_audit_laws.proofs.ObeyLemmas.{AreGiven, Good, good-first, past-sc
 use Rattle.cmd_audit_laws.proofs.TypeLemmas.{choice-fits}
 use Rattle.cmd_audit_laws.proofs.WaitLemmas.{Ready, ready-first, turns-wait}
 
-later-given : (Ends Goes : Type 0) (reported : Result ℕ WriteFault) (rest : AfterTurn reported Ends Goes)
+later-given : (Ends Goes : Type 0) (reported : Result ℕ WriteFault)
+    (rest : AfterTurn reported Ends Goes)
     (more : Goes → List DoneTurn) → ((goes : Goes) → AreGiven (more goes))
     → AreGiven (later_turns Ends Goes reported rest more)
 later-given Ends Goes (Err fault) rest more each = tt
@@ -83,7 +84,8 @@ module _ {L H W : Type 0} (step : L → Call → L → Type 0) (acts : H → Hos
 
 module _ {L H : Type 0} (acts : H → HostCall L → H → Type 0) where
   is-made : (records : Bool) (s : State) (link : L) (process : Option (ProcessData L))
-      (ports : BoundServer L) → IsBound records s link process (Ok ports) → ports.server ≡ new_server s
+      (ports : BoundServer L) → IsBound records s link process (Ok ports)
+      → ports.server ≡ new_server s
   is-made records s link process ports (inl is) =
       let same : ports ≡ record { server = new_server s; link = link; process = process } = cc in
       ap (λ (b : BoundServer L). b.server) same
@@ -91,7 +93,8 @@ module _ {L H : Type 0} (acts : H → HostCall L → H → Type 0) where
       let no : (let r : Result (BoundServer L) ServeStartFault = Ok ports in r) ≡ Err is.0 = is.1 in
       absurd cc
 
-  process-made : (records sends : Bool) (settings : Option SupervisionSettings) (s : State) (link : L)
+  process-made : (records sends : Bool) (settings : Option SupervisionSettings) (s : State)
+      (link : L)
       (port : Option ℕ)
       (before after : H) (ports : BoundServer L)
       → BindsProcess acts records sends settings s link port before after (Ok ports)
@@ -109,7 +112,8 @@ module _ {L H : Type 0} (acts : H → HostCall L → H → Type 0) where
           ≡ Err (unserved.Unbound port fault))
           → ports.server ≡ new_server s
       by-had (Ok other) is =
-          is-made records s link (Some (record { link = other; port = initial_port sends settings }))
+          is-made records s link
+          (Some (record { link = other; port = initial_port sends settings }))
           ports
           is
       by-had (Err fault) is = absurd cc
@@ -126,7 +130,8 @@ module _ {L H : Type 0} (acts : H → HostCall L → H → Type 0) where
           (λ link. BindsProcess acts (is_some options.record_most) options.sends_releases settings s
           link
           options.process binds.1 after (Ok ports))
-          (λ fault. (after ≡ binds.1) × ((let r : Result (BoundServer L) ServeStartFault = Ok ports in r)
+          (λ fault. (after ≡ binds.1)
+          × ((let r : Result (BoundServer L) ServeStartFault = Ok ports in r)
           ≡ Err (unserved.Unbound options.port fault)))
           → ports.server ≡ new_server s
       by-had (Ok link) is =
@@ -140,57 +145,58 @@ module _ {L H : Type 0} (acts : H → HostCall L → H → Type 0) where
 -- a server of a device that these octets load to, in its turns
 module _ (f : Form) (both : FilesData) (device : State)
     (loads : LoadsDevice both.bay f both.program device) (ts : List DoneTurn)
-    (are : AreTurns (new_server device) ts) (given : AreGiven ts) (file : IsFile f both.program) where
-  -- avoids a set in which a release of the program is refused
-  pub orders-avoid : (own : Bay) (image : Image) → parsed_bay both.bay ≡ Ok own
-      → IsImageOf f both.program own image → (set : Process → Bool) (k : ℕ) (operation : Operation)
-      → k < length own.switches → IsRefusedWhere (program_of own image) set k operation
-      → OrdersAvoid set k operation device (new_server device) [] ts
-  orders-avoid own image read made set k operation there refused =
-      let b = begins both.bay f both.program device loads file own image read made in
-      turns-avoid own image b.sound set k operation there refused device
-      (ap (λ (s : State). s.switches) b.is) ts (new_server device) [] are given
-      (subst (Good own image b.sound) (sym b.is) (good-first own image b.sound b.steady))
+    (are : AreTurns (new_server device) ts) (given : AreGiven ts) (file : IsFile f both.program)
+  where
+    -- avoids a set in which a release of the program is refused
+    pub orders-avoid : (own : Bay) (image : Image) → parsed_bay both.bay ≡ Ok own
+        → IsImageOf f both.program own image → (set : Process → Bool) (k : ℕ) (operation : Operation)
+        → k < length own.switches → IsRefusedWhere (program_of own image) set k operation
+        → OrdersAvoid set k operation device (new_server device) [] ts
+    orders-avoid own image read made set k operation there refused =
+        let b = begins both.bay f both.program device loads file own image read made in
+        turns-avoid own image b.sound set k operation there refused device
+        (ap (λ (s : State). s.switches) b.is) ts (new_server device) [] are given
+        (subst (Good own image b.sound) (sym b.is) (good-first own image b.sound b.steady))
 
-  -- and obeys rules that are answered to hold
-  module _ (rule : Rule) where
-    pub orders-obey : rule.kind ≡ Never → OfOctets Plainly both.bay f both.program rule
-        → OrdersObey rule device (new_server device) [] ts
-    orders-obey never own =
-        orders-avoid own.own own.image own.read own.made (holds rule.when) rule.switch
-        rule.operation own.there
-        (rule-refuses (program_of own.own own.image) rule
-        (right-rule (program_of own.own own.image) rule own.answer never own.how own.right) never)
+    -- and obeys rules that are answered to hold
+    module _ (rule : Rule) where
+      pub orders-obey : rule.kind ≡ Never → OfOctets Plainly both.bay f both.program rule
+          → OrdersObey rule device (new_server device) [] ts
+      orders-obey never own =
+          orders-avoid own.own own.image own.read own.made (holds rule.when) rule.switch
+          rule.operation own.there
+          (rule-refuses (program_of own.own own.image) rule
+          (right-rule (program_of own.own own.image) rule own.answer never own.how own.right) never)
 
-    pub orders-wait : (timing : Timing) → rule.kind ≡ Never → rule.timed ≡ Some timing
-        → OfOctets ByTimer both.bay f both.program rule
-        → OrdersWait rule timing device (new_server device) [] [] ts
-    orders-wait timing never timed own =
-        let b = begins both.bay f both.program device loads file own.own own.image own.read own.made
-        in
-        let borne = right-timer (program_of own.own own.image) rule timing own.answer never timed
-        own.how own.right in
-        turns-wait own.own own.image rule timing borne.timer b.sound own.there borne.bears device ts
-        (new_server device) [] [] are given
-        (subst (Ready own.own own.image rule timing borne.timer b.sound own.there borne.bears [])
-        (sym b.is)
-        (ready-first own.own own.image rule timing borne.timer b.sound own.there borne.bears
-        b.steady))
+      pub orders-wait : (timing : Timing) → rule.kind ≡ Never → rule.timed ≡ Some timing
+          → OfOctets ByTimer both.bay f both.program rule
+          → OrdersWait rule timing device (new_server device) [] [] ts
+      orders-wait timing never timed own =
+          let b = begins both.bay f both.program device loads file own.own own.image own.read own.made
+          in
+          let borne = right-timer (program_of own.own own.image) rule timing own.answer never timed
+          own.how own.right in
+          turns-wait own.own own.image rule timing borne.timer b.sound own.there borne.bears device ts
+          (new_server device) [] [] are given
+          (subst (Ready own.own own.image rule timing borne.timer b.sound own.there borne.bears [])
+          (sym b.is)
+          (ready-first own.own own.image rule timing borne.timer b.sound own.there borne.bears
+          b.steady))
 
-    pub scans-obey : rule.timed ≡ None → OfOctets Plainly both.bay f both.program rule
-        → EachPast (ScanObeysAt rule) device (past_of ts (new_server device) [])
-    scans-obey plain own =
-        let b = begins both.bay f both.program device loads file own.own own.image own.read own.made
-        in
-        let stands =
-        stands-turns device ts (new_server device) []
-        (stands-first device (own.own, own.image, b.is)) in
-        past-scans own.own own.image b.sound rule own.there
-        (plain-rule (program_of own.own own.image) rule own.answer plain own.how own.right) device
-        (past_of ts (new_server device) []) stands.steps
-        (turns-typed device ts (new_server device) [] are given tt)
-        (subst (Good own.own own.image b.sound) (sym b.is)
-        (good-first own.own own.image b.sound b.steady))
+      pub scans-obey : rule.timed ≡ None → OfOctets Plainly both.bay f both.program rule
+          → EachPast (ScanObeysAt rule) device (past_of ts (new_server device) [])
+      scans-obey plain own =
+          let b = begins both.bay f both.program device loads file own.own own.image own.read own.made
+          in
+          let stands =
+          stands-turns device ts (new_server device) []
+          (stands-first device (own.own, own.image, b.is)) in
+          past-scans own.own own.image b.sound rule own.there
+          (plain-rule (program_of own.own own.image) rule own.answer plain own.how own.right) device
+          (past_of ts (new_server device) []) stands.steps
+          (turns-typed device ts (new_server device) [] are given tt)
+          (subst (Good own.own own.image b.sound) (sym b.is)
+          (good-first own.own own.image b.sound b.steady))
 
 loaded-obeys : (f : Form) (both : FilesData) (device : State)
     → LoadsDevice both.bay f both.program device → (ts : List DoneTurn)
@@ -244,7 +250,8 @@ releases-of drawn.OutOfMemory count held = absurd cc
 
 module _ {W : Type 0} (contents : W → Option (List ℕ)) (asks : W → WriteCall → W → Type 0)
     (loaded : LoadData) where
-  rules-hold : (rules : Option (List ℕ)) (old new : WriterState W) (permit : Result Permit WriteFault)
+  rules-hold : (rules : Option (List ℕ)) (old new : WriterState W)
+      (permit : Result Permit WriteFault)
       → WritesOnRules contents asks loaded rules old new permit → (count : ℕ)
       → permit ≡ Ok (Granted count) → RulesHold loaded rules
   rules-hold None old new permit writes count granted = tt
@@ -273,7 +280,8 @@ module _ {W : Type 0} (contents : W → Option (List ℕ)) (asks : W → WriteCa
 
 module _ {L H W : Type 0} (step : L → Call → L → Type 0) (acts : H → HostCall L → H → Type 0)
     (contents : W → Option (List ℕ)) (asks : W → WriteCall → W → Type 0) where
-  pub later-is : (Ends Goes : Type 0) (reported : Result ℕ WriteFault) (rest : AfterTurn reported Ends Goes)
+  pub later-is : (Ends Goes : Type 0) (reported : Result ℕ WriteFault)
+      (rest : AfterTurn reported Ends Goes)
       (Is : Goes → Type 0) → ((goes : Goes) → Is goes) → HoldsLater Ends Goes reported rest Is
   later-is Ends Goes (Err fault) rest Is each = tt
   later-is Ends Goes (Ok status) goes Is each = each goes
@@ -290,7 +298,8 @@ module _ {L H W : Type 0} (step : L → Call → L → Type 0) (acts : H → Hos
         (λ ports. ServesBound step acts contents asks options served ports loaded.trace.items host
         after old new answer)
         (λ why. EndsUnserved contents asks why old new answer × (after ≡ host)))
-        → HoldsIfBound step acts contents asks Is options served loaded.trace.items host after old new
+        → HoldsIfBound step acts contents asks Is options served loaded.trace.items host after old
+        new
         answer bound goes
     bound-is served settings before host after old new answer (Ok ports) binds goes =
         let run = goes.5 in
@@ -307,7 +316,8 @@ module _ {L H W : Type 0} (step : L → Call → L → Type 0) (acts : H → Hos
         (answer : Result ℕ WriteFault)
         (ports : ServesPorts step acts contents asks options loaded held before after old new
         answer)
-        → HoldsIfOpened step acts contents asks Is options loaded held before after old new answer ports
+        → HoldsIfOpened step acts contents asks Is options loaded held before after old new answer
+        ports
     ports-is held before after old new answer ports =
         bound-is (served_of loaded held) _ before ports.host after old new answer ports.bound
         ports.binds ports.continuation
@@ -328,7 +338,8 @@ module _ {L H W : Type 0} (step : L → Call → L → Type 0) (acts : H → Hos
       → Is (new_server (state_of loaded)) ts) (options : ServeOptions) where
     rules-is : (before after : H) (old new : WriterState W) (answer : Result ℕ WriteFault)
         (serves : ServesRules step acts contents asks options loaded before after old new answer)
-        → HoldsWithRules step acts contents asks Is options loaded before after old new answer serves
+        → HoldsWithRules step acts contents asks Is options loaded before after old new answer
+        serves
     rules-is before after old new answer serves =
         in-permit _ _ serves.permit serves.continuation _
         (λ rules granted drawn. in-permit _ _ drawn.permit drawn.continuation _

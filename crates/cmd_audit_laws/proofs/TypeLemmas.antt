@@ -133,7 +133,8 @@ event-fits (verb ∷ []) =
     cond-some NamedFits (bytes_eq verb (codes "scan")) (Some scan) _ tt
     (cond-some NamedFits (bytes_eq verb (codes "lost")) (Some lost) None tt tt)
 event-fits (verb ∷ message ∷ values) =
-    cond-some NamedFits (is_association_verb verb) (association_event_by_verb verb (message ∷ values)) _
+    cond-some NamedFits (is_association_verb verb)
+    (association_event_by_verb verb (message ∷ values)) _
     (association-fits verb (message ∷ values))
     (then-some NamedFits (λ name. named_event_of verb name values) (name_of message)
     (λ name. named-fits verb name values))
@@ -270,7 +271,8 @@ if-ok : (b : Bool) (x y : Result TimedMessage DisconnectReason) → WordFits x �
 if-ok true x y h k = h
 if-ok false x y h k = k
 
-timely-fits : (limit now moment : ℕ) (message : ProcessMessage) → IfSome (event_in message) EventFits
+timely-fits : (limit now moment : ℕ) (message : ProcessMessage)
+    → IfSome (event_in message) EventFits
     → WordFits (judge_moment limit now moment message)
 timely-fits limit now moment message h =
     if-ok (is_timely limit now moment) (Ok (record { moment = moment; message = message }))
@@ -281,7 +283,8 @@ judged-fits : (watch : Option WatchData) (s : State) (now : ℕ) (line : List �
 judged-fits None s now line = plain-fits now line (event_in_line s line) (told-by-fits s line)
 judged-fits (Some w) s now line =
     if-ok w.introduced (judge_later_line line w now (timed_line_of s line))
-    (judge_introduction w.settings now (introduction_moment w.settings.key s.domain s.revision line))
+    (judge_introduction w.settings now
+    (introduction_moment w.settings.key s.domain s.revision line))
     (by-timed (timed_line_of s line) (timed-fits s line))
     (by-moment (introduction_moment w.settings.key s.domain s.revision line))
   where

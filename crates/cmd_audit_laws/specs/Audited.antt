@@ -88,7 +88,8 @@ pub record IsAnswered (How : RuleAnswer → Type 0) (rules : List Rule) (answers
 abbrev pub AnswersRule : (How : RuleAnswer → Type 0) → Rule → (loaded : LoadData)
     (rules : Option (List Rule)) (text : List ℕ) (status : ℕ) → AnswersIf loaded rules text status
     → Type 0
-AnswersRule How rule loaded (Some rules) text status prints = IsAnswered How rules prints.answers rule
+AnswersRule How rule loaded (Some rules) text status prints =
+    IsAnswered How rules prints.answers rule
 AnswersRule How rule loaded None text status prints = ⊥
 
 -- the same in the text for rules and a diagram, which memory may have cut

@@ -72,11 +72,13 @@ module _ {F L H W : Type 0} (step : L → Call → L → Type 0) (acts : H → H
   abbrev pub GuardedObey : (FileNames → Option (List ℕ))
       → (List ℕ → List ℕ → ServerData → List DoneTurn → Type 0) → Type 0
   GuardedObey file_in Obey =
-      (files : F) (named : FileNames) (options : ServeOptions) (before after : H) (old new : WriterState W)
+      (files : F) (named : FileNames) (options : ServeOptions) (before after : H)
+      (old new : WriterState W)
       (answer : Result ℕ WriteFault)
       (serves : ServesFiles step acts contents asks reads guards files named options before after
       old new answer) (name : List ℕ) → file_in named ≡ Some name
-      → HoldsIfRead step acts contents asks (ObeyFile reads Obey files name named.form) options before
+      → HoldsIfRead step acts contents asks (ObeyFile reads Obey files name named.form) options
+      before
       after old new answer serves.loaded serves.continuation
 
   -- The turns of each service with rules obey the rules in their file.

@@ -132,7 +132,8 @@ module _ {L H W : Type 0} (step : L → Call → L → Type 0) (acts : H → Hos
       → ServesPorts step acts contents asks options loaded held before after old new answer
       → Type 0
   HoldsIfOpened Is options loaded held before after old new answer ports =
-      HoldsIfBound Is options (served_of loaded held) loaded.trace.items ports.host after old new answer
+      HoldsIfBound Is options (served_of loaded held) loaded.trace.items ports.host after old new
+      answer
       ports.bound ports.continuation
 
   -- the statement holds for the turns that were served, if the releases hold by the diagram, or
@@ -144,7 +145,8 @@ module _ {L H W : Type 0} (step : L → Call → L → Type 0) (acts : H → Hos
       → Type 0
   OfDiagram Is options loaded rules before after old new answer serves =
       InPermit _ _ serves.permit serves.continuation
-      (λ releases. HoldsIfOpened Is options loaded (record { rules = rules; releases = releases }) before
+      (λ releases. HoldsIfOpened Is options loaded (record { rules = rules; releases = releases })
+      before
       after serves.middle new answer)
 
   -- the statement holds for the turns that were served, if the rules hold, or there are none
@@ -186,7 +188,8 @@ module _ {F L H W : Type 0} (step : L → Call → L → Type 0) (acts : H → H
   -- The turns of each service obey the answers of each audit of the same octets.
   abbrev pub ServedCommandsObey : Type 0
   ServedCommandsObey =
-      (files : F) (named : FileNames) (options : ServeOptions) (before after : H) (old new : WriterState W)
+      (files : F) (named : FileNames) (options : ServeOptions) (before after : H)
+      (old new : WriterState W)
       (answer : Result ℕ WriteFault)
       (serves : ServesFiles step acts contents asks reads guards files named options before after
       old new answer)

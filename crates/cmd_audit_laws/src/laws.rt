@@ -1,5 +1,5 @@
-// Laws of audited rules and diagrams, and of small runs of commands. Each function does nothing, and
-// its contract is the law.
+// Laws of audited rules and diagrams, and of small runs of commands. Each function does nothing,
+// and its contract is the law.
 ghost use Rattle.std.specs.Prelude.{◌≡◌, ◌+◌, ℕ, true, false, List, [], ◌∷◌, None};
 ghost use Rattle.std.specs.List.{Contains};
 ghost use Rattle.bay_audit_laws.specs.Examples.{at_all_times};
@@ -74,7 +74,8 @@ pub fn guarded_commands_obey<F: FileSystem, L: Link, H: Host<L>, W: Sink>(
     _host: &H,
     _sink: &W,
 )
-    ensures rules { GuardedCommandsObey (CountedCall L.does L.failures) H.does W.contents W.does F.reads
+    ensures rules { GuardedCommandsObey (CountedCall L.does L.failures) H.does W.contents W.does
+        F.reads
         F.guards }
     ensures diagram { GuardedCommandsAreHarmless (CountedCall L.does L.failures) H.does W.contents
         W.does F.reads F.guards }
@@ -136,17 +137,21 @@ pub fn the_last_scan_releases_a_command()
 /// ordered.
 pub fn a_reported_command_needs_each_of_its_parts()
     ensures heard { (s : State) (octet : ℕ) (octets : List ℕ) (reported : Turn)
-        → ReceivesOctets (server_with_client s) (turn_with (octets_arrived (octet ∷ octets)) reported) }
+        → ReceivesOctets (server_with_client s)
+        (turn_with (octets_arrived (octet ∷ octets)) reported) }
     ensures closed { (s : State) (octets : List ℕ) (reported : Turn)
-        → ReceivesOctets (server_without_clients s) (turn_with (octets_arrived octets) reported) → ⊥ }
+        → ReceivesOctets (server_without_clients s) (turn_with (octets_arrived octets) reported)
+        → ⊥ }
     ensures silent { (first : State) (h : ServerData) (reported : Turn) (past : List PastEvent)
         (command : Command) → IsRequested first h (turn_with no_octets reported) past command → ⊥ }
     ensures part { (first s : State) (reported : Turn) (past : List PastEvent) (command : Command)
-        → IsRequested first (server_with_client s) (turn_with (octets_arrived (3 ∷ [])) reported) past
+        → IsRequested first (server_with_client s) (turn_with (octets_arrived (3 ∷ [])) reported)
+        past
         command → ⊥ }
     ensures refused { (first s : State) (octet : ℕ) (octets : List ℕ) (reported : Turn)
         (past : List PastEvent) (command : Command)
-        → IsRequested first (server_with_client s) (turn_with (octets_refused (octet ∷ octets)) reported)
+        → IsRequested first (server_with_client s)
+        (turn_with (octets_refused (octet ∷ octets)) reported)
         past
         command → ⊥ }
     ensures unscanned { (first : State) (h : ServerData) (t : DoneTurn) (command : Command)
@@ -161,7 +166,8 @@ pub fn a_reported_command_needs_each_of_its_parts()
         (command : Command) → IsTurn h t → t.given.is_lost ≡ true
         → IsRequested first h t past command → ⊥ }
     ensures quiet { (first : State) (h : ServerData) (t u : DoneTurn) (past : List PastEvent)
-        → t.reported.commands ≡ [] → u.reported.commands ≡ [] → AreRequested first h past (t ∷ u ∷ []) }
+        → t.reported.commands ≡ [] → u.reported.commands ≡ []
+        → AreRequested first h past (t ∷ u ∷ []) }
     ensures unordered { (first : State) (h : ServerData) (t : DoneTurn) (reported : Turn)
         (past : List PastEvent) (command : Command) → Contains reported.commands command
         → AreRequested first h past (t ∷ turn_with no_octets reported ∷ []) → ⊥ }

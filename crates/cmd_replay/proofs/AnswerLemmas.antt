@@ -36,7 +36,8 @@ AppliesEvent-same contents asks old now event other before new after e d =
 
 -- an event is done where the text of its answer is put
 pub Does-put : {W : Type 0} (contents : W → Option (List ℕ)) (asks : W → WriteCall → W → Type 0)
-    (old : WriterState W) (now : ℕ) (event : Event) (before : State) (new : WriterState W) (after : State)
+    (old : WriterState W) (now : ℕ) (event : Event) (before : State) (new : WriterState W)
+    (after : State)
     (choice : Option ℕ) (answer : Result Step StepFault)
     → answer ≡ (outcome choice now event before).answer
     → after ≡ (outcome choice now event before).after
@@ -66,7 +67,8 @@ memory-said now event r lt = by_test (nat_lt r.room (octet_count event)) refl
 
 -- the report could not be flushed
 pub FinishesLogs-cut : {W : Type 0} {contents : W → Option (List ℕ)}
-    {asks : W → WriteCall → W → Type 0} {status : ℕ} {line : Option (List ℕ)} {old new : WriterState W}
+    {asks : W → WriteCall → W → Type 0} {status : ℕ} {line : Option (List ℕ)}
+    {old new : WriterState W}
     (fault : WriteFault) (r : Result ℕ WriteFault) → IsErr r
     → Finishes {X = ℕ} {E = WriteFault} contents asks old new (Err fault)
     → FinishesLogs contents asks status line old new r

@@ -178,7 +178,8 @@ module _ (code : List ℕ) (now most k : ℕ) (slots : List Value) (timers : Lis
       ≡ Halted slots timers n
       → HaltPath code n
   by-turn i next (Continues after) here lands-so e =
-      more after (s.offset, path, record { instr = i; next = next; here = here; leads = lands-so }) e
+      more after (s.offset, path, record { instr = i; next = next; here = here; leads = lands-so })
+      e
   by-turn i next Stops here is e =
       let counted : suc k ≡ n = let same : k + 1 ≡ n = cc in omega arith in
       subst (HaltPath code) counted

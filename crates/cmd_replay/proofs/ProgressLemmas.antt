@@ -80,7 +80,8 @@ module _ {W : Type 0} {contents : W → Option (List ℕ)} {asks : W → WriteCa
     {s : Replaying} {k : ℕ} {rest : List (List ℕ)} {old mid : WriterState W}
     (p : Progress contents asks May s k rest old mid) where
   -- a last text ends the report
-  pub Progress-last : {put : WriterState W} {text : List ℕ} (end : WriterState W) (log : Option (List ℕ))
+  pub Progress-last : {put : WriterState W} {text : List ℕ} (end : WriterState W)
+      (log : Option (List ℕ))
       (status : ℕ) (r : Result ℕ WriteFault) → TraceReport s k rest log text status
       → Puts contents asks mid text put → Finishes contents asks put end r
       → IfOk r (λ n. n ≡ status) → Prints contents asks (May log) old end r
@@ -89,7 +90,8 @@ module _ {W : Type 0} {contents : W → Option (List ℕ)} {asks : W → WriteCa
       ends is
 
   -- and then the line that goes with it is logged
-  pub Progress-logged : {put end : WriterState W} {text : List ℕ} (log : Option (List ℕ)) (status : ℕ)
+  pub Progress-logged : {put end : WriterState W} {text : List ℕ} (log : Option (List ℕ))
+      (status : ℕ)
       (r : Result ℕ WriteFault) → TraceReport s k rest log text status
       → Puts contents asks mid text put → FinishesLogs contents asks status log put end r
       → PrintsLogs contents asks May old end r

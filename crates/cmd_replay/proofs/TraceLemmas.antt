@@ -80,7 +80,8 @@ count-more : (done : List (List ℕ)) (line : List ℕ)
 count-more done line = omega (arith, length-append done (line ∷ []))
 
 module _ (log : Option (List ℕ)) (first : State) (done : List (List ℕ)) (line : List ℕ)
-    (lines : List (List ℕ)) (later : Later log first (done ++ line ∷ []) lines) (past : List PastEvent)
+    (lines : List (List ℕ)) (later : Later log first (done ++ line ∷ []) lines)
+    (past : List PastEvent)
     (steps : EachPast Steps first past) (of : AreLineEvents first past done) (room : ℕ) where
   -- the trace ends at the line
   stops : (text : List ℕ) (status : ℕ) → EndsAs (length done) (line ∷ lines) text status
@@ -178,7 +179,8 @@ module _ (log : Option (List ℕ)) (first : State) (done : List (List ℕ)) (lin
 
       goes-room : (b : Bool) (text : List ℕ) (status : ℕ)
           → Told line (cond b (memory_answer (at first past room))
-          (event_answer None m event (octet_count named) (at first past room))) (length done + 1) lines
+          (event_answer None m event (octet_count named) (at first past room))) (length done + 1)
+          lines
           log text status
           → Ends first past done (line ∷ lines) text status
       goes-room true text status told =

@@ -19,7 +19,8 @@ is_unreadable Unreadable = true
 is_unreadable OutOfMemory = false
 
 -- an event was applied, and its lines were put into the writer
-pub record AppliesEvent {W : Type 0} (contents : W → Option (List ℕ)) (asks : W → WriteCall → W → Type 0)
+pub record AppliesEvent {W : Type 0} (contents : W → Option (List ℕ))
+    (asks : W → WriteCall → W → Type 0)
     (old : WriterState W) (now : ℕ)
     (event : Event) (before : State) (new : WriterState W) (after : State) : Type 0 where
   pub choice : Option ℕ
@@ -30,7 +31,8 @@ pub record AppliesEvent {W : Type 0} (contents : W → Option (List ℕ)) (asks 
 
 -- a line was answered, with some choice: its text was put into the writer, and if the answer is not
 -- the last, the state after it is the one that results
-pub record AnswersLine {W : Type 0} (contents : W → Option (List ℕ)) (asks : W → WriteCall → W → Type 0)
+pub record AnswersLine {W : Type 0} (contents : W → Option (List ℕ))
+    (asks : W → WriteCall → W → Type 0)
     (old : WriterState W)
     (said : Choice → LineAnswer) (new : WriterState W) (after : Replaying) (is_last : Bool)
     : Type 0 where
@@ -42,7 +44,8 @@ pub record AnswersLine {W : Type 0} (contents : W → Option (List ℕ)) (asks :
 -- a writer was flushed, with this status, and then a line was logged, if there is one; after a
 -- failure nothing was logged
 pub record FinishesLogs {W : Type 0} (contents : W → Option (List ℕ))
-    (asks : W → WriteCall → W → Type 0) (status : ℕ) (line : Option (List ℕ)) (old new : WriterState W)
+    (asks : W → WriteCall → W → Type 0) (status : ℕ) (line : Option (List ℕ))
+    (old new : WriterState W)
     (result : Result ℕ WriteFault) : Type 0 where
   pub between : WriterState W
   pub finishes : Finishes contents asks old between result

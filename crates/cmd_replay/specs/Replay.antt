@@ -46,7 +46,8 @@ DeviceReport s lines log text status =
     × TraceReport (record { device = s; room = 0 }) 1 lines log rest status)
 
 -- the report of a trace on the result of a load
-abbrev pub LoadedTraceReport : Result LoadData LoadError → List ℕ → Option (List ℕ) → List ℕ → ℕ → Type 0
+abbrev pub LoadedTraceReport : Result LoadData LoadError → List ℕ → Option (List ℕ) → List ℕ → ℕ
+    → Type 0
 LoadedTraceReport (Err error) trace log text status = RefusalReport error log text status
 LoadedTraceReport (Ok loaded) trace log text status =
     DeviceReport (device_of loaded) (lines_of trace) log text status
@@ -84,14 +85,16 @@ abbrev pub ReadReport : Option (List ℕ) → Option (List ℕ) → List ℕ →
 ReadReport input log text status =
     ((scenario : List ℕ) × IfSome input (λ octets. scenario ≡ octets)
     × (length scenario ≤ scenario_limit)
-    × (ScenarioReport scenario log text status ⊎ UnreadInputReport unread.OutOfMemory log text status))
+    × (ScenarioReport scenario log text status
+    ⊎ UnreadInputReport unread.OutOfMemory log text status))
     ⊎ (UnreadInputReport unread.TooLong log text status
     × IfSome input (λ octets. scenario_limit < length octets))
 
 -- the report of the octets of a reader; that of a failed read exactly if a read failed
 abbrev pub ReplayReport : Option (List ℕ) → Bool → Option (List ℕ) → List ℕ → ℕ → Type 0
 ReplayReport input has_failed log text status =
-    MatchBool has_failed ((kind : ErrorKind) × UnreadInputReport (unread.Failed kind) log text status)
+    MatchBool has_failed ((kind : ErrorKind)
+    × UnreadInputReport (unread.Failed kind) log text status)
     (ReadReport input log text status)
 
 -- The octets of a reader were replayed to a writer: the scenario is what at most 16,777,217 reads

@@ -67,7 +67,8 @@ fn answer_scan<W: Sink>(
     moment: u64,
 )
     requires { trace_line_of line.now ≡ Some (at_moment moment scan) }
-    ensures { AppliesEvent W.contents W.does writer.old moment Scan device.old writer.new device.new }
+    ensures { AppliesEvent W.contents W.does writer.old moment Scan device.old writer.new
+        device.new }
 {
     let digits = scan_digits(line);
     let answer = device.scan(moment);

@@ -87,7 +87,8 @@ fn replay_parts<W: Sink>(
     writer: &mut WatchedWriter<W>,
 ) -> Result<u8, WriteFault>
     requires { length scenario.trace.now ≤ scenario_limit }
-    ensures { PrintsLogs W.contents W.does (PartsLoadReport (scenario_view scenario.entry)) writer.old
+    ensures { PrintsLogs W.contents W.does (PartsLoadReport (scenario_view scenario.entry))
+        writer.old
         writer.new
         result }
 {

@@ -48,7 +48,8 @@ key-short text key e =
     by-test true is e =
         let few : nat_le digits 64 ≡ true =
         (and_parts (nat_le 32 digits) (nat_le digits 64)
-        (and_parts (nat_le 32 digits && nat_le digits 64) (is_key_end (drop digits text)) is).0).1 in
+        (and_parts (nat_le 32 digits && nat_le digits 64) (is_key_end (drop digits text)) is).0).1
+        in
         let same : take digits text ≡ key = cc in
         let within : length (take digits text) ≡ min digits (length text) =
         length-take digits text in
@@ -103,7 +104,8 @@ module _ {L H W : Type 0} (step : L → Call → L → Type 0) (acts : H → Hos
             begun.loaded;
         ordered = ordered-from before.held done begun are;
         printed = printed-from before.held done begun ids are;
-        live = λ settings supervised. commands-live step acts contents asks settings turns before old
+        live = λ settings supervised. commands-live step acts contents asks settings turns before
+            old
             host new answer serves begun supervised;
       }
 

@@ -176,7 +176,8 @@ module _ (now : ℕ) (reported : List (ℕ × CloseReason)) where
         → ((s : State) (rest : List ChosenEvent) → Rest s rest → All P rest)
         → FirstThen now reported first Rest d events → All P events
     then-all first Rest d events all more t =
-        let rest : All P t.rest = more (outcomes_at now (first ++ t.cut) d).after t.rest t.rest_holds in
+        let rest : All P t.rest =
+        more (outcomes_at now (first ++ t.cut) d).after t.rest t.rest_holds in
         subst (All P) (sym (t.is ∙ grouped first t.cut t.rest))
         (All-append P first (t.cut ++ t.rest) all (All-append P t.cut t.rest
         (closings-all (λ a. reports_close is_queue_full a reported) t.cut t.closings) rest))
@@ -206,7 +207,8 @@ pub behind-without : (now : ℕ) (reported : List (ℕ × CloseReason)) (why : �
     → Behind now reported why line d rest → AreWithout rest
 behind-without now reported why line d rest t =
     let Last : State → List ChosenEvent → Type 0 = λ e rest. AreClosings why rest in
-    then-all now reported IsFree (λ a. tt) (process_events line) (FirstThen now reported (with_memory Scan ∷ []) Last)
+    then-all now reported IsFree (λ a. tt) (process_events line)
+    (FirstThen now reported (with_memory Scan ∷ []) Last)
     d
     rest
     (told-without line)
@@ -239,7 +241,8 @@ halves : (now : ℕ) (given : ProcessReport) (script : Script) (h : ServerData)
 halves now given script h readings offers =
     let reported = (after_turn now given script h).noted.closed in
     let why : ℕ → Bool = why_closed now given script h in
-    then-front now reported (open_events script.accepted h.device) (Begins now given script h) h.device
+    then-front now reported (open_events script.accepted h.device) (Begins now given script h)
+    h.device
     (turn_events now given script h)
     (opened-of (position is_none h.device.connections) script.accepted)
     (λ c rest begins. then-front now reported (process_events (loss_event given))
@@ -403,7 +406,8 @@ not-told now given script h front choice a octets back readings offers split of 
     first : List ChosenEvent
     first = open_events script.accepted h.device
 
-    t : FirstThen now reported first (Begins now given script h) h.device (turn_events now given script h)
+    t : FirstThen now reported first (Begins now given script h) h.device
+        (turn_events now given script h)
     t = in-order now given script h readings offers
 
     u : Begins now given script h (outcomes_at now (first ++ t.cut) h.device).after t.rest

@@ -80,7 +80,8 @@ module _ (first : State) (now : ℕ) where
       }
 
   -- those of a turn
-  pub stands-events : (es : List ChosenEvent) (s : State) (past : List PastEvent) → Stands first past s
+  pub stands-events : (es : List ChosenEvent) (s : State) (past : List PastEvent)
+      → Stands first past s
       → Stands first (past_after now es s past) (outcomes_at now es s).after
   stands-events [] s past at = at
   stands-events (e ∷ es) s past at =

@@ -72,7 +72,8 @@ record Keeps {L H : Type 0} (settings : SupervisionSettings) (b : ServiceState L
   stands : Stands-by settings b.held.device process.port
   alone : b.lines ≡ []
 
-begins : {L H : Type 0} (settings : SupervisionSettings) (b : ServiceState L H) → IsSupervised settings b
+begins : {L H : Type 0} (settings : SupervisionSettings) (b : ServiceState L H)
+    → IsSupervised settings b
     → Keeps settings b
 begins settings b s = record {
   process = _;
@@ -83,7 +84,8 @@ begins settings b s = record {
 
 -- ---- a turn
 
-watch-of : (settings : SupervisionSettings) (watch : Option WatchData) → settings_in watch ≡ Some settings
+watch-of : (settings : SupervisionSettings) (watch : Option WatchData)
+    → settings_in watch ≡ Some settings
     → (w : WatchData) × (watch ≡ Some w) × (w.settings ≡ settings)
 watch-of settings None owes = absurd cc
 watch-of settings (Some w) owes = (w, refl, cc)
@@ -132,7 +134,8 @@ module _ (settings : SupervisionSettings) (h : ServerData) (t : DoneTurn) (is : 
         → Took t.now jump w (port_reading h.device t.now jump p) → Stands-by settings last behind
     by-took w here watched k = by-known k.known
       where
-        live : left.watch ≡ Some k.later → k.later.introduced ≡ true → Stands-by settings last behind
+        live : left.watch ≡ Some k.later → k.later.introduced ≡ true
+            → Stands-by settings last behind
         live watched known =
             elim (stays-known reported last script left k.later k.here watched known) [
               | inl gone ↦ record { owes = owes-after; state = inl gone }
@@ -240,7 +243,8 @@ module _ (settings : SupervisionSettings) (h : ServerData) (t : DoneTurn) (is : 
 
 -- ---- all turns
 
-later-live : (Ends Goes : Type 0) (reported : Result ℕ WriteFault) (rest : AfterTurn reported Ends Goes)
+later-live : (Ends Goes : Type 0) (reported : Result ℕ WriteFault)
+    (rest : AfterTurn reported Ends Goes)
     (more : Goes → Type 0)
     → ((status : ℕ) → reported ≡ Ok status → (goes : Goes) → more goes)
     → HoldsLater Ends Goes reported rest more
@@ -260,7 +264,8 @@ module _ {L H W : Type 0} (step : L → Call → L → Type 0) (acts : H → Hos
       ap (λ lines. choose_input b.held.device (moment_of clocks b) jump lines b.process) k.alone
       ∙ ap (λ process. choose_input b.held.device (moment_of clocks b) jump [] process) k.is
 
-  module _ (before : ServiceState L H) (old : WriterState W) (after : ServiceState L H) (new : WriterState W)
+  module _ (before : ServiceState L H) (old : WriterState W) (after : ServiceState L H)
+      (new : WriterState W)
       (answer : Result ℕ WriteFault)
       (goes : TurnServed step acts contents asks before old after new answer)
       (k : Keeps settings before) where
@@ -284,14 +289,18 @@ module _ {L H W : Type 0} (step : L → Call → L → Type 0) (acts : H → Hos
     }
 
     lives : Heeds before.held t
-        → IsLiveProcess settings t.now (chosen_input goes.clocks before).process × (jump ≤ settings.limit)
+        → IsLiveProcess settings t.now (chosen_input goes.clocks before).process
+        × (jump ≤ settings.limit)
     lives heeds =
         let is = is-turn step acts contents asks before old after new answer goes in
         let now =
         lives-now settings before.held t is jump k.process.port k.stands gives-port heeds in (
           subst (λ (c : ChosenInput L). IsLiveProcess settings t.now c.process)
-              (sym (port-chosen before k goes.clocks))
-              (now.live, owes-left settings before.held t is jump k.process.port k.stands gives-port),
+              (sym (port-chosen before k goes.clocks)) (
+                now.live,
+                owes-left settings before.held t is jump k.process.port k.stands
+                    gives-port,
+              ),
           now.no_jump,
         )
 
@@ -325,7 +334,8 @@ module _ {L H W : Type 0} (step : L → Call → L → Type 0) (acts : H → Hos
             ((after.process ≡ (chosen_input goes.clocks before).process)
             × (goes.reported ≡ goes.reports.between) × (answer ≡ r))
             (PollsProcess step contents asks t.now goes.turn after.held.device
-            (chosen_input goes.clocks before).process after.process goes.reports.between goes.reported
+            (chosen_input goes.clocks before).process after.process goes.reports.between
+            goes.reported
             answer)
             → Keeps settings after
         by-outcome (Err fault) ends =
@@ -347,7 +357,8 @@ module _ {L H W : Type 0} (step : L → Call → L → Type 0) (acts : H → Hos
       subst (Keeps settings) (sym paused.1)
       (record { process = k.process; is = k.is; stands = k.stands; alone = k.alone })
 
-  live-turns : (first : State) (turns : ℕ) (before : ServiceState L H) (old : WriterState W) (host : H)
+  live-turns : (first : State) (turns : ℕ) (before : ServiceState L H) (old : WriterState W)
+      (host : H)
       (new : WriterState W) (answer : Result ℕ WriteFault)
       (serves : ServesTurns step acts contents asks turns before old host new answer)
       (past : List PastEvent) → Keeps settings before → IsTidy before.held

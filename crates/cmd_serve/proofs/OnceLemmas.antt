@@ -66,7 +66,8 @@ module _ (a place : ℕ) where
   other-brought choice StreamEnd other = refl
   other-brought choice Failure other = refl
 
-  other-read : (r : Reading) (d : State) → place + 1 ≢ a → received_of a (events_of_read place r d) ≡ []
+  other-read : (r : Reading) (d : State) → place + 1 ≢ a
+      → received_of a (events_of_read place r d) ≡ []
   other-read r d other = by-open (is_some (connection_at (Some place) d))
     where
       by-open : (b : Bool)
@@ -90,15 +91,18 @@ module _ (a place : ℕ) where
   own-brought choice Silence c octets has = absurd (omega (arith, has.1))
   own-brought choice StreamEnd c octets has =
       let event : Recv a octets ≡ Close (place + 1) =
-      ap (λ (e : ChosenEvent). e.1) (only (c, Recv a octets) (with_memory (Close (place + 1))) has) in
+      ap (λ (e : ChosenEvent). e.1) (only (c, Recv a octets) (with_memory (Close (place + 1))) has)
+      in
       absurd cc
   own-brought choice Failure c octets has =
       let event : Recv a octets ≡ Close (place + 1) =
-      ap (λ (e : ChosenEvent). e.1) (only (c, Recv a octets) (with_memory (Close (place + 1))) has) in
+      ap (λ (e : ChosenEvent). e.1) (only (c, Recv a octets) (with_memory (Close (place + 1))) has)
+      in
       absurd cc
 
   own-read : (r : Reading) (d : State) (c : Option ℕ) (octets : Bor (List ℕ))
-      → Contains (events_of_read place r d) (c, Recv a octets) → IsRead a place octets (events_of_read place r d)
+      → Contains (events_of_read place r d) (c, Recv a octets)
+      → IsRead a place octets (events_of_read place r d)
   own-read r d c octets = by-open (is_some (connection_at (Some place) d))
     where
       by-open : (b : Bool)
@@ -147,7 +151,8 @@ module _ (now : ℕ) (reported : List (ℕ × CloseReason)) (a : ℕ) where
     reads-none place [] d events less t = without-none a events (without d events t)
     reads-none place (r ∷ rs) d events less t =
         let other : place + 1 ≢ a = λ same. absurd (omega arith) in
-        then-received (events_of_read place r d) (ReadsThen now reported (place + 1) rs Rest) d events t
+        then-received (events_of_read place r d) (ReadsThen now reported (place + 1) rs Rest) d
+        events t
         ∙ ap (λ l. l ++ received_of a t.rest) (other-read a place r d other)
         ∙ reads-none (place + 1) rs _ t.rest (omega arith) t.rest_holds
 
@@ -158,7 +163,8 @@ module _ (now : ℕ) (reported : List (ℕ × CloseReason)) (a : ℕ) where
     reads-once place [] d events c octets t has =
         absurd (All-contains IsFree events (c, Recv a octets) (without d events t) has)
     reads-once place (r ∷ rs) d events c octets t has =
-        elim (then-has (events_of_read place r d) (ReadsThen now reported (place + 1) rs Rest) d events t c
+        elim (then-has (events_of_read place r d) (ReadsThen now reported (place + 1) rs Rest) d
+        events t c
         octets has) [
           | inl own ↦
               (let is : IsRead a place octets (events_of_read place r d) =
@@ -174,9 +180,11 @@ module _ (now : ℕ) (reported : List (ℕ × CloseReason)) (a : ℕ) where
           | inr later ↦ more (reads-once (place + 1) rs _ t.rest c octets t.rest_holds later)
         ]
       where
-        both : received_of a events ≡ received_of a (events_of_read place r d) ++ received_of a t.rest
+        both : received_of a events
+            ≡ received_of a (events_of_read place r d) ++ received_of a t.rest
         both =
-            then-received (events_of_read place r d) (ReadsThen now reported (place + 1) rs Rest) d events t
+            then-received (events_of_read place r d) (ReadsThen now reported (place + 1) rs Rest) d
+            events t
 
         more : (received_of a t.rest ≡ octets.now) × (place + 1 < a)
             → (received_of a events ≡ octets.now) × (place < a)

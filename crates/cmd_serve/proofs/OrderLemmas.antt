@@ -259,7 +259,8 @@ module _ (first : State) (h : ServerData) (t : DoneTurn) (past : List PastEvent)
             number = there.1;
             flows = (loses-nothing t.now t.given t.script h tidy is.in_time is.all_offered).flows
                 there.0 there.2;
-            accepts = subst (λ p. Contains (operates_in (observed_in_pdu t.now a r.pdu (bay_of first)
+            accepts =
+                subst (λ p. Contains (operates_in (observed_in_pdu t.now a r.pdu (bay_of first)
                 p)) command) (sym m.is) r.accepts;
             allowed = allowed;
             released = released-by first past h.device mid t.now first.scan_max_age_ms command at
@@ -281,7 +282,8 @@ module _ (first : State) (h : ServerData) (t : DoneTurn) (past : List PastEvent)
   asked Scan split answered replied allowed = absurd (none-among _ command replied has)
 
 -- what stands behind a command of a turn
-pub ordered : (first : State) (h : ServerData) (t : DoneTurn) (past : List PastEvent) (command : Command)
+pub ordered : (first : State) (h : ServerData) (t : DoneTurn) (past : List PastEvent)
+    (command : Command)
     → IsTurn h t → IsTidy h → Stands first past h.device → Contains t.reported.commands command
     → IsRequested first h t past command
 ordered first h t past command is tidy at has =

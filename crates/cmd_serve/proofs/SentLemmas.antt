@@ -106,7 +106,8 @@ module _ (now a : ℕ) where
 
   to-if : (late early : Bool) (s : State) (o : Outcome) → AreTo o.answer
       → let x : Outcome =
-      cond late (refusal_outcome MomentTooLarge s) (cond early (refusal_outcome TimeWentBack s) o) in
+      cond late (refusal_outcome MomentTooLarge s) (cond early (refusal_outcome TimeWentBack s) o)
+      in
       AreTo x.answer
   to-if true early s o to = tt
   to-if false true s o to = tt

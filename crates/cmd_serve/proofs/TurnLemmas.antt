@@ -54,11 +54,13 @@ later-are Ends Goes h (Ok status) goes more each = each goes
 
 module _ {L H W : Type 0} (step : L → Call → L → Type 0) (acts : H → HostCall L → H → Type 0)
     (contents : W → Option (List ℕ)) (asks : W → WriteCall → W → Type 0) where
-  pub paused-held : (after next : ServiceState L H) → MayPause acts after next → next.held ≡ after.held
+  pub paused-held : (after next : ServiceState L H) → MayPause acts after next
+      → next.held ≡ after.held
   paused-held after next (inl same) = ap (λ (b : ServiceState L H). b.held) same
   paused-held after next (inr paused) = ap (λ (b : ServiceState L H). b.held) paused.1
 
-  pub is-turn : (before : ServiceState L H) (old : WriterState W) (after : ServiceState L H) (new : WriterState W)
+  pub is-turn : (before : ServiceState L H) (old : WriterState W) (after : ServiceState L H)
+      (new : WriterState W)
       (answer : Result ℕ WriteFault)
       (goes : TurnServed step acts contents asks before old after new answer)
       → IsTurn before.held (turn_in step acts contents asks before old after new answer goes)
@@ -97,6 +99,7 @@ module _ {L H W : Type 0} (step : L → Call → L → Type 0) (acts : H → Hos
       let first : State = before.held.device in
       record {
         are = turned turns before old host new answer serves;
-        run = one-run first (past_of ts before.held []) (server_after_all ts before.held).device begin
+        run = one-run first (past_of ts before.held []) (server_after_all ts before.held).device
+            begin
             (stands-turns first ts before.held [] (stands-first first begin));
       }

@@ -29,7 +29,8 @@ IsLiveProcess settings now None = ⊥
 IsLiveProcess settings now (Some p) = IsLive now p.port × (settings_in p.port.watch ≡ Some settings)
 
 -- a statement on the turns after one, if its lines could be written
-abbrev pub HoldsLater : (Ends Goes : Type 0) (reported : Result ℕ WriteFault) → AfterTurn reported Ends Goes
+abbrev pub HoldsLater : (Ends Goes : Type 0) (reported : Result ℕ WriteFault)
+    → AfterTurn reported Ends Goes
     → (Goes → Type 0) → Type 0
 HoldsLater Ends Goes (Err fault) ends more = Unit {0}
 HoldsLater Ends Goes (Ok status) goes more = more goes
@@ -47,7 +48,8 @@ module _ {L H W : Type 0} (step : L → Call → L → Type 0) (acts : H → Hos
   CommandsLive settings (suc turns) before old host new answer (inl fails) = Unit {0}
   CommandsLive settings (suc turns) before old host new answer (inr did) =
       (did.3.turn.commands ≢ []
-      → IsLiveProcess settings (moment_of did.3.clocks before) (chosen_input did.3.clocks before).process
+      → IsLiveProcess settings (moment_of did.3.clocks before)
+      (chosen_input did.3.clocks before).process
       × (jump_of did.3.clocks before.clock ≤ settings.limit))
       × HoldsLater _ _ did.2 did.4
       (λ rest. CommandsLive settings turns rest.0 _ host new answer rest.2)

@@ -95,6 +95,7 @@ pub record IsRequested (first : State) (h : ServerData) (t : DoneTurn) (past : L
 abbrev pub AreRequested : State → ServerData → List PastEvent → List DoneTurn → Type 0
 AreRequested first h past [] = Unit {0}
 AreRequested first h past (t ∷ ts) =
-    ((command : Command) → Contains t.reported.commands command → IsRequested first h t past command)
+    ((command : Command) → Contains t.reported.commands command
+    → IsRequested first h t past command)
     × AreRequested first (server_after t h)
     (past_after t.now (turn_events t.now t.given t.script h) h.device past) ts

@@ -268,7 +268,8 @@ module _ {L H W : Type 0} (step : L → Call → L → Type 0) (acts : H → Hos
 
   -- the server's clock is started, the ports, the record's room and the sums of the files are
   -- logged, and turns are served
-  abbrev pub ServesBound : ServeOptions → ServedFiles → BoundServer L → List ℕ → H → H → WriterState W → WriterState W
+  abbrev pub ServesBound : ServeOptions → ServedFiles → BoundServer L → List ℕ → H → H
+      → WriterState W → WriterState W
       → Result ℕ WriteFault → Type 0
   ServesBound options served bound trace host after old new answer =
       (clocks : Clocks) × (began : H) × (mid : WriterState W)
@@ -301,7 +302,8 @@ module _ {L H W : Type 0} (step : L → Call → L → Type 0) (acts : H → Hos
 
   -- A verdict is printed. What follows it is done only if the permit is granted; otherwise nothing
   -- more is done.
-  pub record ServesPermitted (Writes : WriterState W → WriterState W → Result Permit WriteFault → Type 0)
+  pub record ServesPermitted
+      (Writes : WriterState W → WriterState W → Result Permit WriteFault → Type 0)
       (Goes : ℕ → WriterState W → Type 0) (before after : H) (old new : WriterState W)
       (answer : Result ℕ WriteFault) : Type 0 where
     pub permit : Result Permit WriteFault

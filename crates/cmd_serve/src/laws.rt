@@ -33,9 +33,11 @@ use bay_server_turn::link::Link;
 pub fn all_turns_are_one_run<L: Link, H: Host<L>, W: Sink>(_link: &L, _host: &H, _sink: &W)
     ensures run { (turns : ℕ) (before : ServiceState L H) (old new : WriterState W) (host : H)
         (answer : Result ℕ WriteFault)
-        (serves : ServesTurns (CountedCall L.does L.failures) H.does W.contents W.does turns before old
+        (serves : ServesTurns (CountedCall L.does L.failures) H.does W.contents W.does turns before
+        old
         host new answer) → IsHistory [] before.held.device
-        → IsService before.held (turns_in (CountedCall L.does L.failures) H.does W.contents W.does turns
+        → IsService before.held
+        (turns_in (CountedCall L.does L.failures) H.does W.contents W.does turns
         before old host new answer serves) }
     // A new server of a device that was just loaded meets `IsBegun`.
     ensures begins { (bay : List ℕ) (form : Form) (program : List ℕ) (device : State)
@@ -63,9 +65,11 @@ pub fn all_turns_are_one_run<L: Link, H: Host<L>, W: Sink>(_link: &L, _host: &H,
 pub fn each_command_is_requested<L: Link, H: Host<L>, W: Sink>(_link: &L, _host: &H, _sink: &W)
     ensures { (turns : ℕ) (before : ServiceState L H) (old new : WriterState W) (host : H)
         (answer : Result ℕ WriteFault)
-        (serves : ServesTurns (CountedCall L.does L.failures) H.does W.contents W.does turns before old
+        (serves : ServesTurns (CountedCall L.does L.failures) H.does W.contents W.does turns before
+        old
         host new answer) → IsBegun before.held
-        → AreRequested before.held.device before.held [] (turns_in (CountedCall L.does L.failures) H.does
+        → AreRequested before.held.device before.held []
+        (turns_in (CountedCall L.does L.failures) H.does
         W.contents W.does turns before old host new answer serves) }
 {}
 
@@ -76,9 +80,11 @@ pub fn each_command_is_requested<L: Link, H: Host<L>, W: Sink>(_link: &L, _host:
 pub fn printed_commands_are_requested<L: Link, H: Host<L>, W: Sink>(_link: &L, _host: &H, _sink: &W)
     ensures lines { (turns : ℕ) (before : ServiceState L H) (old new : WriterState W) (host : H)
         (answer : Result ℕ WriteFault)
-        (serves : ServesTurns (CountedCall L.does L.failures) H.does W.contents W.does turns before old
+        (serves : ServesTurns (CountedCall L.does L.failures) H.does W.contents W.does turns before
+        old
         host new answer) → IsBegun before.held → HaveIds before.held.device.switches
-        → ArePrinted before.held.device before.held [] (turns_in (CountedCall L.does L.failures) H.does
+        → ArePrinted before.held.device before.held []
+        (turns_in (CountedCall L.does L.failures) H.does
         W.contents W.does turns before old host new answer serves) }
     // The switches of a device that was loaded have ids.
     ensures names { (bay : List ℕ) (form : Form) (program : List ℕ) (device : State)
@@ -101,11 +107,14 @@ pub fn no_octets_command_alone()
 /// moment than that of the turn that took it. Since the turn before, the system's clock has gone on
 /// by no more than these milliseconds beyond the steady one.
 pub fn commands_need_a_live_process<L: Link, H: Host<L>, W: Sink>(_link: &L, _host: &H, _sink: &W)
-    ensures { (settings : SupervisionSettings) (turns : ℕ) (before : ServiceState L H) (old : WriterState W)
+    ensures { (settings : SupervisionSettings) (turns : ℕ) (before : ServiceState L H)
+        (old : WriterState W)
         (host : H)
         (new : WriterState W) (answer : Result ℕ WriteFault)
-        (serves : ServesTurns (CountedCall L.does L.failures) H.does W.contents W.does turns before old
+        (serves : ServesTurns (CountedCall L.does L.failures) H.does W.contents W.does turns before
+        old
         host new answer) → IsBegun before.held → IsSupervised settings before
-        → CommandsLive (CountedCall L.does L.failures) H.does W.contents W.does settings turns before old
+        → CommandsLive (CountedCall L.does L.failures) H.does W.contents W.does settings turns
+        before old
         host new answer serves }
 {}

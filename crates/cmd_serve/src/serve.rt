@@ -343,7 +343,8 @@ fn bind_process<'a, F: FileSystem, L: Link + Drop, H: Host<L>>(
 ) -> Result<BoundServer<L>, ServeStartFault<'a>>
     requires closed { device.connections ≡ replicate associations None }
     requires records { is_some options.record_most ≡ is_some record_file }
-    ensures binds { BindsProcess H.does (is_some options.record_most) options.sends_releases settings
+    ensures binds { BindsProcess H.does (is_some options.record_most) options.sends_releases
+        settings
         device link options.process host.old host.new result }
     ensures server { IfOk result (λ bound. bound.server ≡ new_server device) }
     ensures files { is_some options.record_most ≡ false → files.new ≡ files.old }
@@ -448,7 +449,8 @@ fn serve_ports<F: FileSystem, L: Link + Drop, H: Host<L>, W: Sink>(
     requires begun { IsBegun (new_server (state_of loaded)) }
     requires named { HaveIds loaded.load.bay.switches }
     requires short { length (key_of (option_map (λ digits. digits.items) loaded.key)) ≤ 64 }
-    ensures serves { ServesPorts (CountedCall L.does L.failures) H.does W.contents W.does options loaded
+    ensures serves { ServesPorts (CountedCall L.does L.failures) H.does W.contents W.does options
+        loaded
         held host.old host.new writer.old writer.new result }
     ensures files { is_some options.record_most ≡ false → files.new ≡ files.old }
 {
@@ -490,7 +492,8 @@ fn serve_loaded<F: FileSystem, L: Link + Drop, H: Host<L>, W: Sink>(
     requires begun { IsBegun (new_server (state_of loaded)) }
     requires named { HaveIds loaded.load.bay.switches }
     requires short { length (key_of (option_map (λ digits. digits.items) loaded.key)) ≤ 64 }
-    ensures serves { ServesLoaded (CountedCall L.does L.failures) H.does W.contents W.does options loaded
+    ensures serves { ServesLoaded (CountedCall L.does L.failures) H.does W.contents W.does options
+        loaded
         host.old host.new writer.old writer.new result }
     ensures files { is_some options.record_most ≡ false → files.new ≡ files.old }
 {

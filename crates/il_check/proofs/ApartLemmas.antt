@@ -103,7 +103,8 @@ last-known None false m e = absurd (cc)
 last-known (Some n) same m e = refl
 
 -- what is known of a key in one declaration more
-known-more : (points : List Point) (before : List text.DeclaredName) (d : text.DeclaredName) (k : List ℕ)
+known-more : (points : List Point) (before : List text.DeclaredName) (d : text.DeclaredName)
+    (k : List ℕ)
     → is_some (looked_up (meanings_of points before) k) ≡ true
     → is_some (looked_up (meanings_of points (before ++ d ∷ [])) k) ≡ true
 known-more points before d k known =
@@ -191,7 +192,8 @@ variable-other x d scope.Local (type.Timer kind) vs e f = f
 variable-other x d scope.External (type.Elementary kind) vs e f = f
 variable-other x d scope.External (type.Timer kind) vs e f = f
 
-externals-other : (a : List ℕ) (points : List Point) (ds : List text.DeclaredName) → Fresh (upper a) ds
+externals-other : (a : List ℕ) (points : List Point) (ds : List text.DeclaredName)
+    → Fresh (upper a) ds
     → list_any (same_name (upper a)) (map (λ e. e.name) (externals_of points ds)) ≡ false
 externals-other a points [] f = refl
 externals-other a points (d ∷ ds) f =
@@ -254,7 +256,8 @@ distinct-names points before (d ∷ ds) none =
 -- where no declaration has a fault, no two names are the same
 pub all-apart : (points : List Point) (ds : List text.DeclaredName)
     → declarations_faults points [] ds ≡ []
-    → AreDistinct (map (λ e. e.name) (externals_of points ds) ++ map (λ v. v.name) (variables_of ds))
+    → AreDistinct (map (λ e. e.name) (externals_of points ds)
+    ++ map (λ v. v.name) (variables_of ds))
 all-apart points ds none =
     distinct-apart (map (λ e. e.name) (externals_of points ds)
     ++ map (λ v. v.name) (variables_of ds)) (distinct-names points [] ds none)

@@ -112,7 +112,8 @@ module _ (points : List Point) (d : text.DeclaredName)
       (ts : List Timer) → is_external stands && is_none (point_of points d.name) ≡ false
       → is_typed stands kind (point_of points d.name) d.initial ≡ true → later es vs ts
       → IsDeclaredAs points d stands kind (cons_option (declared_external points d stands kind) es)
-      (cons_option (declared_variable d stands kind) vs) (cons_option (declared_timer d kind) ts) later
+      (cons_option (declared_variable d stands kind) vs) (cons_option (declared_timer d kind) ts)
+      later
   one-declared scope.Local (type.Elementary kind) es vs ts there right more =
       initial-kept kind (initial_value kind d.initial) es vs ts refl right more
   one-declared scope.External (type.Elementary kind) es vs ts there right more =

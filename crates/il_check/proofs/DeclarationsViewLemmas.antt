@@ -37,7 +37,8 @@ filter_map-more {X} {Y} f (y ∷ ys) x =
     ∙ option-ahead (f y) (filter_map f ys) (option_to_list (f x))
 
 -- the meaning of one name more
-pub meanings-more : (points : List Point) (before ds : List text.DeclaredName) (d : text.DeclaredName)
+pub meanings-more : (points : List Point) (before ds : List text.DeclaredName)
+    (d : text.DeclaredName)
     → meanings_from points before (ds ++ d ∷ [])
     ≡ meanings_from points before ds
     ++ (
@@ -97,9 +98,12 @@ stands-more points before x old new known taken = record {
       grown (λ (d : text.DeclaredName). declared_external points d d.scope d.kind) before x _ _
       known.externals taken.externals;
   variables =
-      grown (λ (d : text.DeclaredName). declared_variable d d.scope d.kind) before x _ _ known.variables
+      grown (λ (d : text.DeclaredName). declared_variable d d.scope d.kind) before x _ _
+      known.variables
       taken.variables;
-  timers = grown (λ (d : text.DeclaredName). declared_timer d d.kind) before x _ _ known.timers taken.timers;
+  timers =
+      grown (λ (d : text.DeclaredName). declared_timer d d.kind) before x _ _ known.timers
+      taken.timers;
   meanings = λ name.
       let meant : Counts → Meaning = λ c. meaning_at c x.scope x.kind (point_of points x.name) in
       taken.meanings name
@@ -153,7 +157,8 @@ pub record SoFar (points : List Point) (all : List Declaration) (i : ℕ) (d : D
 pub so_far-more : (points : List Point) (all : List Declaration) (i : ℕ) (other : Declaration)
     (old new : Declarations)
     → i < length all → SoFar points all i old
-    → IsAfterDeclaration points (declared_name (get_or all i other)) old new → SoFar points all (i + 1) new
+    → IsAfterDeclaration points (declared_name (get_or all i other)) old new
+    → SoFar points all (i + 1) new
 so_far-more points all i other old new within so_far taken =
     let x : Declaration = get_or all i other in
     let before : List text.DeclaredName = map declared_name (take i all) in
@@ -161,8 +166,10 @@ so_far-more points all i other old new within so_far taken =
     let longer : before ++ declared_name x ∷ [] ≡ map declared_name (take (i + 1) all) =
     sym (map_more declared_name all i other within) in
     let front : drop i all ≡ x ∷ drop (i + 1) all = rw (add-one, drop-cons all i other) refl in
-    let left : map declared_name (drop i all) ≡ declared_name x ∷ after = ap (map declared_name) front in
-    let total : first_fault_of old.found (declarations_faults points before (declared_name x ∷ after))
+    let left : map declared_name (drop i all) ≡ declared_name x ∷ after =
+    ap (map declared_name) front in
+    let total : first_fault_of old.found
+    (declarations_faults points before (declared_name x ∷ after))
     ≡ least_fault (declarations_faults points [] (map declared_name all)) =
     ap (λ (ds : List text.DeclaredName). first_fault_of old.found
     (declarations_faults points before ds))

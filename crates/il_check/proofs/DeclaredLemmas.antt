@@ -234,7 +234,8 @@ added : (points : List Point) (d : text.DeclaredName) (s : VariableScope) (k : D
     → is_full (record { externals = length es; variables = length vs; timers = length ts }) k
     ≡ false
     → length es + length vs ≤ most_slots → length ts ≤ most_timers
-    → IsAdded es (option_to_list (declared_external points d s k)) vs (option_to_list (declared_variable d s k))
+    → IsAdded es (option_to_list (declared_external points d s k)) vs
+    (option_to_list (declared_variable d s k))
     ts (option_to_list (declared_timer d k))
     (meaning_at (record { externals = length es; variables = length vs; timers = length ts }) s k
     (point_of points d.name))
@@ -303,11 +304,13 @@ declares-more points before d known none =
     (not-false _ (if-none _ _ wrong.0)) (if-none _ _ wrong.1) known.slots known.timers in
     let is =
     declared-added es (option_to_list (declared_external points d d.scope d.kind)) vs
-    (option_to_list (declared_variable d d.scope d.kind)) ts (option_to_list (declared_timer d d.kind))
+    (option_to_list (declared_variable d d.scope d.kind)) ts
+    (option_to_list (declared_timer d d.kind))
     (meanings_of points before) (upper d.name) m known more in
     subst (λ (xs : List External). AreDeclared xs (variables_of (before ++ d ∷ []))
     (timers_of (before ++ d ∷ [])) (meanings_of points (before ++ d ∷ [])))
-    (sym (filter_map-more (λ (x : text.DeclaredName). declared_external points x x.scope x.kind) before d))
+    (sym (filter_map-more (λ (x : text.DeclaredName). declared_external points x x.scope x.kind)
+    before d))
     (subst (λ (xs : List Variable). AreDeclared
     (es ++ option_to_list (declared_external points d d.scope d.kind)) xs
     (timers_of (before ++ d ∷ [])) (meanings_of points (before ++ d ∷ [])))

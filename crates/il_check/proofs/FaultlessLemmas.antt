@@ -206,7 +206,8 @@ pub right-typed : (r : Resolved) (t u : Option ElementaryType) → uses_result r
 right-typed r None u e ok = ok
 right-typed r (Some k) u e ok =
     let all : any_type (is_valid_on r) ≡ is_valid_on r elementary.Bool =
-    any_of (is_valid_on r elementary.Bool) (is_valid_on r elementary.Int) (is_valid_on r elementary.Dint)
+    any_of (is_valid_on r elementary.Bool) (is_valid_on r elementary.Int)
+    (is_valid_on r elementary.Dint)
     (is_valid_on r elementary.Lint) (is_valid_on r elementary.Time)
     (same-for-all r elementary.Int e) (same-for-all r elementary.Dint e)
     (same-for-all r elementary.Lint e) (same-for-all r elementary.Time e) in

@@ -156,7 +156,8 @@ known-nonzero (Some v) z has some kind x e =
     (divisor-of v z (has v refl) some)
 
 number-nonzero-case : (z : ℤ) (kind : ElementaryType) (w : Option Value) (x : TypedOperand)
-    → not (is_zero z) ≡ true → typed_number kind z ≡ w → option_map (λ v. operand.Literal v) w ≡ Some x
+    → not (is_zero z) ≡ true → typed_number kind z ≡ w
+    → option_map (λ v. operand.Literal v) w ≡ Some x
     → is_divisor x ≡ true
 number-nonzero-case z kind None x some is e = absurd (cc)
 number-nonzero-case z kind (Some v) x some is e =
@@ -266,7 +267,8 @@ allows-any r (Some k) e ok = sym (same-for-all r k e) ∙ not-false _ ok
 
 own-fits-case : (z : ℤ) (b d : Bool) → is_some (typed_number elementary.Int z) ≡ b
     → is_some (typed_number elementary.Dint z) ≡ d → is_some (value_of elementary.Lint z) ≡ true
-    → is_some (typed_number (cond b elementary.Int (cond d elementary.Dint elementary.Lint)) z) ≡ true
+    → is_some (typed_number (cond b elementary.Int (cond d elementary.Dint elementary.Lint)) z)
+    ≡ true
 own-fits-case z true d e f g = e
 own-fits-case z false true e f g = f
 own-fits-case z false false e f g = g
@@ -274,7 +276,8 @@ own-fits-case z false false e f g = g
 own-fits : (z : ℤ) → is_some (value_of elementary.Lint z) ≡ true
     → is_some (typed_number (own_type z) z) ≡ true
 own-fits z g =
-    own-fits-case z (is_some (typed_number elementary.Int z)) (is_some (typed_number elementary.Dint z))
+    own-fits-case z (is_some (typed_number elementary.Int z))
+    (is_some (typed_number elementary.Dint z))
     refl refl g
 
 pub mapped-some : {A B : Type 0} (f : A → B) (o : Option A) → is_some o ≡ true
@@ -375,11 +378,13 @@ operand_fits-same source kind true e f = refl
 operand_fits-same source kind false e f = absurd (cc)
 
 store-kind : (c : Checked) (how : StoreKind) (g : SourceOperand) (kind : ElementaryType)
-    (o : SimpleOperation) → IsGiven c g → operand_fits kind g && may_negate (not (is_plain how)) kind ≡ true
+    (o : SimpleOperation) → IsGiven c g
+    → operand_fits kind g && may_negate (not (is_plain how)) kind ≡ true
     → rules.is_read_only g ≡ false
     → store_operation how (target_slot g) ≡ Some o → IsOperation c o (Some kind) (Some kind)
 store-kind c how (Known source) kind o given ok writes e =
-    let both = and_parts (operand_fits kind (Known source)) (may_negate (not (is_plain how)) kind) ok in
+    let both =
+    and_parts (operand_fits kind (Known source)) (may_negate (not (is_plain how)) kind) ok in
     store-slot c how kind source.operand source.kind o given.0
     (same-is source.kind kind (fits-same source kind (same_type source.kind kind) refl both.0))
     (given.1 (not-false source.writable writes)) both.1 e
@@ -395,8 +400,10 @@ operation-typed c passed (Store how g) None o is ok e = absurd (let k = ok.set i
 operation-typed c passed (Store how g) (Some kind) o is ok e =
     store-kind c how g kind o is (not-false _ ok.allowed) ok.writable e
 operation-typed c passed (Combine operator negated g nonzero) (Some kind) o is ok e =
-    let both = and_parts (works operator negated kind) (operand_fits kind g) (not-false _ ok.allowed) in
-    combine-kind c operator negated g nonzero kind (typed_operand kind g) o is.0 is.1 both.0 ok.nonzero
+    let both =
+    and_parts (works operator negated kind) (operand_fits kind g) (not-false _ ok.allowed) in
+    combine-kind c operator negated g nonzero kind (typed_operand kind g) o is.0 is.1 both.0
+    ok.nonzero
     refl e
 operation-typed c passed Not None o is ok e = absurd (let k = ok.set in cc)
 operation-typed c passed Not (Some kind) o is ok e =

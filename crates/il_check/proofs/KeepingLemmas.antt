@@ -222,7 +222,8 @@ module _ (c : Checked) (names : ProgramNames) (items : List text.Entry)
   operation-kept (text.store how place) t o e =
       store-kept how place (target_slot (resolve_variable_or_output names place)) o refl e
   operation-kept (text.combine operator negated source) (Some kind) o e =
-      combine-kept operator negated source kind (typed_operand kind (resolve_operand names source)) o
+      combine-kept operator negated source kind (typed_operand kind (resolve_operand names source))
+      o
       refl
       e
   operation-kept text.invert t o e = subst (IsOperationOf c text.invert) (same_Some op.Not o e) tt
@@ -387,7 +388,8 @@ module _ (c : Checked) (names : ProgramNames) (items : List text.Entry)
       → is_plain a ≡ true → IsRight passed (resolution_of names a) t
       → KeptItem (text.action line a) (or_entry None (action_entry (resolution_of names a) t))
   plain-case line passed a t may ok =
-      let o = the-some (typed_operation (resolution_of names a) t) (operation-some a passed t may ok)
+      let o = the-some (typed_operation (resolution_of names a) t)
+      (operation-some a passed t may ok)
       in
       record {
         what = plain (operation o.0);

@@ -67,7 +67,8 @@ stands-behind-label labels count line names name named s now falls st =
     }
 
 stands-behind-action : (labels : Labelling) (count : ℕ) (r : Resolved) (t : Option ElementaryType)
-    (named : List ℕ) (s : Progress) (now : Incoming) → now ≡ Some t → JumpAgrees labels (target_of r) t
+    (named : List ℕ) (s : Progress) (now : Incoming) → now ≡ Some t
+    → JumpAgrees labels (target_of r) t
     → ((n : ℕ) → target_of r ≡ Some n → n < count)
     → Stands labels count named s now
     → Stands labels count (with_target (target_of r) named) (progress_after_action r s)
@@ -106,7 +107,8 @@ stands-behind-block labels count names line operator negated items end t named s
 
 flows-to : (names : ProgramNames) (labels : Labelling) (count : ℕ) → InRange names count
     → (es : List text.Entry) (s : Progress) (named : List ℕ) (now : Incoming)
-    → AreReachedItems names labels es (flow_state s.passed named now) → Stands labels count named s now
+    → AreReachedItems names labels es (flow_state s.passed named now)
+    → Stands labels count named s now
     → items_faults names es s ≡ []
 flows-to names labels count range [] s named now f st = refl
 flows-to names labels count range (text.label line name ∷ es) s named now f st =
@@ -260,7 +262,8 @@ exact-some : (count : ℕ) (named : List ℕ) (s : Progress) (now : Incoming) �
     → is_some now ≡ s.now.is_reached
 exact-some count named s now x = ap is_some x.is ∙ some-if s.now.is_reached s.now.kind
 
-pub exact-now : (count : ℕ) (named : List ℕ) (s : Progress) (now : Incoming) → Exact count named s now
+pub exact-now : (count : ℕ) (named : List ℕ) (s : Progress) (now : Incoming)
+    → Exact count named s now
     → s.now.is_reached ≡ true → now ≡ Some s.now.kind
 exact-now count named s now x reached =
     x.is ∙ ap (λ (b : Bool). cond b (Some s.now.kind) None) reached
@@ -469,7 +472,8 @@ begins points program labels = record {
 
 pub least_types : (points : List Point) (program : text.PlainProgram) (front more : List text.Entry)
     (labels : Labelling) (t : Option ElementaryType)
-    → program.items ≡ front ++ more → AreReachedItems (names_in points program) labels front initial_flow
+    → program.items ≡ front ++ more
+    → AreReachedItems (names_in points program) labels front initial_flow
     → type_after_items (names_in points program) labels front initial_flow ≡ Some t
     → Becomes (progress_after_entries (names_in points program) front
     (initial_progress program)).now.kind t

@@ -68,7 +68,8 @@ joined a b =
 
 -- Each meaning is declared by its key, and each that is declared is meant by its name.
 record Owns (l : Lists) (ms : List (List ℕ × Meaning)) : Type 0 where
-  own : (key : List ℕ) (m : Meaning) → looked_up ms key ≡ Some m → IsOwnDeclaration (program_of l) key m
+  own : (key : List ℕ) (m : Meaning) → looked_up ms key ≡ Some m
+      → IsOwnDeclaration (program_of l) key m
   externals : (n : ℕ) (e : External) → slice_get l.externals n ≡ Some e
       → looked_up ms e.name ≡ Some (meaning.Variable (slot.External n) e.kind e.writable)
   variables : (n : ℕ) (v : Variable) → slice_get l.variables n ≡ Some v
@@ -244,7 +245,8 @@ module _ (a b : Lists) (ms : List (List ℕ × Meaning)) (name : List ℕ) (m : 
           | inl old ↦ own-more a b key x (known.own key x old)
           | inr new ↦ subst (λ (k : List ℕ). IsOwnDeclaration (program_of (joined a b)) k x)
               ((bytes_eq-Decides name key).0 new.0)
-              (subst (λ (y : Meaning). IsOwnDeclaration (program_of (joined a b)) name y) new.1 more.own)
+              (subst (λ (y : Meaning). IsOwnDeclaration (program_of (joined a b)) name y) new.1
+              more.own)
         ];
     externals =
         λ n e h. elim (more.externals n e h) [
@@ -284,7 +286,8 @@ lists-more : (points : List Point) (before : List text.DeclaredName) (d : text.D
     ≡ lists_of points (before ++ d ∷ [])
 lists-more points before d =
     lists-same _ _ _ _ _ _
-    (sym (filter_map-more (λ (x : text.DeclaredName). declared_external points x x.scope x.kind) before d))
+    (sym (filter_map-more (λ (x : text.DeclaredName). declared_external points x x.scope x.kind)
+    before d))
     (sym (filter_map-more (λ (x : text.DeclaredName). declared_variable x x.scope x.kind) before d))
     (sym (filter_map-more (λ (x : text.DeclaredName). declared_timer x x.kind) before d))
 
@@ -392,7 +395,8 @@ upper-variable name None v h = absurd cc
 upper-variable name (Some w) v h =
     subst (λ (x : Variable). upper x.name ≡ x.name) (same_Some _ v h) (upper-upper name)
 
-external-upper : (points : List Point) (d : text.DeclaredName) (s : VariableScope) (k : DeclaredType)
+external-upper : (points : List Point) (d : text.DeclaredName) (s : VariableScope)
+    (k : DeclaredType)
     (e : External) → declared_external points d s k ≡ Some e → upper e.name ≡ e.name
 external-upper points d scope.External (type.Elementary kind) e h =
     upper-external d.name kind (point_of points d.name) e h
@@ -435,7 +439,8 @@ are-upper points ds = record {
       kept_all (λ (x : text.DeclaredName). declared_variable x x.scope x.kind)
       (λ (v : Variable). upper v.name ≡ v.name) ds (λ d v h. variable-upper d d.scope d.kind v h);
   timers =
-      kept_all (λ (x : text.DeclaredName). declared_timer x x.kind) (λ (t : Timer). upper t.name ≡ t.name) ds
+      kept_all (λ (x : text.DeclaredName). declared_timer x x.kind)
+      (λ (t : Timer). upper t.name ≡ t.name) ds
       (λ d t h. timer-upper d d.kind t h);
 }
 
@@ -474,7 +479,8 @@ judged-ok None x c e = (refl, (let p : x ≡ c = cc in p))
 judged-ok (Some f) x c e = absurd cc
 
 pub mean-own-places : (points : List Point) (program : text.PlainProgram) (c : Checked)
-    → checked_of points program ≡ Ok c → MeanOwnDeclarations (names_in points program) c program.items
+    → checked_of points program ≡ Ok c
+    → MeanOwnDeclarations (names_in points program) c program.items
 mean-own-places points program c e =
     let p = judged-ok (least_fault (faults_of points program)) (checked_program points program) c e
     in

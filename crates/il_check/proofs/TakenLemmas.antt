@@ -72,7 +72,8 @@ pub record Noted (d : text.DeclaredName) (name : List ℕ) (point : Option Point
 pub taken : (points : List Point) (d : text.DeclaredName) (old middle new : Declarations)
     (name copy : List ℕ) (point : Option Point) (is_known is_beyond : Bool) (meaning : Meaning)
     → name ≡ upper d.name → copy ≡ name → point ≡ point_of points d.name
-    → Noted d name point is_known is_beyond meaning old middle → AppendsParts copy d point middle new
+    → Noted d name point is_known is_beyond meaning old middle
+    → AppendsParts copy d point middle new
     → IsAfterDeclaration points d old new
 taken points d old middle new name copy point is_known is_beyond meaning named copied pointed so
     added = record {

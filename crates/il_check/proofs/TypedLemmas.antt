@@ -119,11 +119,13 @@ module _ (c : Checked) (names : ProgramNames) (meant : AreNamed c names) where
       (room - 1) passed items None x ok.0.1 is in
       let b = block-typed c operator negated (type_after_entries names items None) t
       (typed_entries_of names (room - 1) items None) ok.0.2 inner in
-      let left : IsBlock c (typed_entry_of names room (text.block line operator negated items end) t) t
+      let left : IsBlock c (typed_entry_of names room (text.block line operator negated items end)
+      t) t
       u =
       subst (λ (x : Entries). IsBlock c (typed_block operator negated x t) t u)
       (with-room room no_entries (typed_entries_of names (room - 1) items None) ok.0.0) b in
-      subst (λ (o : Option Entry). AreEntries c (entry_before o (typed_entries_of names room es u)) t
+      subst (λ (o : Option Entry). AreEntries c (entry_before o (typed_entries_of names room es u))
+      t
       (Some k)) (sym left.is) (u, left.right, entries-typed room passed es u k ok.1 e)
 
   block-left : (room passed line : ℕ) (operator : Operator) (negated : Bool) (items : text.Entries)
@@ -181,7 +183,8 @@ mutual
 
   entries-within : (names : ProgramNames) (room passed : ℕ) (es : text.Entries)
       (t : Option ElementaryType)
-      → AreRightEntries names room passed es t → entries_depth (typed_entries_of names room es t) ≤ room
+      → AreRightEntries names room passed es t
+      → entries_depth (typed_entries_of names room es t) ≤ room
   entries-within names room passed text.no_entries t ok = omega arith
   entries-within names room passed (text.entry e es) t ok =
       before-depth (typed_entry_of names room e t)

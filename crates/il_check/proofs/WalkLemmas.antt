@@ -89,13 +89,15 @@ module _ (names : ProgramNames) (room : ℕ) (is_reached : Bool) (passed : ℕ) 
         (text.entries_of (map entry_of all)) None)
 
   -- what an entry changes
-  pub record EntryTaken (e : text.Entry) (old new : Option CheckFault) (p q : CheckedEntries) : Type 0 where
+  pub record EntryTaken (e : text.Entry) (old new : Option CheckFault) (p q : CheckedEntries)
+      : Type 0 where
     pub kind : q.kind ≡ type_after_entry names e p.kind
     pub left : map entry_view q.entries.items
         ≡ map entry_view p.entries.items ++ option_to_list (typed_entry_of names room e p.kind)
     pub found : new ≡ first_fault_of old (entry_faults names room is_reached passed e p.kind)
 
-  pub entries-none : (p : CheckedEntries) → p.entries.items ≡ [] → p.kind ≡ None → EntriesSoFar 0 begun p
+  pub entries-none : (p : CheckedEntries) → p.entries.items ≡ [] → p.kind ≡ None
+      → EntriesSoFar 0 begun p
   entries-none p nothing unset = record {
     kind = ap (type_after_entries names (text.entries_of (map entry_of all))) unset;
     left =
@@ -123,7 +125,8 @@ module _ (names : ProgramNames) (room : ℕ) (is_reached : Bool) (passed : ℕ) 
             ap (λ (k : Option ElementaryType). ahead (map entry_view q.entries.items)
             (typed_entries_of names room after k)) taken.kind
             ∙ ap (λ (es : List plain.Entry). ahead es
-            (typed_entries_of names room after (type_after_entry names (entry_of x) p.kind))) taken.left
+            (typed_entries_of names room after (type_after_entry names (entry_of x) p.kind)))
+            taken.left
             ∙ ahead-option (map entry_view p.entries.items)
             (typed_entry_of names room (entry_of x) p.kind)
             (typed_entries_of names room after (type_after_entry names (entry_of x) p.kind))

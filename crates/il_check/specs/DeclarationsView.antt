@@ -48,7 +48,8 @@ external_added name declared_as kind point = None
 
 -- the variable that a declaration adds, if any: a local name with an elementary type and a value
 -- that fits
-abbrev pub variable_added : List ℕ → text.DeclaredName → VariableScope → DeclaredType → Option Variable
+abbrev pub variable_added : List ℕ → text.DeclaredName → VariableScope → DeclaredType
+    → Option Variable
 variable_added name d scope.Local (type.Elementary kind) =
     variable_named name (initial_value kind d.initial)
 variable_added name d declared_as kind = None
@@ -80,7 +81,8 @@ pub record SameButTimers (old new : Declarations) : Type 0 where
   pub found : new.found ≡ old.found
 
 -- The externals, variables and timers that a declaration adds are appended.
-pub record AppendsParts (name : List ℕ) (d : text.DeclaredName) (point : Option Point) (old new : Declarations)
+pub record AppendsParts (name : List ℕ) (d : text.DeclaredName) (point : Option Point)
+    (old new : Declarations)
     : Type 0 where
   pub externals : new.externals.items
       ≡ old.externals.items ++ option_to_list (external_added name d.scope d.kind point)
@@ -91,7 +93,8 @@ pub record AppendsParts (name : List ℕ) (d : text.DeclaredName) (point : Optio
   pub found : new.found ≡ old.found
 
 -- The new declarations are the old ones and one more.
-pub record IsAfterDeclaration (points : List Point) (d : text.DeclaredName) (old new : Declarations) : Type 0 where
+pub record IsAfterDeclaration (points : List Point) (d : text.DeclaredName) (old new : Declarations)
+    : Type 0 where
   pub externals : new.externals.items
       ≡ old.externals.items ++ option_to_list (declared_external points d d.scope d.kind)
   pub variables : new.variables.items
@@ -105,7 +108,8 @@ pub record IsAfterDeclaration (points : List Point) (d : text.DeclaredName) (old
       (is_some (get_by_text old.meanings (upper d.name))) (is_full (counts_in old) d.kind) d)
 
 -- These are the declarations `declared`, in order.
-pub record AreDeclarations (points : List Point) (declared : List text.DeclaredName) (d : Declarations)
+pub record AreDeclarations (points : List Point) (declared : List text.DeclaredName)
+    (d : Declarations)
     : Type 0 where
   pub externals : d.externals.items ≡ externals_of points declared
   pub variables : d.variables.items ≡ variables_of declared

@@ -107,7 +107,8 @@ point_external name kind (Some p) =
 -- the external that a declaration adds, if any
 abbrev pub declared_external : List Point → text.DeclaredName → VariableScope → DeclaredType
     → Option given.External
-declared_external points d External (Elementary kind) = point_external d.name kind (point_of points d.name)
+declared_external points d External (Elementary kind) =
+    point_external d.name kind (point_of points d.name)
 declared_external points d scope kind = None
 
 -- the variable of a name with its initial value, if it has one
@@ -208,7 +209,8 @@ name_faults point is_known is_beyond d =
     ++ fault_if is_beyond (TooMany d.line)))
 
 -- the faults of a declaration after others
-abbrev pub declaration_faults : List Point → List text.DeclaredName → text.DeclaredName → List CheckFault
+abbrev pub declaration_faults : List Point → List text.DeclaredName → text.DeclaredName
+    → List CheckFault
 declaration_faults points before d =
     name_faults (point_of points d.name)
     (is_some (looked_up (meanings_of points before) (upper d.name)))

@@ -81,14 +81,16 @@ pub record IsExternalOf (points : List Point) (d : text.DeclaredName) (kind : El
   pub writable : e.writable ≡ point.writable
 
 -- The variable has the declared name, type and initial value.
-pub record IsVariableOf (d : text.DeclaredName) (kind : ElementaryType) (v : Variable) : Type 0 where
+pub record IsVariableOf (d : text.DeclaredName) (kind : ElementaryType) (v : Variable)
+    : Type 0 where
   pub name : v.name ≡ upper d.name
   pub kind_is : type_of v.initial ≡ kind
   pub initial : BeginsWith d.initial v.initial
 
 -- The first external, variable or timer, by the scope and type of the declaration, is the declared
 -- one, and the later ones are those of later declarations.
-abbrev pub IsDeclaredAs : List Point → text.DeclaredName → VariableScope → DeclaredType → List External
+abbrev pub IsDeclaredAs : List Point → text.DeclaredName → VariableScope → DeclaredType
+    → List External
     → List Variable → List Timer → (List External → List Variable → List Timer → Type 0) → Type 0
 IsDeclaredAs points d scope.External (type.Elementary kind) (e ∷ es) vs ts later =
     IsExternalOf points d kind e × later es vs ts
@@ -183,6 +185,7 @@ AreItemsOf c labels (e ∷ es) (x ∷ xs) = IsItemOf c labels e x × AreItemsOf 
 AreItemsOf c labels es xs = ⊥
 
 -- The checked program has the declarations and items of the text's program.
-pub record Preserves (points : List Point) (program : text.PlainProgram) (c : Checked) : Type 0 where
+pub record Preserves (points : List Point) (program : text.PlainProgram) (c : Checked)
+    : Type 0 where
   pub declared : AreDeclared points program.declarations c.externals c.variables c.timers
   pub items : AreItemsOf c (label_names program.items) program.items c.items

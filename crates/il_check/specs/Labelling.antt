@@ -130,7 +130,8 @@ IsReachedLabel names labels name c =
 -- The instruction is reached with a result of this type, is valid on it, and brings it to the label
 -- that it jumps to.
 abbrev pub IsReachedAction : Labelling → Resolved → Option ElementaryType → FlowState → Type 0
-IsReachedAction labels r t c = (c.now ≡ Some t) × IsRight c.passed r t × JumpAgrees labels (target_of r) t
+IsReachedAction labels r t c =
+    (c.now ≡ Some t) × IsRight c.passed r t × JumpAgrees labels (target_of r) t
 
 -- The parenthesis is reached with a result of this type, and is valid on it.
 abbrev pub IsReachedBlock : ProgramNames → text.Entry → Option ElementaryType → FlowState → Type 0
@@ -146,7 +147,8 @@ AreReachedItems names labels (text.action line a ∷ es) c =
     (t : Option ElementaryType) × IsReachedAction labels (resolution_of names a) t c
     × AreReachedItems names labels es (flow_after_action (resolution_of names a) t c)
 AreReachedItems names labels (text.block line operator negated items end ∷ es) c =
-    (t : Option ElementaryType) × IsReachedBlock names (text.block line operator negated items end) t c
+    (t : Option ElementaryType)
+    × IsReachedBlock names (text.block line operator negated items end) t c
     × AreReachedItems names labels es (flow_after_block operator t c)
 
 -- With some labelling every instruction is reached and valid.

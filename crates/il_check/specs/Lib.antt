@@ -19,8 +19,8 @@
 --
 -- `Program` is a checked program as plain data, `Typing` the typed form of a valid instruction.
 -- `TypedProgram` defines which of them are well typed, without names; `Sound` what holds of each;
--- `Keeping` that a check preserves the content of the text; `OwnDeclarations` that a name means its own
--- declaration. `Limits`: how many labels and parentheses there may be. `Contents` and
+-- `Keeping` that a check preserves the content of the text; `OwnDeclarations` that a name means its
+-- own declaration. `Limits`: how many labels and parentheses there may be. `Contents` and
 -- `ProgramViews` map the code's values to plain data; `Code`: the numbers, lines and words of the
 -- faults.
 

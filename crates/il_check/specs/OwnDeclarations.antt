@@ -23,14 +23,16 @@ IsOwnDeclaration c name (meaning.Variable (slot.External n) kind writable) =
 IsOwnDeclaration c name (meaning.Variable (slot.Variable n) kind writable) =
     (v : Variable) × (slice_get c.variables n ≡ Some v) × (v.name ≡ name)
     × (type_of v.initial ≡ kind) × (writable ≡ true)
-IsOwnDeclaration c name (meaning.Timer n) = (t : Timer) × (slice_get c.timers n ≡ Some t) × (t.name ≡ name)
+IsOwnDeclaration c name (meaning.Timer n) =
+    (t : Timer) × (slice_get c.timers n ≡ Some t) × (t.name ≡ name)
 
 -- A name means something that is declared by that name; and the name of each external, variable and
 -- timer means this one, at its index. The name of a label means the number of the label of that
 -- name.
 pub record MeanOwnDeclarations (names : ProgramNames) (c : Checked) (items : List text.Entry)
     : Type 0 where
-  pub own : (name : List ℕ) (m : Meaning) → names.meaning name ≡ Some m → IsOwnDeclaration c (upper name) m
+  pub own : (name : List ℕ) (m : Meaning) → names.meaning name ≡ Some m
+      → IsOwnDeclaration c (upper name) m
   pub externals : (n : ℕ) (e : External) → slice_get c.externals n ≡ Some e
       → names.meaning e.name ≡ Some (meaning.Variable (slot.External n) e.kind e.writable)
   pub variables : (n : ℕ) (v : Variable) → slice_get c.variables n ≡ Some v

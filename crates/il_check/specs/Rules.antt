@@ -162,7 +162,8 @@ may_load negated (Some kind) = may_negate negated kind
 -- whether the instruction is valid if the current result has this type
 abbrev pub is_valid_on : Resolved → ElementaryType → Bool
 is_valid_on (Load negated given) kind = may_load negated (load_type given)
-is_valid_on (Store how target) kind = operand_fits kind target && may_negate (not (is_plain how)) kind
+is_valid_on (Store how target) kind =
+    operand_fits kind target && may_negate (not (is_plain how)) kind
 is_valid_on (Combine operator negated given is_nonzero) kind =
     works operator negated kind && operand_fits kind given
 is_valid_on Not kind = is_boolean kind
@@ -254,7 +255,8 @@ abbrev pub uses_undeclared_name : Resolved → Bool
 uses_undeclared_name (Load negated given) = is_undeclared given
 uses_undeclared_name (Store how target) = is_undeclared target
 uses_undeclared_name (Combine operator negated given is_nonzero) = is_undeclared given
-uses_undeclared_name (Call called arguments) = is_undeclared_timer called || has_undeclared_argument arguments
+uses_undeclared_name (Call called arguments) =
+    is_undeclared_timer called || has_undeclared_argument arguments
 uses_undeclared_name other = false
 
 -- whether the label is above; `passed` is the number of labels above

@@ -167,13 +167,15 @@ IsLabel labels n k = (n ≡ k.passed) × (k.passed < most_labels) × FallAgrees 
 
 -- The jump, return or call is reached with a result of this type, is valid on it, and brings it to
 -- the label that it jumps to.
-abbrev pub IsReachedTransfer : Checked → Labelling → List ProgramItem → Transfer → Option ElementaryType
+abbrev pub IsReachedTransfer : Checked → Labelling → List ProgramItem → Transfer
+    → Option ElementaryType
     → FlowState → Type 0
 IsReachedTransfer c labels below x t k =
     (k.now ≡ Some t) × IsTransfer c below x t × JumpAgrees labels (target_of x) t
 
 -- The operation or parenthesis is reached with a result of type t, and leaves one of type u.
-abbrev pub IsReachedEntry : Checked → Entry → Option ElementaryType → Option ElementaryType → FlowState
+abbrev pub IsReachedEntry : Checked → Entry → Option ElementaryType → Option ElementaryType
+    → FlowState
     → Type 0
 IsReachedEntry c e t u k = (k.now ≡ Some t) × IsEntry c e t u × (entry_depth e ≤ most_nested)
 

@@ -96,7 +96,8 @@ abbrev mutual
   -- the typed form of an entry; the grammar has no label, jump, return or call within a parenthesis
   pub typed_entry_of : ProgramNames → ℕ → text.Entry → Option ElementaryType → Option plain.Entry
   typed_entry_of names room (text.label line name) result = None
-  typed_entry_of names room (text.action line a) result = action_entry (resolution_of names a) result
+  typed_entry_of names room (text.action line a) result =
+      action_entry (resolution_of names a) result
   typed_entry_of names room (text.block line operator negated items end) result =
       typed_block operator negated
       (if room == 0 then plain.no_entries else typed_entries_of names (room - 1) items None) result

@@ -59,7 +59,11 @@ pub fn check(alloc: Global, program: &Program<'_>, points: &[Point]) -> Result<T
 }
 
 // Returns the typed program, or the fault to report; `check` states what holds of each.
-fn check_program(alloc: Global, program: &Program<'_>, points: &[Point]) -> Result<Typed, CheckFault>
+fn check_program(
+    alloc: Global,
+    program: &Program<'_>,
+    points: &[Point],
+) -> Result<Typed, CheckFault>
     ensures checked { ExactOr OutOfMemory checked_view result
         (checked_of points.now (plain_program program.now)) }
     ensures memory { IsErrOf result OutOfMemory → Allocates (plain_program program.now) }

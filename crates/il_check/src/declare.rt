@@ -293,7 +293,8 @@ impl Declarations {
         declaration: Declaration<'_>,
         point: Option<&Point>,
     ) -> Result<(), AllocError>
-        ensures { OnOk result (AppendsParts name (declared_name declaration.entry) (option_copied point.entry)
+        ensures { OnOk result (AppendsParts name (declared_name declaration.entry)
+            (option_copied point.entry)
             self.old self.new) }
     {
         match declaration.kind {
@@ -310,7 +311,8 @@ impl Declarations {
 
     // Processes one declaration.
     fn declare(&mut self, points: &[Point], declaration: &Declaration<'_>) -> Result<(), AllocError>
-        ensures { OnOk result (IsAfterDeclaration points.now (declared_name declaration.now) self.old self.new) }
+        ensures { OnOk result (IsAfterDeclaration points.now (declared_name declaration.now)
+            self.old self.new) }
     {
         let point = point_of(points, declaration.name);
         let is_full = self.is_full(declaration.kind);

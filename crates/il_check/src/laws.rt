@@ -32,7 +32,8 @@ pub fn some_labelling()
 pub fn least_types()
     ensures { (points : List Point) (program : text.PlainProgram) (front more : List text.Entry)
         (labels : Labelling) (t : Option ElementaryType) →
-        program.items ≡ front ++ more → AreReachedItems (names_in points program) labels front initial_flow
+        program.items ≡ front ++ more
+        → AreReachedItems (names_in points program) labels front initial_flow
         → type_after_items (names_in points program) labels front initial_flow ≡ Some t →
         Becomes (progress_after_entries (names_in points program) front
         (initial_progress program)).now.kind t }

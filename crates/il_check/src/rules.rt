@@ -382,7 +382,8 @@ fn has_undeclared_argument(arguments: SourceArguments) -> bool
     match arguments {
         SourceArguments::None => false,
         SourceArguments::One(first) => is_undeclared(first.given),
-        SourceArguments::Two(first, second) => is_undeclared(first.given) || is_undeclared(second.given),
+        SourceArguments::Two(first, second) => is_undeclared(first.given)
+            || is_undeclared(second.given),
     }
 }
 
@@ -403,7 +404,8 @@ pub(crate) fn uses_undeclared_name(resolved: Resolved) -> bool
     match resolved {
         Resolved::Load { given, .. } | Resolved::Combine { given, .. } => is_undeclared(given),
         Resolved::Store { target, .. } => is_undeclared(target),
-        Resolved::Call { called, arguments } => is_undeclared_timer(called) || has_undeclared_argument(arguments),
+        Resolved::Call { called, arguments } => is_undeclared_timer(called)
+            || has_undeclared_argument(arguments),
         Resolved::Not | Resolved::Convert(_) | Resolved::Jump { .. } | Resolved::Return(_) => false,
     }
 }

@@ -249,7 +249,8 @@ fn typed_block(
     kind: Option<ElementaryType>,
 ) -> Option<TypedEntry>
     ensures { option_map entry_view result
-        ≡ typing.typed_block operator negated (plain.entries_of (map entry_view entries.items)) kind }
+        ≡ typing.typed_block operator negated (plain.entries_of (map entry_view entries.items))
+        kind }
 {
     match kind {
         Some(kind) => Some(TypedEntry::Block {

@@ -18,7 +18,8 @@ pub one-before : (pending xs continuation more : List Instr) (i : Instr) → pen
     → more ≡ continuation ++ i ∷ [] → xs ++ reverse more ≡ pending ++ reverse continuation
 one-before pending xs continuation more i e f =
     ap (λ l. xs ++ reverse l) f ∙ ap (λ l. xs ++ l) (reverse-append continuation (i ∷ []))
-    ∙ sym (append_assoc xs (i ∷ []) (reverse continuation)) ∙ ap (λ l. l ++ reverse continuation) (sym e)
+    ∙ sym (append_assoc xs (i ∷ []) (reverse continuation))
+    ∙ ap (λ l. l ++ reverse continuation) (sym e)
 
 pub one-counted : (pending xs : List Instr) (i : Instr) (all more size : ℕ) → pending ≡ xs ++ i ∷ []
     → size ≡ length (spelling i) → more ≡ min (all + size) octets_bound → all ≤ octets_bound
@@ -77,7 +78,8 @@ pub jump-behind : (n : ℕ) (i : ProgramItem) (is : List ProgramItem) (jump righ
     → items_code n (i ∷ is) ≡ right ∷ items_code n is
     → ((l : ℕ) → octets_before n l (i ∷ is) ≡ 3 + octets_before n l is)
     → (octets (items_code n is) ≤ most_octets → jump ≡ right) → reverse more ≡ jump ∷ reverse instrs
-    → all ≡ min (size + octets (jump ∷ [])) octets_bound → IsContinuation n (i ∷ is) more all label_octets
+    → all ≡ min (size + octets (jump ∷ [])) octets_bound
+    → IsContinuation n (i ∷ is) more all label_octets
 jump-behind n i is jump right instrs more size all label_octets b three also same before fits rev
     counted =
     let whole : octets (items_code n (i ∷ is)) ≡ 3 + octets (items_code n is) =
@@ -104,7 +106,8 @@ pub put-settled : (n : ℕ) (i : ProgramItem) (is : List ProgramItem) (a : List 
     (pending : List Instr) (new : Continuation) → HasNoPending n is old
     → items_code n (i ∷ is) ≡ a ++ items_code n is
     → ((l : ℕ) → octets_before n l (i ∷ is) ≡ octets a + octets_before n l is)
-    → pending ≡ old.pending.items ++ a → reverse new.instrs.items ≡ pending ++ reverse old.instrs.items
+    → pending ≡ old.pending.items ++ a
+    → reverse new.instrs.items ≡ pending ++ reverse old.instrs.items
     → new.octets ≡ min (old.octets + octets pending) octets_bound
     → new.pending.items ≡ [] → new.label_octets ≡ old.label_octets → HasNoPending n (i ∷ is) new
 put-settled n i is a old pending new s same before put rev counted empty label_octets =
@@ -132,7 +135,8 @@ pub put-leap : (n : ℕ) (i : ProgramItem) (is : List ProgramItem) (jump right :
     → reverse new.instrs.items ≡ pending ++ reverse old.instrs.items
     → new.octets ≡ min (old.octets + octets pending) octets_bound
     → new.pending.items ≡ [] → new.label_octets ≡ old.label_octets → HasNoPending n (i ∷ is) new
-put-leap n i is jump right old pending new s three also same before fits put rev counted empty label_octets =
+put-leap n i is jump right old pending new s three also same before fits put rev counted empty
+    label_octets =
     let just : pending ≡ jump ∷ [] = put ∙ ap (λ l. l ++ jump ∷ []) s.settled in
     record {
       continuation =
@@ -146,13 +150,15 @@ put-leap n i is jump right old pending new s three also same before fits put rev
     }
 
 -- the distance to a label, and to the end
-pub to-label : (n l size : ℕ) (is : List ProgramItem) (instrs : List Instr) (label_octets : ℕ → Option ℕ)
+pub to-label : (n l size : ℕ) (is : List ProgramItem) (instrs : List Instr)
+    (label_octets : ℕ → Option ℕ)
     → IsContinuation n is instrs size label_octets → octets (items_code n is) ≤ most_octets
     → min (size - unwrap_or (label_octets l) 0) 0xFFFF ≡ octets_before n l is
 to-label n l size is instrs label_octets b short = let c = b.counted in let k =
     b.known short l in omega arith
 
-pub to-end : (n size : ℕ) (is : List ProgramItem) (instrs : List Instr) (label_octets : ℕ → Option ℕ)
+pub to-end : (n size : ℕ) (is : List ProgramItem) (instrs : List Instr)
+    (label_octets : ℕ → Option ℕ)
     → IsContinuation n is instrs size label_octets → octets (items_code n is) ≤ most_octets
     → min size 0xFFFF ≡ octets (items_code n is)
 to-end n size is instrs label_octets b short = let c = b.counted in omega arith

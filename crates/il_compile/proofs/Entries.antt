@@ -57,7 +57,8 @@ module _ (c : Checked) (now : ℕ) where
     pub value : Value
     pub is : operand_value x m ≡ Some value
     pub type : type_of value ≡ kind
-    pub does : Does now (push_operand (length c.externals) x) (holding cells m) (holding (value ∷ cells) m)
+    pub does : Does now (push_operand (length c.externals) x) (holding cells m)
+        (holding (value ∷ cells) m)
 
   pub operand-does : (x : TypedOperand) (kind : ElementaryType) (m : Memory) (cells : List Value)
       → HasTypes c m → IsOperand c x kind → length cells < most_cells → Fetched x kind m cells
@@ -117,7 +118,8 @@ module _ (c : Checked) (now : ℕ) where
   -- ---- operators
 
   -- what takes BOOLs divides nothing
-  numbers-alone : (x : OperatorClass) → sense_takes x elementary.Bool ≡ true → sense_divides x ≡ false
+  numbers-alone : (x : OperatorClass) → sense_takes x elementary.Bool ≡ true
+      → sense_divides x ≡ false
   numbers-alone (connects o) h = refl
   numbers-alone (computes o) h = absurd cc
   numbers-alone (compares o) h = refl

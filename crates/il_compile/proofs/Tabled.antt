@@ -51,7 +51,8 @@ has-table c ok are =
         after = Plain elementary.Bool ∷ [];
         effect = step.effect;
         enters =
-            λ d l. subst (λ x. FitsTable (table_of rest.rows) x (Plain elementary.Bool ∷ [])) (sym l)
+            λ d l. subst (λ x. FitsTable (table_of rest.rows) x (Plain elementary.Bool ∷ []))
+            (sym l)
             enters;
         room = step.room;
       },

@@ -110,7 +110,8 @@ module _ (c : Checked) where
 
   jump-right : (condition : Condition) (n : ℕ) (t : Option ElementaryType) (rows : List Row)
       → TestsBool condition t → FitsTable (table_of rows) n (kind_at t ∷ [])
-      → (incoming_after_condition condition t ≡ Some t → FitsTable (table_of rows) 0 (kind_at t ∷ []))
+      → (incoming_after_condition condition t ≡ Some t
+      → FitsTable (table_of rows) 0 (kind_at t ∷ []))
       → IsRight (image_of c) (record { instr = Jump (when_of condition) n; kinds = kind_at t ∷ [] })
       rows
   jump-right Always n t rows ok far near = record {
@@ -127,7 +128,8 @@ module _ (c : Checked) where
         subst (λ w. kinds_after (slots c) (timers c) (Jump (when_of IfTrue) n) (kind_at w ∷ [])
         ≡ Some (kind_at w ∷ [])) (sym ok) refl;
     enters =
-        λ d l. ⊎_elim (λ (e : d ≡ 0). subst (λ x. FitsTable (table_of rows) x (kind_at t ∷ [])) (sym e)
+        λ d l. ⊎_elim (λ (e : d ≡ 0). subst (λ x. FitsTable (table_of rows) x (kind_at t ∷ []))
+        (sym e)
         (near refl))
         (λ (e : d ≡ 0 + n). subst (λ x. FitsTable (table_of rows) x (kind_at t ∷ []))
         (let z : n ≡ d = omega arith in z) far) l;
@@ -139,7 +141,8 @@ module _ (c : Checked) where
         subst (λ w. kinds_after (slots c) (timers c) (Jump (when_of IfFalse) n) (kind_at w ∷ [])
         ≡ Some (kind_at w ∷ [])) (sym ok) refl;
     enters =
-        λ d l. ⊎_elim (λ (e : d ≡ 0). subst (λ x. FitsTable (table_of rows) x (kind_at t ∷ [])) (sym e)
+        λ d l. ⊎_elim (λ (e : d ≡ 0). subst (λ x. FitsTable (table_of rows) x (kind_at t ∷ []))
+        (sym e)
         (near refl))
         (λ (e : d ≡ 0 + n). subst (λ x. FitsTable (table_of rows) x (kind_at t ∷ []))
         (let z : n ≡ d = omega arith in z) far) l;
@@ -165,7 +168,8 @@ module _ (c : Checked) (labels : Labelling) where
     pub first : (t : Option ElementaryType) → now ≡ Some t
         → FitsTable (table_of rows) 0 (kind_at t ∷ [])
     pub labelled : (l : ℕ) → is_named named l ≡ true
-        → FitsTable (table_of rows) (octets_before (length c.externals) l is) (kind_at (labels l) ∷ [])
+        → FitsTable (table_of rows) (octets_before (length c.externals) l is)
+        (kind_at (labels l) ∷ [])
     pub ended : (k : CellKind)
         → FitsTable (table_of rows) (octets (items_code (length c.externals) is)) (k ∷ [])
     pub keeps : Each (Keeps c) (items_code (length c.externals) is)
@@ -212,7 +216,8 @@ module _ (c : Checked) (labels : Labelling) where
         first = λ w e. subst (λ x. FitsTable (table_of (p.front ++ next.rows)) 0 (kind_at x ∷ []))
             (same-coming now t w comes e) p.first;
         labelled =
-            λ l h. subst (λ d. FitsTable (table_of (p.front ++ next.rows)) d (kind_at (labels l) ∷ []))
+            λ l h. subst (λ d. FitsTable (table_of (p.front ++ next.rows)) d
+            (kind_at (labels l) ∷ []))
             (sym (before l))
             (further p.front next.rows (octets a) (octets_before (length c.externals) l is)
             (kind_at (labels l) ∷ []) size (next.labelled l h));

@@ -146,7 +146,8 @@ looked wanted top rest h =
     (below-top wanted top rest h)
 
 two-tops : (first second gives v a : CellKind) (rest : List CellKind) → is_within v first ≡ true
-    → is_within a second ≡ true → replace_two first second gives (v ∷ a ∷ rest) ≡ Some (gives ∷ rest)
+    → is_within a second ≡ true
+    → replace_two first second gives (v ∷ a ∷ rest) ≡ Some (gives ∷ rest)
 two-tops first second gives v a rest h g =
     ap (λ (o : Option (List CellKind)). o
     >>= (λ more. below second more >>= (λ ks. Some (gives ∷ ks))))

@@ -83,7 +83,8 @@ store_code store.Reset n = Slot ResetIf n ∷ []
 
 -- an operation, which acts on the top of the stack
 abbrev pub operation_code : ℕ → SimpleOperation → List Instr
-operation_code externals (op.Load negated x) = Drop ∷ push_operand externals x ∷ negation_code negated
+operation_code externals (op.Load negated x) =
+    Drop ∷ push_operand externals x ∷ negation_code negated
 operation_code externals (op.Store how s) = store_code how (slot_number externals s)
 operation_code externals (op.Combine operator kind negated x) =
     push_operand externals x ∷ operator_code operator kind negated

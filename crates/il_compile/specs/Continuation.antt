@@ -32,8 +32,8 @@ IsSpellable externals (plain e) = IsSpellableEntry externals e
 abbrev pub AreSpellable : ℕ → List ProgramItem → Type 0
 AreSpellable externals is = Each (IsSpellable externals) is
 
--- For each label, `label_octets` has the number of octets from the label to the end of the items, and
--- nothing, or 0, if there is no such label.
+-- For each label, `label_octets` has the number of octets from the label to the end of the items,
+-- and nothing, or 0, if there is no such label.
 abbrev pub KnowsLabels : ℕ → (ℕ → Option ℕ) → List ProgramItem → Type 0
 KnowsLabels externals label_octets is = (l : ℕ)
     → octets_before externals l is + unwrap_or (label_octets l) 0 ≡ octets (items_code externals is)

@@ -5,8 +5,8 @@
 -- be unset, the values of externals, variables and timers, and a time. Items are executed in order,
 -- or skipped up to a label; a parenthesis begins with an unset result, and its operator takes the
 -- result at its end. There is no meaning if an instruction uses an unset result, a missing name, a
--- value of another type or a divisor of 0. `OperatorClasses` classifies the operators: an operator connects
--- BOOLs, computes with numbers of one width, or compares values of one type.
+-- value of another type or a divisor of 0. `OperatorClasses` classifies the operators: an operator
+-- connects BOOLs, computes with numbers of one width, or compares values of one type.
 --
 -- `Code` is the list of instructions of operations, parentheses, calls and items, with the
 -- distances of jumps in octets. `Compiled` is the image, its size, and which programs are too long

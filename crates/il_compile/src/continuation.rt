@@ -103,7 +103,8 @@ impl Continuation {
             (self.new.octets
             ≡ min (self.old.octets + spec.octets self.old.pending.items) octets_bound) }
         ensures before { OnOk result
-            (reverse self.new.instrs.items ≡ self.old.pending.items ++ reverse self.old.instrs.items) }
+            (reverse self.new.instrs.items
+            ≡ self.old.pending.items ++ reverse self.old.instrs.items) }
         ensures empty { OnOk result (self.new.pending.items ≡ []) }
         ensures label_octets { OnOk result (self.new.label_octets ≡ self.old.label_octets) }
     {
@@ -201,7 +202,8 @@ pub(crate) fn compile_all(
     items: &[TypedItem],
 ) -> Result<Continuation, AllocError>
     requires { AreSpellable externals (map item_view items.now) }
-    ensures { IfOk result (λ continuation. HasNoPending externals (map item_view items.now) continuation) }
+    ensures { IfOk result (λ continuation. HasNoPending externals (map item_view items.now)
+        continuation) }
 {
     let mut continuation = Continuation::new(alloc);
     let mut at = items.len();

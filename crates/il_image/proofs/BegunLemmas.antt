@@ -74,7 +74,8 @@ is-among-so code (suc n) k offset h e = elim (cases_eq k n) [
   | inl same ↦ ap (λ (b : Bool). b || is_among code n offset)
       (is-there-so (offset_of code n) offset
       (subst (λ (j : ℕ). offset_of code j ≡ Some offset) same e))
-  | inr ne ↦ later (is_there (offset_of code n) offset) (is-among-so code n k offset (omega arith) e)
+  | inr ne ↦ later (is_there (offset_of code n) offset)
+      (is-among-so code n k offset (omega arith) e)
 ]
   where
     later : (b : Bool) → is_among code n offset ≡ true → b || is_among code n offset ≡ true
@@ -95,7 +96,8 @@ pub tells : (code : List ℕ) (offset : ℕ) → is_instruction_offset code offs
 unfolding is_instruction_offset
 tells code offset e = both (ltb offset (length code)) refl e
   where
-    both : (b : Bool) → ltb offset (length code) ≡ b → b && is_among code (length code) offset ≡ true
+    both : (b : Bool) → ltb offset (length code) ≡ b
+        → b && is_among code (length code) offset ≡ true
         → InstrBegins code offset
     both true h f = (ltb-true offset (length code) h, among-is code (length code) offset f)
     both false h f = absurd cc
@@ -244,7 +246,8 @@ lands now (Timer LoadElapsed n) next s =
 
 -- Instructions lead to places of the code alone.
 pub record IsClosed (code : List ℕ) : Type 0 where
-  pub leads : (offset to : ℕ) → InstrBegins code offset → IsSuccessor code offset to → InstrBegins code to
+  pub leads : (offset to : ℕ) → InstrBegins code offset → IsSuccessor code offset to
+      → InstrBegins code to
 
 -- the step of the machine that reads at any octet
 abbrev pub loose_turn : List ℕ → ℕ → State → StepResult
@@ -274,7 +277,8 @@ module _ (code : List ℕ) (now : ℕ) (closed : IsClosed code) where
   lands-more i next offset Halts p here h = tt
   lands-more i next offset (Traps trap) p here h = tt
 
-  lands-at : (s : State) (o : Option (Instr × ℕ)) → instr_at code s.offset ≡ o → InstrBegins code s.offset
+  lands-at : (s : State) (o : Option (Instr × ℕ)) → instr_at code s.offset ≡ o
+      → InstrBegins code s.offset
       → Lands (λ to. InstrBegins code to) (step_of_read now o s)
   lands-at s None here p = tt
   lands-at s (Some r) here p =

@@ -65,7 +65,8 @@ stands code offset i next fits e =
     }
 
 -- an instruction that is spelled at a place is read there
-pub stood : (code : List ℕ) (offset : ℕ) (i : Instr) (next : ℕ) → HasInstructionAt code offset i next
+pub stood : (code : List ℕ) (offset : ℕ) (i : Instr) (next : ℕ)
+    → HasInstructionAt code offset i next
     → instr_at code offset ≡ Some (i, next)
 unfolding instr_at
 stood code offset i next s =
@@ -76,7 +77,8 @@ stood code offset i next s =
     rw (s.spelled, back, left) refl
 
 -- past the end there is none
-pub none-past-end : (code : List ℕ) (offset : ℕ) → length code ≤ offset → instr_at code offset ≡ None
+pub none-past-end : (code : List ℕ) (offset : ℕ) → length code ≤ offset
+    → instr_at code offset ≡ None
 unfolding instr_at instr_from
 none-past-end code offset past = rw (drop_of_length-le code past) refl
 
@@ -90,7 +92,8 @@ goes-forward code offset i next e =
     (omega arith, omega arith)
 
 -- the octets from a place on
-whole : (code : List ℕ) (offset : ℕ) → take (length code - offset) (drop offset code) ≡ drop offset code
+whole : (code : List ℕ) (offset : ℕ)
+    → take (length code - offset) (drop offset code) ≡ drop offset code
 whole code offset =
     ap (λ (n : ℕ). take n (drop offset code)) (sym (length-drop offset code))
     ∙ take-length (drop offset code)

@@ -91,4 +91,5 @@ pub record EndsInInstr (octets : List ℕ) : Type 0 where
 -- by others; or they end in an initial value, or their code in an instruction, that can't be
 -- completed.
 abbrev pub IsRightSoFar : List ℕ → Type 0
-IsRightSoFar octets = IsImagePrefix octets ⊎ (HasTrailing octets ⊎ (EndsInValue octets ⊎ EndsInInstr octets))
+IsRightSoFar octets =
+    IsImagePrefix octets ⊎ (HasTrailing octets ⊎ (EndsInValue octets ⊎ EndsInInstr octets))

@@ -34,7 +34,8 @@ is_among code (suc n) offset = is_there (offset_of code n) offset || is_among co
 
 -- whether an instruction begins at the offset; code has at most as many instructions as octets
 unfoldable pub is_instruction_offset : List ℕ → ℕ → Bool
-is_instruction_offset code offset = nat_lt offset (length code) && is_among code (length code) offset
+is_instruction_offset code offset =
+    nat_lt offset (length code) && is_among code (length code) offset
 
 -- the instruction that begins at an offset, and the offset after it; none if no instruction begins
 -- there

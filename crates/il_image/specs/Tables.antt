@@ -53,7 +53,8 @@ Table = ℕ → Option (List CellKind)
 
 -- The table has kinds at the offset, and the kinds of the list are within them, one by one.
 abbrev pub FitsTable : Table → ℕ → List CellKind → Type 0
-FitsTable table offset kinds = (most : List CellKind) × (table offset ≡ Some most) × AreWithin kinds most
+FitsTable table offset kinds =
+    (most : List CellKind) × (table offset ≡ Some most) × AreWithin kinds most
 
 -- The instruction at the offset is allowed on these kinds, and the kinds after it enter each of its
 -- successors.

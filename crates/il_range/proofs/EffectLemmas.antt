@@ -49,13 +49,15 @@ next-if : (ps : Setting) (b : Bool) (t : StepResult) (trap : Trap) (now next : �
 next-if ps true t trap now next p h = h
 next-if ps false t trap now next p h = tt
 
-next-unless : (ps : Setting) (b : Bool) (t : StepResult) (trap : Trap) (now next : ℕ) (p : KnownData)
+next-unless : (ps : Setting) (b : Bool) (t : StepResult) (trap : Trap) (now next : ℕ)
+    (p : KnownData)
     → NextIs ps t now next p
     → NextIs ps (cond b (Traps trap) t) now next p
 next-unless ps true t trap now next p h = tt
 next-unless ps false t trap now next p h = h
 
-next-slot : (ps : Setting) (n : ℕ) (s : State) (f : Value → StepResult) (now next : ℕ) (p : KnownData)
+next-slot : (ps : Setting) (n : ℕ) (s : State) (f : Value → StepResult) (now next : ℕ)
+    (p : KnownData)
     → ((v : Value) → slice_get s.slots n ≡ Some v → NextIs ps (f v) now next p)
     → NextIs ps (with_slot n s f) now next p
 next-slot ps n s f now next p h = go (slice_get s.slots n) refl
@@ -123,7 +125,8 @@ module _ (ps : Setting) (now next offset : ℕ) (timers : List TimerState) (ts :
   abbrev Done : List Value → List Value → Type 0
   Done cells slots = DoneWith cells slots timers
 
-  covers-with : (q : KnownData) (cells slots : List Value) (after : List TimerState) → Some q ≡ Some p
+  covers-with : (q : KnownData) (cells slots : List Value) (after : List TimerState)
+      → Some q ≡ Some p
       → AreIn ps cells q.cells → AreIn ps slots q.slots → AreTimersIn ps now after q.timers
       → DoneWith cells slots after
   covers-with q cells slots after e h k t =
@@ -179,7 +182,8 @@ module _ (ps : Setting) (now next offset : ℕ) (timers : List TimerState) (ts :
       g.gives h (are-set ps slots us n v r k h.0) in
       next-slot ps n (state_of offset (v ∷ cells) slots timers) _ now next p
       (λ old at. next-if ps (same_type (type_of v) (type_of old))
-      (stores n v next (state_of offset (v ∷ cells) slots timers)) WrongKind now next p (refl, done))
+      (stores n v next (state_of offset (v ∷ cells) slots timers)) WrongKind now next p
+      (refl, done))
 
   -- a slot of a truth changes
   change-next : (old : Value) (n : ℕ) (f : Bool → Bool) (s : State) (range : Range)
@@ -218,7 +222,8 @@ module _ (ps : Setting) (now next offset : ℕ) (timers : List TimerState) (ts :
       (plain_of (r ∷ rs) (slice_set us n (and_ranges (not_range r) old)))) p e
       in
       next-slot ps n (state_of offset (Truth b ∷ cells) slots timers) _ now next p
-      (λ old at. change-next old n (λ o. not b && o) (state_of offset (Truth b ∷ cells) slots timers)
+      (λ old at. change-next old n (λ o. not b && o)
+      (state_of offset (Truth b ∷ cells) slots timers)
       g.range (are-get ps slots us n old g.range k at g.at)
       (λ o is. covers-along (r ∷ rs) (slice_set us n (and_ranges (not_range r) g.range))
       (Truth b ∷ cells) (slice_set slots n (Truth (not b && o))) g.gives h
@@ -413,7 +418,8 @@ module _ (ps : Setting) (now next offset : ℕ) (timers : List TimerState) (ts :
   comes (Push v) rs us e cells slots h k =
       let done : Done (v ∷ cells) slots =
       covers-along (value_range v ∷ rs) us (v ∷ cells) slots e (in-exactly ps v, h) k in
-      next-if ps (nat_lt (length cells) most_cells) (Continues (state_of next (v ∷ cells) slots timers))
+      next-if ps (nat_lt (length cells) most_cells)
+      (Continues (state_of next (v ∷ cells) slots timers))
       FullStack
       now next p (refl, done)
   comes Drop [] us e cells slots h k = absurd (cc)
@@ -438,7 +444,8 @@ module _ (ps : Setting) (now next offset : ℕ) (timers : List TimerState) (ts :
   comes (Jump when distance) rs us e cells slots h k = absurd (cc)
   comes (Timer t n) rs us e cells slots h k = comes-timer t n rs us e cells slots h k
 
-next-lands : (t : StepResult) (next end : ℕ) (h : RunState) (p : KnownData) (old new : List (Option Known))
+next-lands : (t : StepResult) (next end : ℕ) (h : RunState) (p : KnownData)
+    (old new : List (Option Known))
     → JoinsKnown old new next p → NextIs h.setting t h.now next p → IsCoveredStep t next end h new
 next-lands (Continues s) next end h p old new a is =
     let least : next ≤ s.offset = (let at = is.0 in omega arith) in (

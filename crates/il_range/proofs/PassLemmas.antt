@@ -42,25 +42,30 @@ lands-from Halts least next end h new le l = l
 lands-from (Traps trap) least next end h new le l = tt
 
 -- the instruction at a place is one
-one-instr : (code : List ℕ) (offset next to : ℕ) (i j : Instr) → instr_at code offset ≡ Some (i, next)
+one-instr : (code : List ℕ) (offset next to : ℕ) (i j : Instr)
+    → instr_at code offset ≡ Some (i, next)
     → instr_at code offset ≡ Some (j, to) → (i ≡ j) × (next ≡ to)
 one-instr code offset next to i j a b = some_pair_parts i j next to (sym a ∙ b)
 
 pub visits-moves : (code : List ℕ) (instr : Instr) (offset next : ℕ) (old new : List (Option Known))
     (here : Known) → instr_at code offset ≡ Some (instr, next) → offset < next
     → slice_get old offset ≡ Some (Some here)
-    → CoversSteps instr next (known_view here) (slice_set old offset None) new → CoversStepsAt code offset old new
+    → CoversSteps instr next (known_view here) (slice_set old offset None) new
+    → CoversStepsAt code offset old new
 visits-moves code instr offset next old new here reads forward was m = record {
   keeps = λ q ne h c. m.keeps q h (covers-elsewhere old offset q None h ne c);
   lands = λ j to now w s at c.
       let same = one-instr code offset next to instr j reads at in
       let least : offset + 1 ≤ next = omega arith in
       let mine =
-      lands-from (act now instr next s) (offset + 1) next (length code) (run_state now w s) new least
+      lands-from (act now instr next s) (offset + 1) next (length code) (run_state now w s) new
+      least
       (m.lands now (length code) w s (covers-there offset old here (run_state now w s) was c)) in
-      subst (λ (i : Instr). IsCoveredStep (act now i to s) (offset + 1) (length code) (run_state now w s) new)
+      subst (λ (i : Instr). IsCoveredStep (act now i to s) (offset + 1) (length code)
+      (run_state now w s) new)
       same.0
-      (subst (λ (n : ℕ). IsCoveredStep (act now instr n s) (offset + 1) (length code) (run_state now w s) new)
+      (subst (λ (n : ℕ). IsCoveredStep (act now instr n s) (offset + 1) (length code)
+      (run_state now w s) new)
       same.1
       mine);
 }
@@ -76,7 +81,8 @@ visits-halt code offset next old new here reads was a = record {
       let same = one-instr code offset next to Halt j reads at in
       let mine : CoversAt new (length code) (run_state now w s) =
       a.brings (run_state now w s) (covers-there offset old here (run_state now w s) was c) in
-      subst (λ (i : Instr). IsCoveredStep (act now i to s) (offset + 1) (length code) (run_state now w s) new)
+      subst (λ (i : Instr). IsCoveredStep (act now i to s) (offset + 1) (length code)
+      (run_state now w s) new)
       same.0
       mine;
 }
@@ -166,7 +172,8 @@ follows-step : (code : List ℕ) (w : Setting) (now offset : ℕ) (after : List 
     → CoversStepsAt code offset old new → (most steps steps_after : ℕ)
     (timers_after : List TimerState) (s : State)
     → run_from code now most s steps ≡ Halted after timers_after steps_after → s.offset ≡ offset
-    → CoversAt old offset (run_state now w s) → Follows code w now after timers_after (offset + 1) new
+    → CoversAt old offset (run_state now w s)
+    → Follows code w now after timers_after (offset + 1) new
 unfolding run_from
 follows-step code w now offset after old new v zero steps steps_after timers_after s e at c =
     absurd (cc)

@@ -82,7 +82,8 @@ pub arrived : (old : List (Option Known)) (offset : ℕ) (o w : Option Known) (c
     → offset < length old → slice_get old offset ≡ Some o
     → IsCoveredBy (known_view known) (known_view come)
     → ((s : Known) → o ≡ Some s → IsCoveredBy (known_view s) (known_view come))
-    → JoinsKnown old (slice_set (slice_set old offset w) offset (Some come)) offset (known_view known)
+    → JoinsKnown old (slice_set (slice_set old offset w) offset (Some come)) offset
+    (known_view known)
 arrived old offset o w come known less was brings keeps =
     subst (λ (new : List (Option Known)). JoinsKnown old new offset (known_view known))
     (sym (set-twice old offset w (Some come)))
@@ -110,7 +111,8 @@ arrived old offset o w come known less was brings keeps =
 -- ---- jumps
 
 pub always-moves : (distance next : ℕ) (come : KnownData) (old new : List (Option Known))
-    → JoinsKnown old new (next + distance) come → CoversSteps (Jump Always distance) next come old new
+    → JoinsKnown old new (next + distance) come
+    → CoversSteps (Jump Always distance) next come old new
 unfolding act
 always-moves distance next come old new a = record {
   keeps = a.keeps;
@@ -123,7 +125,8 @@ lands-by : (jumps : Range) (distance next end offset : ℕ) (come : KnownData)
     (old new : List (Option Known)) (h : RunState) → Branches jumps distance next come old new
     → Covers come h → (j : Bool) → IsIn h.setting (Truth j) jumps
     → offset ≡ cond j (next + distance) next
-    → IsCoveredStep (Continues (record { offset = offset; cells = h.cells; slots = h.slots; timers = h.timers }))
+    → IsCoveredStep (Continues
+    (record { offset = offset; cells = h.cells; slots = h.slots; timers = h.timers }))
     next end h new
 lands-by jumps distance next end offset come old new h b c true may e =
     let least : next ≤ offset = omega arith in
@@ -146,7 +149,8 @@ jump-lands : (w : Setting) (to : Bool → ℕ) (jumps_of : Bool → Bool) (r jum
     → IsCoveredStep (jumps_where to
     (record { offset = offset; cells = cells; slots = slots; timers = timers })) next end
     (record { now = now; setting = w; cells = cells; slots = slots; timers = timers }) new
-jump-lands w to jumps_of r jumps distance next below come old new leads predicts is b now offset end []
+jump-lands w to jumps_of r jumps distance next below come old new leads predicts is b now offset end
+    []
     slots timers i c = tt
 jump-lands w to jumps_of r jumps distance next below come old new leads predicts is b now offset end
     (Truth x ∷ cells) slots timers i c =
@@ -185,7 +189,8 @@ if-false-moves r distance next below come old new is b = record {
   lands = λ now end w s c.
       jump-lands w (λ x. cond x next (next + distance)) not r (not_range r) distance next below come
       old
-      new (λ x. sym (same-if x (next + distance) next)) (λ x h. of-negated w x r h) is b now s.offset
+      new (λ x. sym (same-if x (next + distance) next)) (λ x h. of-negated w x r h) is b now
+      s.offset
       end
       s.cells s.slots s.timers (subst (AreIn w s.cells) is c.cells) c;
 }

@@ -239,7 +239,8 @@ pub tells-given : (image : Image) (start memory : List Range) (delays : List Kno
     (given : List Range) (last : List KnownDelay) (result : List Range)
     → start ≡ with_inputs image.points given memory → PredictsReached image start delays last result
     → PredictsScans image memory delays given last result
-predicts-given image start memory delays given last result at t w machine inputs now slots timers is r
+predicts-given image start memory delays given last result at t w machine inputs now slots timers is
+    r
     k
     y
     h l =

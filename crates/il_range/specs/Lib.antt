@@ -1,7 +1,7 @@
 -- The slots that a scan of a machine may leave.
 --
--- `Ranges` defines which values are in a range. `Predictions` is the main file: which machines scans
--- reach, what a scan leaves, and which ranges predict it. `Laws`: what holds of each scan.
+-- `Ranges` defines which values are in a range. `Predictions` is the main file: which machines
+-- scans reach, what a scan leaves, and which ranges predict it. `Laws`: what holds of each scan.
 
 pub mod Predictions
 pub mod Laws

@@ -23,7 +23,8 @@ pub record RunEnds (code : List ℕ) (given after : List Value) : Type 0 where
 
 -- Each run from slots in the ranges `slots`, with timers that are in `timers`, ends with slots in
 -- `result`, and with timers that are in `timers_after`.
-abbrev pub PredictsRun : List ℕ → List KnownTimer → List Range → List KnownTimer → List Range → Type 0
+abbrev pub PredictsRun : List ℕ → List KnownTimer → List Range → List KnownTimer → List Range
+    → Type 0
 PredictsRun code timers slots timers_after result =
     (w : Setting) (given after : List Value) → AreIn w given slots → (e : RunEnds code given after)
     → AreTimersIn w e.now e.timers timers

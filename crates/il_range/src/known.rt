@@ -322,9 +322,21 @@ fn merge_known(one: Known, other: Known) -> Result<Known, PassStop>
         mut timers,
         mut dependencies,
     } = one;
-    dependencies.join_cells(&other.dependencies, cells.as_slice(), other.cells.as_slice());
-    dependencies.join_slots(&other.dependencies, slots.as_slice(), other.slots.as_slice());
-    dependencies.join_timers(&other.dependencies, timers.as_slice(), other.timers.as_slice());
+    dependencies.join_cells(
+        &other.dependencies,
+        cells.as_slice(),
+        other.cells.as_slice(),
+    );
+    dependencies.join_slots(
+        &other.dependencies,
+        slots.as_slice(),
+        other.slots.as_slice(),
+    );
+    dependencies.join_timers(
+        &other.dependencies,
+        timers.as_slice(),
+        other.timers.as_slice(),
+    );
     join_all(&mut cells, other.cells.as_slice());
     join_all(&mut slots, other.slots.as_slice());
     join_timers(&mut timers, other.timers.as_slice());

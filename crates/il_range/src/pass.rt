@@ -5,7 +5,7 @@ ghost use Rattle.std.specs.Global.{Global};
 ghost use Rattle.il_range.specs.Outcomes.{PredictsRun};
 ghost use Rattle.il_range.specs.Pending.{JoinsKnown, Branches, CoversSteps, CoversStepsAt, known_view};
 
-use crate::known::{Known, apply, arrive, copy_of, update_dependencies, top_of};
+use crate::known::{Known, apply, arrive, copy_of, top_of, update_dependencies};
 use crate::range::{Range, not_range};
 use crate::stop::PassStop;
 use il_image::instr::Instr;

@@ -71,7 +71,8 @@ on-stack : {types : List ElementaryType} {count now next p : ℕ} {i : Instr}
     → IsReady i (words_for cells slots timers)
     → act now i next (state p cells slots timers) ≡ Continues (state to new slots timers)
     → next_offset i next (words_of cells) ≡ Some to
-    → words_after now i (words_for cells slots timers) ≡ words_for new slots timers → HaveKinds new kinds
+    → words_after now i (words_for cells slots timers) ≡ words_for new slots timers
+    → HaveKinds new kinds
     → HaveTypes types count slots timers → Does types count now i next p cells slots timers kinds
 on-stack {slots = slots} {timers = timers} to new ready goes_on leads_to words_are fit typed =
     record {

@@ -142,7 +142,8 @@ module _ (code : List ℕ) (offset : ℕ) (fits : AreOctets code) (h : IsSome (i
           is-ok-of (operand_from Two o (drop (offset + 1) code)) (f.0, drop f.1 code) operand-there
 
       pub fetched : (r : Instr × ℕ)
-          → operand_from Two o (drop (offset + 1) code) ≡ Ok (r.0, drop r.1 code) → r.1 ≤ length code
+          → operand_from Two o (drop (offset + 1) code) ≡ Ok (r.0, drop r.1 code)
+          → r.1 ≤ length code
           → instr_at code offset ≡ Some r
       fetched r e within =
           let f = found code offset fits h in

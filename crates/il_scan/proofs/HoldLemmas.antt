@@ -54,7 +54,8 @@ rise : (indices : List ℕ) (j k : ℕ) → IsRising indices → j < k → k < l
 rise [] j k h l m = absurd (omega (arith, m))
 rise (n ∷ indices) j zero h l m = absurd (omega (arith, l))
 rise (n ∷ indices) zero (suc k) h l m = above-at n indices k h.0 (omega (arith, m))
-rise (n ∷ indices) (suc j) (suc k) h l m = rise indices j k h.1 (omega (arith, l)) (omega (arith, m))
+rise (n ∷ indices) (suc j) (suc k) h l m =
+    rise indices j k h.1 (omega (arith, l)) (omega (arith, m))
 
 -- ---- a word that is put
 
@@ -170,7 +171,8 @@ module _ (indices : List ℕ) (types : List ElementaryType) (values : List Value
   put-next slots k v last l within e f is all j near = by-order (cases_order j k)
     where
       by-order : (j ≡ k) ⊎ ((j < k) ⊎ (k < j))
-          → IsPut indices types values (slice_set slots (slice_index_or indices k 0) (number_of v)) j
+          → IsPut indices types values (slice_set slots (slice_index_or indices k 0) (number_of v))
+          j
       by-order (inl same) =
           subst (IsPut indices types values
           (slice_set slots (slice_index_or indices k 0) (number_of v))) (sym same)

@@ -46,7 +46,8 @@ module _ (image : Image) (now : ℕ) (slots : List ℤ) (timers : List TimerStat
       let turn =
       turned image now c.state h a.instr a.next a.here c.octets
       (next_offset a.instr a.next (words_at c.state).stack) after refl refl in
-      next-turn left offset steps w c past less after (next_offset a.instr a.next (words_at c.state).stack)
+      next-turn left offset steps w c past less after
+      (next_offset a.instr a.next (words_at c.state).stack)
       turn (λ to later. goes_on left to (steps + 1) after later)
     where
       next-turn : (left offset steps : ℕ) (w : Words)
@@ -76,7 +77,8 @@ module _ (image : Image) (now : ℕ) (slots : List ℤ) (timers : List TimerStat
 
 -- a scan of words, from words that are held
 scan-ends : (image : Image) (inputs : List Value) (now : ℕ) (slots : List ℤ)
-    (timers : List TimerState) → AreOctets image.code → IsSafe image → EncodesMemory image slots timers
+    (timers : List TimerState) → AreOctets image.code → IsSafe image
+    → EncodesMemory image slots timers
     → AreInputs image.points inputs → ScanEnds (machine_data image slots timers) inputs now
 scan-ends image inputs now slots timers octets safe is-held are =
     let taken : List ℤ = with_inputs image.points (words_of inputs) slots in
@@ -98,6 +100,7 @@ never_goes_wrong image slots timers inputs now octets safe typed are =
     let same : values_of (slot_types image) (words_of slots) ≡ slots =
     stand-again (slot_types image) (words_of slots) slots
     (record { are = refl; typed = typed.of_types }) in
-    subst (λ (values : List Value). ScanEnds (record { image = image; slots = values; timers = timers })
+    subst (λ (values : List Value). ScanEnds
+    (record { image = image; slots = values; timers = timers })
     inputs now) same (scan-ends image inputs now (words_of slots) timers octets safe is-held
     are)

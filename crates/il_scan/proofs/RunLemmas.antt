@@ -80,7 +80,8 @@ goes-same a b e = cc
 
 standing_of : (image : Image) (now : ℕ) (s next : State) → step_at image.code now s ≡ Continues next
     → (to : Option ℕ) (w : Words) → StepsTo image now s to w → IsAllowedAt image next
-standing_of image now s next e None w t = absurd (let no : Halts ≡ Continues next = sym t.0 ∙ e in cc)
+standing_of image now s next e None w t =
+    absurd (let no : Halts ≡ Continues next = sym t.0 ∙ e in cc)
 standing_of image now s next e (Some to) w t =
     subst (IsAllowedAt image) (goes-same t.1.0 next (sym t.1.1 ∙ e)) t.1.2.allowed
 
@@ -90,7 +91,8 @@ next-standing image now octets s next h e =
     let a = h.agrees.allowed s.offset h.kinds h.here in
     standing_of image now s next e (next_offset a.instr a.next (words_at s).stack)
     (words_after now a.instr (words_at s))
-    (turned image now s h a.instr a.next a.here octets (next_offset a.instr a.next (words_at s).stack)
+    (turned image now s h a.instr a.next a.here octets
+    (next_offset a.instr a.next (words_at s).stack)
     (words_after now a.instr (words_at s)) refl refl)
 
 pub never-deeper : (image : Image) (now : ℕ) → AreOctets image.code → (most : ℕ)
@@ -228,7 +230,8 @@ module _ (image : Image) (now : ℕ) (first : State) (offset steps : ℕ) (w : W
 
 pub run-ends : (image : Image) (now : ℕ) (slots : List ℤ) (timers : List TimerState)
     (offset steps : ℕ) (w : Words)
-    (c : Comes image now (first_state image slots timers) offset steps w) → offset < length image.code
+    (c : Comes image now (first_state image slots timers) offset steps w)
+    → offset < length image.code
     → IsSafe image → EncodesMemory image slots timers → (after : Words)
     → StepsTo image now c.state None after
     → RunsTo image now slots timers after.slots after.timers (steps + 1)
@@ -259,7 +262,8 @@ module _ (code : List ℕ) (now offset : ℕ) (w : Words) (octets : AreOctets co
   -- an instruction
   pub at-some : IsSome (instr_at code offset)
   at-some =
-      subst (λ (os : List ℕ). IsSome (instr_at os offset)) at.2 (some-at at.0 now offset w at.1 at.3)
+      subst (λ (os : List ℕ). IsSome (instr_at os offset)) at.2
+      (some-at at.0 now offset w at.1 at.3)
 
   pub at-within : offset < length code
   at-within = octet-within code offset octets at-some

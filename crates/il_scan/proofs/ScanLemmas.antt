@@ -79,7 +79,8 @@ module _ (image : Image) (kept : IsImage image) (slots : List ℤ) (timers : Lis
   held-at-first = record {
     stand = stand-itself (slot_types image) slots (first_slots image.points image.variables)
         (first-stand image slots kept.values e);
-    timer_count = ap (λ (ts : List TimerState). length ts) f ∙ length-map image.timers time.first_state;
+    timer_count =
+        ap (λ (ts : List TimerState). length ts) f ∙ length-map image.timers time.first_state;
     times = times-first timers image.timers f;
   }
 

@@ -86,7 +86,8 @@ module _ (types : List ElementaryType) (count now next p : ℕ) (slots : List Va
     -- a BOOL is on top
     on-bool : (i : Instr) (kinds rest given : List CellKind)
         → below (Plain elementary.Bool) kinds ≡ Some rest
-        → ((b : Bool) (others : List Value) → HaveKinds others rest → HaveKinds (Truth b ∷ others) kinds
+        → ((b : Bool) (others : List Value) → HaveKinds others rest
+        → HaveKinds (Truth b ∷ others) kinds
         → Done i (Truth b ∷ others) given)
         → (cells : List Value) → HaveKinds cells kinds → Done i cells given
     on-bool i kinds rest given e does =
@@ -115,7 +116,8 @@ module _ (types : List ElementaryType) (count now next p : ℕ) (slots : List Va
       where
         go : (t : ElementaryType) (b : Bool) → same_type t elementary.Bool ≡ b
             → slice_get types n ≡ Some t
-            → cond b (peek_kind (Plain elementary.Bool) kinds) None ≡ Some after → Done i cells after
+            → cond b (peek_kind (Plain elementary.Bool) kinds) None ≡ Some after
+            → Done i cells after
         go t false same get h = absurd cc
         go t true same get h =
             on-truth i cells kinds h fit
@@ -196,7 +198,8 @@ module _ (types : List ElementaryType) (count now next p : ℕ) (slots : List Va
         others slots timers r.0 f typed b) cells fit)
 
     store-does : (n : ℕ) (cells : List Value) (kinds : List CellKind)
-        → (slice_get types n >>= (λ t. peek_kind (Plain t) kinds)) ≡ Some after → HaveKinds cells kinds
+        → (slice_get types n >>= (λ t. peek_kind (Plain t) kinds)) ≡ Some after
+        → HaveKinds cells kinds
         → Done (Slot Store n) cells after
     store-does n cells kinds e fit =
         let s = bind-some (slice_get types n) _ _ e in

@@ -199,7 +199,8 @@ module _ (image : Image) (now : ℕ) (s : State) (h : IsAllowedAt image s) where
           (λ n only. ap (λ (m : Words). slice_get m.slots n) done ∙ kept n only),
         )
 
-    no-way : (stack : List ℤ) → next_offset i next stack ≡ None → (to : ℕ) → next_offset i next stack ≡ Some to
+    no-way : (stack : List ℤ) → next_offset i next stack ≡ None → (to : ℕ)
+        → next_offset i next stack ≡ Some to
         → ⊥
     no-way stack e to f = let no : ◌≡◌ {A = Option ℕ} None (Some to) = sym e ∙ f in cc
 

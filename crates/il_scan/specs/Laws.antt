@@ -22,5 +22,6 @@ abbrev pub NeverGoesWrong : Type 0
 NeverGoesWrong =
     (image : Image) (slots : List Value) (timers : List TimerState) (inputs : List Value) (now : ℕ)
     → AreOctets image.code → IsSafe image
-    → HaveTypes (slot_types image) (length image.timers) slots timers → AreInputs image.points inputs
+    → HaveTypes (slot_types image) (length image.timers) slots timers
+    → AreInputs image.points inputs
     → ScanEnds (record { image = image; slots = slots; timers = timers }) inputs now

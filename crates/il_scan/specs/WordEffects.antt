@@ -91,7 +91,8 @@ after_timer_use now Run n m =
     record m { timers = slice_set m.timers n (after_call (timer_at m.timers n) now) }
 after_timer_use now LoadOutput n m =
     record m { stack = word_of (timer_at m.timers n).output ∷ m.stack }
-after_timer_use now LoadElapsed n m = record m { stack = pos (timer_at m.timers n).elapsed ∷ m.stack }
+after_timer_use now LoadElapsed n m =
+    record m { stack = pos (timer_at m.timers n).elapsed ∷ m.stack }
 
 -- the words after an instruction at this moment; a widened number has the same word
 abbrev pub words_after : ℕ → Instr → Words → Words
@@ -105,7 +106,10 @@ words_after now (Combine c) m =
 words_after now (Compute o w) m =
     record m { stack = computation_of o w (below_top m.stack) (top m.stack) ∷ drop 2 m.stack }
 words_after now (Compare c) m =
-    record m { stack = word_of (comparison_holds c (below_top m.stack) (top m.stack)) ∷ drop 2 m.stack }
+    record m {
+      stack = word_of (comparison_holds c (below_top m.stack) (top m.stack))
+          ∷ drop 2 m.stack;
+    }
 words_after now (Widen w) m = m
 words_after now (Jump when distance) m = m
 words_after now (Timer use_of n) m = after_timer_use now use_of n m

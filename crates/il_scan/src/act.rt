@@ -80,7 +80,8 @@ fn combine(stack: &mut OperandStack, connective: Connective)
 fn calculate(stack: &mut OperandStack, operation: ArithmeticOperation, width: Width)
     requires two { 1 < length stack.old }
     requires divisor { DividesBy operation (spec.top stack.old) }
-    ensures { stack.new ≡ computation_of operation width (spec.below_top stack.old) (spec.top stack.old)
+    ensures { stack.new ≡ computation_of operation width (spec.below_top stack.old)
+        (spec.top stack.old)
         ∷ drop 2 stack.old }
 {
     let second = stack.pop();
@@ -94,7 +95,8 @@ fn calculate(stack: &mut OperandStack, operation: ArithmeticOperation, width: Wi
 fn dispatch_calculate(stack: &mut OperandStack, operation: ArithmeticOperation, width: Width)
     requires two { 1 < length stack.old }
     requires divisor { DividesBy operation (spec.top stack.old) }
-    ensures { stack.new ≡ computation_of operation width (spec.below_top stack.old) (spec.top stack.old)
+    ensures { stack.new ≡ computation_of operation width (spec.below_top stack.old)
+        (spec.top stack.old)
         ∷ drop 2 stack.old }
 {
     match operation {

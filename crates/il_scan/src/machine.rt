@@ -9,10 +9,10 @@ ghost use Rattle.il_scan.specs.Words.{values_of};
 ghost use Rattle.il_image.specs.Tables.{slot_types};
 ghost use Rattle.il_verify.specs.Verdicts.{IsSafe};
 
-use crate::points::{Inputs, InputList, Outputs};
+use crate::points::{InputList, Inputs, Outputs};
 use crate::run::run;
 use crate::slots::{
-    PointIndices, are_inputs, first_slots, first_timers, copy_outputs, point_indices, read_inputs,
+    PointIndices, are_inputs, copy_outputs, first_slots, first_timers, point_indices, read_inputs,
     room_for_outputs,
 };
 use crate::span::Span;

@@ -73,7 +73,10 @@ pub(crate) struct PointIndices {
 }
 
 /// Returns the indices of the read-only points and of the writable points.
-pub(crate) fn point_indices(alloc: Global, points: &[ImagePoint]) -> Result<PointIndices, AllocError>
+pub(crate) fn point_indices(
+    alloc: Global,
+    points: &[ImagePoint],
+) -> Result<PointIndices, AllocError>
     ensures reads { IfOk result (λ indices. indices.reads.items ≡ read_indices 0 points.now) }
     ensures writes { IfOk result (λ indices. indices.writes.items ≡ write_indices 0 points.now) }
     ensures memory { IfErr result (λ e. 0 < length points.now) }

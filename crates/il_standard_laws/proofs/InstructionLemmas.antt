@@ -172,7 +172,8 @@ load-is names (text.variable (text.output timer what)) kind =
     along _ _ (Some kind) (output-loads what (names.meaning timer))
 
 -- what has a type is no name that is missing
-operand_fits-there : (kind : ElementaryType) (g : SourceOperand) → operand_fits kind g ≡ true → is_undeclared g ≡ false
+operand_fits-there : (kind : ElementaryType) (g : SourceOperand) → operand_fits kind g ≡ true
+    → is_undeclared g ≡ false
 operand_fits-there kind Missing e = absurd (cc)
 fits-there kind Misused e = refl
 operand_fits-there kind (Known s) e = refl
@@ -310,7 +311,8 @@ right-any r None h =
     || is_valid_on r elementary.Lint || is_valid_on r elementary.Time)) (h elementary.Bool)
 right-any r (Some kind) h = ap not (h kind)
 
-right-where : (passed : ℕ) (r : Resolved) (t : Option ElementaryType) → uses_undeclared_name r ≡ false
+right-where : (passed : ℕ) (r : Resolved) (t : Option ElementaryType)
+    → uses_undeclared_name r ≡ false
     → is_wrong r t ≡ false → is_unset r t ≡ false → jumps_back passed r ≡ false
     → jumps_to_undefined_label r ≡ false → writes_read_only r ≡ false → may_divide_by_zero r ≡ false
     → IsRight passed r t
@@ -485,7 +487,8 @@ acts names passed (text.store how place) (Some kind) u ok e =
 acts names passed (text.combine operator negated source) None u ok e =
     absurd (let k = ok.set in cc)
 acts names passed (text.combine operator negated source) (Some kind) u ok e =
-    let both = and_parts (works operator negated kind) (operand_fits kind (resolve_operand names source))
+    let both =
+    and_parts (works operator negated kind) (operand_fits kind (resolve_operand names source))
     (not-false _ ok.allowed) in (
       kind,
       (fits-is names source kind).0 both.1,

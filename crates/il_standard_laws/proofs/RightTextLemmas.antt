@@ -149,7 +149,8 @@ module _ (names : ProgramNames) (labels : Labelling) where
             (sym (carried-same k (target_of r) (label_of names a) (incoming_after_action r h.0)
             (incoming_after a h.1) label (comes-same names a h.0 ∙ ap (incoming_after a) one.1)))
             (items-back es
-            (flow_state k.passed (with_target (label_of names a) k.named) (incoming_after a h.1)) h.5),
+            (flow_state k.passed (with_target (label_of names a) k.named) (incoming_after a h.1))
+            h.5),
       )
   items-back (text.block line operator negated items end ∷ es) k h =
       let one =

@@ -108,7 +108,8 @@ number-load negated z kind (Some v) o is h e =
 
 number-case : (negated : Truth) (z : ℤ) (b : Truth) (o : SimpleOperation)
     → is_some (value_of elementary.Lint z) ≡ b
-    → typed_load negated (cond b (Number z) Misused) (load_type (cond b (Number z) Misused)) ≡ Some o
+    → typed_load negated (cond b (Number z) Misused) (load_type (cond b (Number z) Misused))
+    ≡ Some o
     → OwnLoad (text.load negated (text.constant (literal.Number z))) o
 number-case negated z true o is e =
     number-load negated z (own_type z) (typed_number (own_type z) z) o refl

@@ -130,7 +130,8 @@ IsRightAction names passed (text.store how place) t u =
     × (operand_kind names place ≡ Some target) × Stores how kind target × MayWrite names place
     × (u ≡ t)
 IsRightAction names passed (text.combine operator negated source) t u =
-    (second : ElementaryType) × CanHaveType names source second × Combines operator negated t u second
+    (second : ElementaryType) × CanHaveType names source second
+    × Combines operator negated t u second
     × MayDivide operator source
 IsRightAction names passed text.invert t u = (t ≡ Some elementary.Bool) × (u ≡ t)
 IsRightAction names passed (text.convert conversion) t u =

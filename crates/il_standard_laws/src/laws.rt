@@ -38,7 +38,8 @@ ghost use Rattle.il_standard_laws.specs.TypedText.{HasTypes};
 pub fn programs_read_and_write_by_name()
     ensures { (points : List Point) (program : text.PlainProgram) (c : Checked)
         (values : List ℕ → Value) (timers : List ℕ → TimerState) →
-        checked_of points program ≡ Ok c → AccessesByName (names_in points program) c values timers }
+        checked_of points program ≡ Ok c
+        → AccessesByName (names_in points program) c values timers }
 {}
 
 /// The checks use the language's tables. The table of an operator has a row with these types

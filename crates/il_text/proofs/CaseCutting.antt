@@ -91,10 +91,12 @@ lexemes-up [] = refl
 lexemes-up (x ∷ xs) = ap (join (up x)) (unfold lexemes in pieces-up xs) ∙ join-up x (lexemes xs)
 
 opens-up : (xs : List ℕ) → opens_comment (map up xs) ≡ opens_comment xs
-opens_comment-up xs = rw (index-up xs 0, index-up xs 1, up-eqb _ 40 (lit< tt), up-eqb _ 42 (lit< tt)) refl
+opens_comment-up xs =
+    rw (index-up xs 0, index-up xs 1, up-eqb _ 40 (lit< tt), up-eqb _ 42 (lit< tt)) refl
 
 ends-up : (xs : List ℕ) → ends_comment (map up xs) ≡ ends_comment xs
-ends_comment-up xs = rw (index-up xs 0, index-up xs 1, up-eqb _ 42 (lit< tt), up-eqb _ 41 (lit< tt)) refl
+ends_comment-up xs =
+    rw (index-up xs 0, index-up xs 1, up-eqb _ 42 (lit< tt), up-eqb _ 41 (lit< tt)) refl
 
 closes-up : (xs : List ℕ) → ends_later (map up xs) ≡ ends_later xs
 unfolding ends_later
@@ -235,7 +237,8 @@ lexeme_of-up p =
     ∙ cond-up upper_piece (is_line_end p) line_end _)
     ∙ cond-up upper_piece (is_blank (slice_index p 0)) blank _)
 
-pieces-map : (ps : List (List ℕ)) → map lexeme_of (map (map up) ps) ≡ map upper_piece (map lexeme_of ps)
+pieces-map : (ps : List (List ℕ))
+    → map lexeme_of (map (map up) ps) ≡ map upper_piece (map lexeme_of ps)
 pieces-map [] = refl
 lexemes-map (p ∷ ps) = rw (piece-up p, pieces-map ps) refl
 

@@ -255,7 +255,8 @@ call-up =
     let closed = parted-up given (nothing-up {u = same} refl) in
     behind-up _ name-up (λ t. after-up (made-up (λ x. refl) (made-up (λ p. refl) closed)))
 
-acts-up : {f g : Form Action} → Up upper_action f g → Up upper_parts (form.only_action f) (form.only_action g)
+acts-up : {f g : Form Action} → Up upper_action f g
+    → Up upper_parts (form.only_action f) (form.only_action g)
 acts-up k = made-up (λ a. refl) k
 
 parenthesis-up : (o : Operator) (n : Bool)

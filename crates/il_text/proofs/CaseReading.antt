@@ -186,7 +186,8 @@ step-up n r (parenthesis_start o g) =
 step-up n r parenthesis_end =
     rw (leave-up r, left-up n r r.parentheses)
     (reached-if (may_leave r) (after_parenthesis n r r.parentheses))
-step-up n r program_end = rw (stand-up r) (reached-if (may_follow r) (Some (at_stage stage.Finished r)))
+step-up n r program_end =
+    rw (stand-up r) (reached-if (may_follow r) (Some (at_stage stage.Finished r)))
 
 steps-up : (n : ℕ) (r : DraftData) (ps : List LineContent)
     → steps n (upper_reached r) (upper_parts ps) ≡ option_map upper_reached (steps n r ps)

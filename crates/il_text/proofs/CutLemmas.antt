@@ -151,7 +151,8 @@ not-open bs k h =
 pub not-N : (x : ℕ) (ps : List (List ℕ)) → x ≢ 38 → is_N x ps ≡ false
 not-N x ps h = rw (ne_eqb x 38 h) refl
 
-run-cut : (d : ℕ) (bs : List ℕ) (k e : ℕ) → k + suc d ≡ e → IsRun bs k e → opens_comment (drop k bs) ≡ false
+run-cut : (d : ℕ) (bs : List ℕ) (k e : ℕ) → k + suc d ≡ e → IsRun bs k e
+    → opens_comment (drop k bs) ≡ false
     → is_N (slice_index bs k) (cut_at bs (k + 1)) ≡ false → IsFirstLexeme bs k e
 run-cut zero bs k e q r o n =
     let same : e ≡ k + 1 = omega arith in
@@ -327,7 +328,8 @@ pub piece-negated : (bs : List ℕ) (s : ℕ) → s < length bs → is_negated_a
     → IsFirstLexeme bs s (s + 2)
 piece-negated bs s w h = negated-cut bs s w h
 
-pub piece-run : (bs : List ℕ) (s e : ℕ) → opens_comment (drop s bs) ≡ false → is_negated_and bs s ≡ false
+pub piece-run : (bs : List ℕ) (s e : ℕ) → opens_comment (drop s bs) ≡ false
+    → is_negated_and bs s ≡ false
     → IsRun bs s e → IsFirstLexeme bs s e
 piece-run bs s e o h r =
     run-cut (e - (s + 1)) bs s e (let a = r.after in omega arith) r o (not-negated bs s h)

@@ -23,7 +23,8 @@ abbrev pub state : Stage → List ℕ → List DeclaredName → List Entry → L
 state p name ds es fs =
     record { stage = p; name = name; declarations = ds; items = es; parentheses = fs }
 
-pub run-step : (n : ℕ) (r s : DraftData) (p : LineContent) (ps : List Numbered) → step n r p ≡ Some s
+pub run-step : (n : ℕ) (r s : DraftData) (p : LineContent) (ps : List Numbered)
+    → step n r p ≡ Some s
     → run r ((n, p) ∷ ps) ≡ run s ps
 run-step n r s p ps e = rw e refl
 
@@ -45,7 +46,8 @@ label-step : (n : ℕ) (l name : List ℕ) (p : Stage) (ds : List DeclaredName) 
 unfolding step may_follow
 label-step n l name p ds is b = rw b refl
 
-act-step : (n : ℕ) (a : Action) (name : List ℕ) (p : Stage) (ds : List DeclaredName) (is : List Entry)
+act-step : (n : ℕ) (a : Action) (name : List ℕ) (p : Stage) (ds : List DeclaredName)
+    (is : List Entry)
     → is_body p ≡ true
     → step n (state p name ds is []) (action_part a)
     ≡ Some (state stage.Body name ds (is ++ action n a ∷ []) [])
@@ -66,7 +68,8 @@ abbrev opened_by : ℕ → Operator → Bool → List Entry → Parenthesis
 opened_by n o g is = record { line = n; operator = o; negated = g; outer = is }
 
 enter-step : (n : ℕ) (o : Operator) (g : Bool) (name : List ℕ) (p : Stage) (ds : List DeclaredName)
-    (is : List Entry) (fs : List Parenthesis) → is_body p ≡ true → is_outside fs || has_entries is ≡ true
+    (is : List Entry) (fs : List Parenthesis) → is_body p ≡ true
+    → is_outside fs || has_entries is ≡ true
     → step n (state p name ds is fs) (parenthesis_start o g)
     ≡ Some (state stage.Body name ds [] (opened_by n o g is ∷ fs))
 unfolding step may_enter
@@ -85,7 +88,8 @@ block-runs : (n m : ℕ) (o : Operator) (g : Bool) (es : Entries) (name : List �
     → is_body p ≡ true → is_outside fs || has_entries is ≡ true → is_parenthesis es ≡ true
     → run (state stage.Body name ds [] (opened_by n o g is ∷ fs))
     (entries_parts es ++ (m, parenthesis_end) ∷ ps)
-    ≡ run (state stage.Body name ds (list_of es) (opened_by n o g is ∷ fs)) ((m, parenthesis_end) ∷ ps)
+    ≡ run (state stage.Body name ds (list_of es) (opened_by n o g is ∷ fs))
+    ((m, parenthesis_end) ∷ ps)
     → run (state p name ds is fs) (entry_parts (block n o g es m) ++ ps)
     ≡ run (state stage.Body name ds (is ++ block n o g es m ∷ []) fs) ps
 block-runs n m o g no_entries name p ds is fs ps b k i h = absurd (false≢true i)
@@ -123,7 +127,8 @@ parenthesis-starts (entry e es) h = and_parts (is_first e) (is_inner e && all_in
 mutual
   -- an entry of a parenthesis
   entry-inside : (e : Entry) (name : List ℕ) (ds : List DeclaredName) (is : List Entry)
-      (fs : List Parenthesis) (ps : List Numbered) → is_inner e ≡ true → has_entries is || is_first e ≡ true
+      (fs : List Parenthesis) (ps : List Numbered) → is_inner e ≡ true
+      → has_entries is || is_first e ≡ true
       → run (state stage.Body name ds is fs) (entry_parts e ++ ps)
       ≡ run (state stage.Body name ds (is ++ e ∷ []) fs) ps
   entry-inside (label n l) name ds is fs ps i k = absurd (false≢true i)
@@ -138,7 +143,8 @@ mutual
       (entries-inside es name ds [] (opened_by n o g is ∷ fs) ((m, parenthesis_end) ∷ ps) s.1 s.0)
 
   entries-inside : (es : Entries) (name : List ℕ) (ds : List DeclaredName) (is : List Entry)
-      (fs : List Parenthesis) (ps : List Numbered) → all_inner es ≡ true → has_entries is || starts es ≡ true
+      (fs : List Parenthesis) (ps : List Numbered) → all_inner es ≡ true
+      → has_entries is || starts es ≡ true
       → run (state stage.Body name ds is fs) (entries_parts es ++ ps)
       ≡ run (state stage.Body name ds (is ++ list_of es) fs) ps
   entries-inside no_entries name ds is fs ps i k =
@@ -252,7 +258,8 @@ blocks-run : (bs : List Block) (name : List ℕ) (ds : List DeclaredName) (ps : 
     → run (state stage.Declarations name ds [] []) (flat_map block_parts bs ++ ps)
     ≡ run (state stage.Declarations name (ds ++ flat_map block_declared bs) [] []) ps
 blocks-run [] name ds ps h =
-    ap (λ (x : List DeclaredName). run (state stage.Declarations name x [] []) ps) (sym (append-nil ds))
+    ap (λ (x : List DeclaredName). run (state stage.Declarations name x [] []) ps)
+    (sym (append-nil ds))
 blocks-run (b ∷ bs) name ds ps h =
     let a = and_parts (is_allowed b) (list_all is_allowed bs) h in
     ap (run (state stage.Declarations name ds [] []))
@@ -289,4 +296,5 @@ derived-runs ps p d =
     ∙ k.2
     ∙ run-step d.end (state k.0 p.name ds p.items []) (state stage.Finished p.name ds p.items [])
     program_end [] (ending-step d.end p.name k.0 ds p.items k.1)
-    ∙ ap (λ (x : List DeclaredName). Some (state stage.Finished p.name x p.items [])) (sym d.declared)
+    ∙ ap (λ (x : List DeclaredName). Some (state stage.Finished p.name x p.items []))
+    (sym d.declared)

@@ -34,7 +34,8 @@ Below above (u ∷ us) = (unit_ms u < above) × Below (unit_ms u) us
 -- parts of units below this one, which may stand behind others
 abbrev Parts : Bool → ℕ → List DurationPart → Type 0
 Parts behind above [] = ⊤
-Parts behind above (p ∷ ps) = IsPart behind p × (unit_ms p.unit < above) × UnitsFall (unit_ms p.unit) ps
+Parts behind above (p ∷ ps) =
+    IsPart behind p × (unit_ms p.unit < above) × UnitsFall (unit_ms p.unit) ps
 
 record Taken (u : Unit) (d e : Duration) : Type 0 where
   p : DurationPart
@@ -118,7 +119,8 @@ joined u above d m e h t r = record {
   fall = (
     t.is,
     rw t.of h,
-    rw t.of (to-fall (unit_ms u) r.ps (subst (λ (b : Bool). Parts b (unit_ms u) r.ps) t.begun r.fall)),
+    rw t.of (to-fall (unit_ms u) r.ps
+        (subst (λ (b : Bool). Parts b (unit_ms u) r.ps) t.begun r.fall)),
   );
   spelled =
       t.spelled ∙ ap (λ (w : List ℕ). part_octets t.p ++ w) r.spelled
@@ -276,7 +278,8 @@ in-upper name u h = (bytes_eq-Decides (map up name) (map up (unit_letters u))).0
 by-letters : (p : ℕ → Bool) → ((x : ℕ) → p (up x) ≡ p x) → (name : List ℕ) (u : Unit)
     → same_name name (unit_letters u) ≡ true → prefix_len p name ≡ prefix_len p (unit_letters u)
 by-letters p f name u h =
-    sym (prefix-up p f name) ∙ ap (prefix_len p) (in-upper name u h) ∙ prefix-up p f (unit_letters u)
+    sym (prefix-up p f name) ∙ ap (prefix_len p) (in-upper name u h)
+    ∙ prefix-up p f (unit_letters u)
 
 as-long : (name : List ℕ) (u : Unit) → same_name name (unit_letters u) ≡ true
     → length name ≡ length (unit_letters u)
@@ -392,12 +395,14 @@ other-if u v name true h l k =
     sym (size_of u) ∙ ap measured (sym (in-upper name u h) ∙ in-upper name v k) ∙ size_of v in
     absurd (omega (arith, e, l))
 
-other-unit : (u v : Unit) (name : List ℕ) → same_name name (unit_letters u) ≡ true → unit_ms u < unit_ms v
+other-unit : (u v : Unit) (name : List ℕ) → same_name name (unit_letters u) ≡ true
+    → unit_ms u < unit_ms v
     → same_name name (unit_letters v) ≡ false
 other-unit u v name h l = other-if u v name _ h l refl
 
 left-other : (u : Unit) (d : Duration) (p : DurationPart) (w : List ℕ) → IsPart d.begun p
-    → unit_ms p.unit < unit_ms u → d.rest ≡ part_octets p ++ w → prefix_len is_ascii_alphabetic w ≡ 0
+    → unit_ms p.unit < unit_ms u → d.rest ≡ part_octets p ++ w
+    → prefix_len is_ascii_alphabetic w ≡ 0
     → part (unit_letters u) (unit_ms u) d ≡ Some d
 left-other u d p w is l e z =
     left u d (rw (part-cuts d.begun p w d.rest is e z).1 (other-unit p.unit u p.name is.named l))
@@ -405,7 +410,8 @@ left-other u d p w is l e z =
 -- the units below a bound are these
 abbrev Covers : ℕ → List Unit → Type 0
 Covers above [] = (v : Unit) → unit_ms v < above → ⊥
-Covers above (u ∷ us) = ((v : Unit) → unit_ms v < above → unit_ms v ≤ unit_ms u) × Covers (unit_ms u) us
+Covers above (u ∷ us) =
+    ((v : Unit) → unit_ms v < above → unit_ms v ≤ unit_ms u) × Covers (unit_ms u) us
 
 five : (v : Unit) → (unit_ms v ≡ 86400000)
     ⊎ ((unit_ms v ≡ 3600000) ⊎ ((unit_ms v ≡ 60000) ⊎ ((unit_ms v ≡ 1000) ⊎ (unit_ms v ≡ 1))))
@@ -457,7 +463,8 @@ nothing-left d e =
     (ap (λ (w : List ℕ). Some (record { rest = w; total = d.total; begun = d.begun })) e)
 
 abbrev behind_it : Duration → DurationPart → List DurationPart → Duration
-behind_it d p ps = record { rest = flat_map part_octets ps; total = d.total + part_ms p; begun = true }
+behind_it d p ps =
+    record { rest = flat_map part_octets ps; total = d.total + part_ms p; begun = true }
 
 added : (d : Duration) (p : DurationPart) (ps : List DurationPart)
     → Some (after (behind_it d p ps) ps) ≡ Some (after d (p ∷ ps))
@@ -467,7 +474,8 @@ added d p ps =
     rw (or-true d.begun) (ap (λ (n : ℕ). Some (record { rest = []; total = n; begun = true })) t)
 
 passes : (us : List Unit) (above : ℕ) (d : Duration) (ps : List DurationPart) → Covers above us
-    → Parts d.begun above ps → d.rest ≡ flat_map part_octets ps → run us (Some d) ≡ Some (after d ps)
+    → Parts d.begun above ps → d.rest ≡ flat_map part_octets ps
+    → run us (Some d) ≡ Some (after d ps)
 passes [] above d [] c f e = nothing-left d e
 passes [] above d (p ∷ ps) c f e = absurd (c p.unit f.1)
 passes (u ∷ us) above d [] c f e =

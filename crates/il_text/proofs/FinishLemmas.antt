@@ -26,7 +26,8 @@ end-now p name ds is b = (
   refl,
 )
 
-leaves : (name : List ℕ) (ds : List DeclaredName) (is : List Entry) (f : Parenthesis) (fs : List Parenthesis)
+leaves : (name : List ℕ) (ds : List DeclaredName) (is : List Entry) (f : Parenthesis)
+    (fs : List Parenthesis)
     → has_entries is ≡ true
     → step 0 (state stage.Body name ds is (f ∷ fs)) parenthesis_end
     ≡ Some (state stage.Body name ds
@@ -43,13 +44,15 @@ end-closing (f ∷ fs) name ds is h =
       (0, parenthesis_end) ∷ k.0,
       k.1,
       run-step 0 (state stage.Body name ds is (f ∷ fs))
-          (state stage.Body name ds (f.outer ++ e ∷ []) fs) parenthesis_end k.0 (leaves name ds is f fs h)
+          (state stage.Body name ds (f.outer ++ e ∷ []) fs) parenthesis_end k.0
+          (leaves name ds is f fs h)
           ∙ k.2,
       k.3,
     )
 
 loads : (name : List ℕ) (ds : List DeclaredName) (f : Parenthesis) (fs : List Parenthesis)
-    → step 0 (state stage.Body name ds [] (f ∷ fs)) (action_part (load false (constant (Truth true))))
+    → step 0 (state stage.Body name ds [] (f ∷ fs))
+    (action_part (load false (constant (Truth true))))
     ≡ Some (state stage.Body name ds (action 0 (load false (constant (Truth true))) ∷ [])
     (f ∷ fs))
 unfolding step may_have_instruction
@@ -108,7 +111,8 @@ end-at ps r stage.Start e x =
     (sym x.outside) (end-start r.name r.declarations r.items))
 end-at ps r stage.Declarations e x =
     subst (λ (q : Stage). Ended (state q r.name r.declarations r.items r.parentheses)) e
-    (subst (λ (fs : List Parenthesis). Ended (state stage.Declarations r.name r.declarations r.items fs))
+    (subst (λ (fs : List Parenthesis). Ended
+    (state stage.Declarations r.name r.declarations r.items fs))
     (sym x.outside) (end-now stage.Declarations r.name r.declarations r.items refl))
 end-at ps r (stage.Block scope) e x =
     subst (λ (q : Stage). Ended (state q r.name r.declarations r.items r.parentheses)) e
@@ -129,7 +133,8 @@ pub ended-derives : (ps : List Numbered) (s : DraftData) → run empty_draft ps 
     → s.stage ≡ stage.Finished → Derives ps (draft_program s)
 ended-derives ps s e f = subst (λ (p : Stage). ReachesAt ps s p) f (reached-from ps s e)
 
-pub is_prefix : (ps : List Numbered) (r : DraftData) → run empty_draft ps ≡ Some r → IsProgramPrefix ps
+pub is_prefix : (ps : List Numbered) (r : DraftData) → run empty_draft ps ≡ Some r
+    → IsProgramPrefix ps
 is_prefix ps r e =
     let x = reached-from ps r e in
     let k = end-at ps r r.stage refl x in

@@ -254,7 +254,8 @@ closing-taken n scope ps r a =
         parts =
             ap (λ (l : List Numbered). l ++ (n, block_end) ∷ []) a.parts
             ∙ append_assoc (front a.first r.name a.blocks)
-            ((a.line, block_start scope) ∷ map declaration_part a.declarations) ((n, block_end) ∷ [])
+            ((a.line, block_start scope) ∷ map declaration_part a.declarations)
+            ((n, block_end) ∷ [])
             ∙ ap (λ (l : List Numbered). (a.first, program_start r.name) ∷ l)
             (sym (flat-one block_parts a.blocks b))
             ∙ sym (append-nil (front a.first r.name (a.blocks ++ b ∷ [])))
@@ -296,7 +297,8 @@ or-first : (b : Bool) (n : ℕ) (a : Action) → b || is_load a ≡ true
 or-first true n a h = refl
 or-first false n a h = first-load n a h
 
-right-action : (n : ℕ) (a : Action) (fs : List Parenthesis) (es : List Entry) → items_right fs es ≡ true
+right-action : (n : ℕ) (a : Action) (fs : List Parenthesis) (es : List Entry)
+    → items_right fs es ≡ true
     → is_outside fs || (is_plain a && (has_entries es || is_load a)) ≡ true
     → items_right fs (es ++ action n a ∷ []) ≡ true
 right-action n a [] es h k = all-more is_outer es (action n a) h refl
@@ -304,7 +306,8 @@ right-action n a (f ∷ fs) es h k =
     let p = and_parts (is_plain a) (has_entries es || is_load a) k in
     right-inner f fs es (action n a) h p.0 (or-first (has_entries es) n a p.1)
 
-entering-taken : (n : ℕ) (o : Operator) (g : Bool) (ps : List Numbered) (r : DraftData) → InBody ps r
+entering-taken : (n : ℕ) (o : Operator) (g : Bool) (ps : List Numbered) (r : DraftData)
+    → InBody ps r
     → is_outside r.parentheses || has_entries r.items ≡ true
     → InBody (ps ++ (n, parenthesis_start o g) ∷ []) (with_opened n o g r)
 entering-taken n o g ps r b k = record {
@@ -312,7 +315,8 @@ entering-taken n o g ps r b k = record {
   blocks = b.blocks;
   parts =
       ap (λ (l : List Numbered). l ++ (n, parenthesis_start o g) ∷ []) b.parts
-      ∙ append_assoc (front b.first r.name b.blocks) (body_parts r) ((n, parenthesis_start o g) ∷ [])
+      ∙ append_assoc (front b.first r.name b.blocks) (body_parts r)
+      ((n, parenthesis_start o g) ∷ [])
       ∙ ap (λ (l : List Numbered). front b.first r.name b.blocks ++ l)
       (append_assoc (opened_parts r.parentheses) (flat_map entry_parts r.items)
       ((n, parenthesis_start o g) ∷ []) ∙ sym (append-nil _));
@@ -343,7 +347,8 @@ parenthesis-is (e ∷ es) s h k =
 
 right-block : (n m : ℕ) (o : Operator) (g : Bool) (inner : Entries) (fs : List Parenthesis)
     (es : List Entry) → is_parenthesis inner ≡ true → items_right fs es ≡ true
-    → is_outside fs || has_entries es ≡ true → items_right fs (es ++ block n o g inner m ∷ []) ≡ true
+    → is_outside fs || has_entries es ≡ true
+    → items_right fs (es ++ block n o g inner m ∷ []) ≡ true
 right-block n m o g inner [] es i h k = all-more is_outer es (block n o g inner m) h i
 right-block n m o g inner (f ∷ fs) es i h k =
     right-inner f fs es (block n o g inner m) h i (or-false (has_entries es) k)
@@ -357,7 +362,8 @@ leaving-parts n f fs es =
     rw (flat-one entry_parts f.outer e, entries-flat es)
     (simp append_assoc refl)
 
-leaving-taken : (n : ℕ) (f : Parenthesis) (fs : List Parenthesis) (ps : List Numbered) (r : DraftData)
+leaving-taken : (n : ℕ) (f : Parenthesis) (fs : List Parenthesis) (ps : List Numbered)
+    (r : DraftData)
     → InBody ps r → r.parentheses ≡ f ∷ fs → has_entries r.items ≡ true
     → InBody (ps ++ (n, parenthesis_end) ∷ []) (with_closed n r f fs)
 leaving-taken n f fs ps r b q k =
@@ -423,7 +429,8 @@ pub closed-some : (r s : DraftData) (o : Option VariableScope) → closed_block 
 closed-some r s None e = cc
 closed-some r s (Some scope) e = (scope, refl, cc)
 
-pub left-some : (n : ℕ) (r s : DraftData) (fs : List Parenthesis) → after_parenthesis n r fs ≡ Some s
+pub left-some : (n : ℕ) (r s : DraftData) (fs : List Parenthesis)
+    → after_parenthesis n r fs ≡ Some s
     → (f : Parenthesis) × (gs : List Parenthesis) × (fs ≡ f ∷ gs) × (with_closed n r f gs ≡ s)
 left-some n r s [] e = cc
 left-some n r s (f ∷ fs) e = (f, fs, refl, cc)
@@ -484,7 +491,8 @@ step-reaches n ps r s (parenthesis_start o g) x e =
     subst (λ (t : DraftData). Reaches (ps ++ (n, parenthesis_start o g) ∷ []) t) c.1
     (entering-taken n o g ps r (body-at ps r r.stage h.0 x) h.1)
 step-reaches n ps r s parenthesis_end x e =
-    let c = cond-left (is_body r.stage && has_entries r.items) (after_parenthesis n r r.parentheses) s e in
+    let c = cond-left (is_body r.stage && has_entries r.items) (after_parenthesis n r r.parentheses)
+    s e in
     let h = and_parts (is_body r.stage) (has_entries r.items) c.0 in
     let l = left-some n r s r.parentheses c.1 in
     subst (λ (t : DraftData). Reaches (ps ++ (n, parenthesis_end) ∷ []) t) l.3

@@ -55,7 +55,8 @@ parts-lf : (u v : List ℕ) → ends_with_cr u ≡ false
 unfolding lexemes
 parts-lf [] v h = unfold lexemes in first-lf v
 parts-lf (x ∷ []) v h =
-    ap (join x) (unfold lexemes in first-lf v) ∙ join-before x (10 ∷ []) [] (lexemes v) (joins-lf x h)
+    ap (join x) (unfold lexemes in first-lf v)
+    ∙ join-before x (10 ∷ []) [] (lexemes v) (joins-lf x h)
 parts-lf (x ∷ y ∷ u) v h =
     ap (join x) (unfold lexemes in parts-lf (y ∷ u) v h)
     ∙ join-twice x y (10 ∷ []) (lexemes u) (lexemes v)

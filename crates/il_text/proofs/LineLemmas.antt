@@ -75,7 +75,8 @@ symbolic_variable-exact =
 operand-exact : Exact operand
 unfolding operand symbolic_variable
 operand-exact =
-    either-exact (made-exact _ (one-exact _)) (made-exact _ (unfold symbolic_variable in place-exact))
+    either-exact (made-exact _ (one-exact _))
+    (made-exact _ (unfold symbolic_variable in place-exact))
     (λ ts x s. elim s.1 [
       | inl here ↦ rw (here.1.1, name-no-literal here.1.0 here.0 here.1.2) refl
       | inr other ↦ rw (other.3, other.5.1) refl

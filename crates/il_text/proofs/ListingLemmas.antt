@@ -51,14 +51,16 @@ view-block line operator negated items end = search (rules, the_lemmas)
 
 -- the open parentheses with one more
 pub opened-more : (os : List Open) (o : Open)
-    → reverse (map parenthesis_of (os ++ o ∷ [])) ≡ parenthesis_of o ∷ reverse (map parenthesis_of os)
+    → reverse (map parenthesis_of (os ++ o ∷ []))
+    ≡ parenthesis_of o ∷ reverse (map parenthesis_of os)
 opened-more os o = simp (map-append, reverse-append) refl
 
 outside-len : (fs : List Parenthesis) → 0 < length fs → is_outside fs ≡ false
 outside-len [] h = absurd (omega (arith, h))
 outside-len (f ∷ fs) h = refl
 
-pub outside-none : (os : List Open) → length os ≡ 0 → is_outside (reverse (map parenthesis_of os)) ≡ true
+pub outside-none : (os : List Open) → length os ≡ 0
+    → is_outside (reverse (map parenthesis_of os)) ≡ true
 outside-none [] h = refl
 outside-none (o ∷ os) h = absurd (omega (arith, h))
 
@@ -83,7 +85,8 @@ name-before : (f : List ℕ → DeclaredName) (before : List DeclaredName) (n : 
 name-before f before n None = refl
 name-before f before n (Some ns) = ap Some (sym (append_assoc before (f n ∷ []) (map f ns)))
 
-pub at-name : (line : ℕ) (scope : VariableScope) (tail : Tail) (before : List DeclaredName) (s : Symbol)
+pub at-name : (line : ℕ) (scope : VariableScope) (tail : Tail) (before : List DeclaredName)
+    (s : Symbol)
     (n : List ℕ) → name_of s ≡ Some n → (ss : List Symbol)
     → declared_from line scope tail before false (s ∷ ss)
     ≡ declared_from line scope tail
@@ -148,7 +151,8 @@ pub steps-more : (n : ℕ) (r s : DraftData) (p : LineContent) (ps : List LineCo
 unfolding steps
 steps-more n r s p ps e = rw e refl
 
-pub steps-none : (n : ℕ) (r : DraftData) (p : LineContent) (ps : List LineContent) → step n r p ≡ None
+pub steps-none : (n : ℕ) (r : DraftData) (p : LineContent) (ps : List LineContent)
+    → step n r p ≡ None
     → steps n r (p ∷ ps) ≡ None
 unfolding steps
 steps-none n r p ps e = rw e refl
@@ -168,7 +172,8 @@ with_listed r ds =
 
 declared-with : (line : ℕ) (r : DraftData) (scope : VariableScope) (t : Tail)
     (o : Option (List (List ℕ)))
-    (ds : List DeclaredName) → block_scope r.stage ≡ Some scope → may_begin_with scope t.initial ≡ true
+    (ds : List DeclaredName) → block_scope r.stage ≡ Some scope
+    → may_begin_with scope t.initial ≡ true
     → option_map (λ ns. r.declarations ++ map (declared_in line scope t.kind t.initial) ns) o
     ≡ Some ds
     → option_and_then (steps line r) (option_map (λ ns. names_part ns t.kind t.initial ∷ []) o)
@@ -185,13 +190,15 @@ declared-with line r scope t (Some ns) ds p b e =
     ∙ ap (λ (x : List DeclaredName). Some (with_listed r x)) d
 
 pub declared-ok : (line : ℕ) (r : DraftData) (scope : VariableScope) (t : Tail) (ss : List Symbol)
-    (ds : List DeclaredName) → block_scope r.stage ≡ Some scope → may_begin_with scope t.initial ≡ true
+    (ds : List DeclaredName) → block_scope r.stage ≡ Some scope
+    → may_begin_with scope t.initial ≡ true
     → declared_from line scope t r.declarations false ss ≡ Some ds
     → option_and_then (steps line r) (declared_names t ss) ≡ Some (with_listed r ds)
 unfolding declared_from
 declared-ok line r scope t ss ds p b e = declared-with line r scope t (names_from false ss) ds p b e
 
-none-with : (line : ℕ) (r : DraftData) (scope : VariableScope) (t : Tail) (o : Option (List (List ℕ)))
+none-with : (line : ℕ) (r : DraftData) (scope : VariableScope) (t : Tail)
+    (o : Option (List (List ℕ)))
     → option_map (λ ns. r.declarations ++ map (declared_in line scope t.kind t.initial) ns) o ≡ None
     → option_and_then (steps line r) (option_map (λ ns. names_part ns t.kind t.initial ∷ []) o)
     ≡ None
@@ -227,7 +234,8 @@ blank_line line last r [] h = refl
 blank_line line last r (t ∷ ts) h = absurd (omega (arith, h))
 
 -- a line whose parts are taken
-taken-parts : (line last : ℕ) (r : Progress) (o : Option (List LineContent)) (s : DraftData) (b : Bool)
+taken-parts : (line last : ℕ) (r : Progress) (o : Option (List LineContent)) (s : DraftData)
+    (b : Bool)
     → ((ps : List LineContent) → o ≡ Some ps → b ≡ has_instruction ps)
     → option_and_then (steps line r.draft) o ≡ Some s
     → after_parts line last r o

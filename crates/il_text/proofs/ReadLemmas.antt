@@ -73,7 +73,8 @@ unfolding read_on lines
 read-blank last r n ss ps =
     ap (program_of_lines last r n) (lines-onto ss (blank ∷ ps) ∙ sym (lines-onto ss ps))
 
-read-token : (last : ℕ) (r : Progress) (n : ℕ) (ss : List Symbol) (s : Symbol) (ps : List LexemeData)
+read-token : (last : ℕ) (r : Progress) (n : ℕ) (ss : List Symbol) (s : Symbol)
+    (ps : List LexemeData)
     → read_on last r n ss (token s ∷ ps) ≡ read_on last r n (ss ++ s ∷ []) ps
 unfolding read_on lines
 read-token last r n ss s ps =
@@ -113,7 +114,8 @@ unfolding program_of_lines
 bad-lines last r n ss [] = rw (onto-line ss (bad_token ∷ []) [], tokens-bad n ss []) refl
 bad-lines last r n ss (l ∷ ls) = rw (onto-line ss (bad_token ∷ l) ls, tokens-bad n ss l) refl
 
-bad-literal-lines : (last : ℕ) (r : Progress) (n : ℕ) (ss : List Symbol) (ls : List (List LexemeData))
+bad-literal-lines : (last : ℕ) (r : Progress) (n : ℕ) (ss : List Symbol)
+    (ls : List (List LexemeData))
     → program_of_lines last r n (onto_all ss (prepend_lexeme bad_literal ls)) ≡ Err (BadLiteral n)
 unfolding program_of_lines
 bad-literal-lines last r n ss [] =
@@ -137,7 +139,8 @@ read-bad-literal last r n ss ps =
 
 -- the first piece from a place on
 cut-piece : (bs : List ℕ) (s e : ℕ) → IsFirstLexeme bs s e
-    → text_lexemes false (drop s bs) ≡ lexeme_of (slice_range bs s e) ∷ text_lexemes false (drop e bs)
+    → text_lexemes false (drop s bs)
+    ≡ lexeme_of (slice_range bs s e) ∷ text_lexemes false (drop e bs)
 unfolding text_lexemes
 cut-piece bs s e h = ap (map lexeme_of) h
 
@@ -157,7 +160,8 @@ alone-unclosed : Alone 256
 unfolding are_linked
 alone-unclosed y = simp and-false refl
 
-pub pieces-alone : (x : ℕ) (xs : List ℕ) → Alone x → x ≢ 38 → lexemes (x ∷ xs) ≡ (x ∷ []) ∷ lexemes xs
+pub pieces-alone : (x : ℕ) (xs : List ℕ) → Alone x → x ≢ 38
+    → lexemes (x ∷ xs) ≡ (x ∷ []) ∷ lexemes xs
 unfolding lexemes
 lexemes-alone x xs a n = join-alone x (lexemes xs) (a _) (not-N x (lexemes xs) n)
 
@@ -191,12 +195,14 @@ space-first xs =
     cut-first 32 xs alone-space (λ e. absurd (omega (arith, e)))
     ∙ ap (λ (p : LexemeData). p ∷ map lexeme_of (lexemes xs)) space-piece
 
-end-first : (xs : List ℕ) → map lexeme_of (lexemes (10 ∷ xs)) ≡ line_end ∷ map lexeme_of (lexemes xs)
+end-first : (xs : List ℕ)
+    → map lexeme_of (lexemes (10 ∷ xs)) ≡ line_end ∷ map lexeme_of (lexemes xs)
 end-first xs =
     cut-first 10 xs alone-line_end (λ e. absurd (omega (arith, e)))
     ∙ ap (λ (p : LexemeData). p ∷ map lexeme_of (lexemes xs)) end-piece
 
-unclosed-first : (xs : List ℕ) → map lexeme_of (lexemes (256 ∷ xs)) ≡ bad_token ∷ map lexeme_of (lexemes xs)
+unclosed-first : (xs : List ℕ)
+    → map lexeme_of (lexemes (256 ∷ xs)) ≡ bad_token ∷ map lexeme_of (lexemes xs)
 unclosed-first xs =
     cut-first 256 xs alone-unclosed (λ e. absurd (omega (arith, e)))
     ∙ ap (λ (p : LexemeData). p ∷ map lexeme_of (lexemes xs)) unclosed-piece
@@ -249,23 +255,28 @@ ends_comment-within bs s h =
     ∙ eqb-true _ _ (and-right (eqb (slice_index (drop s bs) 0) 42) _ h) in
     within-of bs (s + 1) (λ e. absurd (omega (arith, e, close)))
 
-cut-opening : (bs : List ℕ) (s : ℕ) → opens_comment (drop s bs) ≡ true → ends_later (drop (s + 2) bs) ≡ true
+cut-opening : (bs : List ℕ) (s : ℕ) → opens_comment (drop s bs) ≡ true
+    → ends_later (drop (s + 2) bs) ≡ true
     → text_lexemes false (drop s bs) ≡ blank ∷ blank ∷ text_lexemes true (drop (s + 2) bs)
 cut-opening bs s h k =
     let t = two-of bs s (opens-within bs s h) in
-    ap (text_lexemes false) t ∙ opening-cons _ _ _ (subst (λ (l : List ℕ). opens_comment l ≡ true) t h) k
+    ap (text_lexemes false) t
+    ∙ opening-cons _ _ _ (subst (λ (l : List ℕ). opens_comment l ≡ true) t h) k
 
-cut-unclosed : (bs : List ℕ) (s : ℕ) → opens_comment (drop s bs) ≡ true → ends_later (drop (s + 2) bs) ≡ false
+cut-unclosed : (bs : List ℕ) (s : ℕ) → opens_comment (drop s bs) ≡ true
+    → ends_later (drop (s + 2) bs) ≡ false
     → text_lexemes false (drop s bs) ≡ bad_token ∷ blank ∷ text_lexemes true (drop (s + 2) bs)
 cut-unclosed bs s h k =
     let t = two-of bs s (opens-within bs s h) in
-    ap (text_lexemes false) t ∙ unclosed-cons _ _ _ (subst (λ (l : List ℕ). opens_comment l ≡ true) t h) k
+    ap (text_lexemes false) t
+    ∙ unclosed-cons _ _ _ (subst (λ (l : List ℕ). opens_comment l ≡ true) t h) k
 
 cut-closing : (bs : List ℕ) (s : ℕ) → ends_comment (drop s bs) ≡ true
     → text_lexemes true (drop s bs) ≡ blank ∷ blank ∷ text_lexemes false (drop (s + 2) bs)
 cut-closing bs s h =
     let t = two-of bs s (ends-within bs s h) in
-    ap (text_lexemes true) t ∙ closing-cons _ _ _ (subst (λ (l : List ℕ). ends_comment l ≡ true) t h)
+    ap (text_lexemes true) t
+    ∙ closing-cons _ _ _ (subst (λ (l : List ℕ). ends_comment l ≡ true) t h)
 
 cut-inside-end : (bs : List ℕ) (s : ℕ) → s < length bs → ends_comment (drop s bs) ≡ false
     → slice_index bs s ≡ 10 → text_lexemes true (drop s bs)
@@ -275,10 +286,12 @@ cut-inside-end bs s w h e =
     ap (text_lexemes true) t ∙ inside-end _ _ (subst (λ (l : List ℕ). ends_comment l ≡ false) t h) e
 
 cut-inside-other : (bs : List ℕ) (s : ℕ) → s < length bs → ends_comment (drop s bs) ≡ false
-    → slice_index bs s ≢ 10 → text_lexemes true (drop s bs) ≡ blank ∷ text_lexemes true (drop (s + 1) bs)
+    → slice_index bs s ≢ 10 → text_lexemes true (drop s bs)
+    ≡ blank ∷ text_lexemes true (drop (s + 1) bs)
 cut-inside-other bs s w h e =
     let t = front_of bs s w in
-    ap (text_lexemes true) t ∙ inside-other _ _ (subst (λ (l : List ℕ). ends_comment l ≡ false) t h) e
+    ap (text_lexemes true) t
+    ∙ inside-other _ _ (subst (λ (l : List ℕ). ends_comment l ≡ false) t h) e
 
 -- what the code's steps keep, in the words of the reader
 
@@ -427,7 +440,8 @@ hopeless-lines last r n ss s (l ∷ ls) h =
     ∙ ap (program_of_lines last r n) (sym (onto-line ss l ls))
 
 -- a token behind such tokens makes no difference
-read-dropped : (last : ℕ) (r : Progress) (n : ℕ) (ss : List Symbol) (s : Symbol) (ps : List LexemeData)
+read-dropped : (last : ℕ) (r : Progress) (n : ℕ) (ss : List Symbol) (s : Symbol)
+    (ps : List LexemeData)
     → begins_no_line ss ≡ true → read_on last r n ss (token s ∷ ps) ≡ read_on last r n ss ps
 unfolding read_on
 read-dropped last r n ss s ps h =
@@ -437,7 +451,8 @@ read-dropped last r n ss s ps h =
     ∙ sym (ap (program_of_lines last r n) (lines-onto ss ps))
 
 pub step-dropped : (last : ℕ) (r : Progress) (n : ℕ) (ss : List Symbol) (bs : List ℕ) (s e : ℕ)
-    (t : Symbol) → begins_no_line ss ≡ true → IsFirstLexeme bs s e → lexeme_of (slice_range bs s e) ≡ token t
+    (t : Symbol) → begins_no_line ss ≡ true → IsFirstLexeme bs s e
+    → lexeme_of (slice_range bs s e) ≡ token t
     → read_on last r n ss (text_lexemes false (drop s bs))
     ≡ read_on last r n ss (text_lexemes false (drop e bs))
 step-dropped last r n ss bs s e t d h k =
@@ -502,14 +517,16 @@ pub ruleset opening_rules = (step-opening, step-unclosed, opens-within)
 
 pub ruleset comment_rules = (step-closing, step-inside, step-inside-end, ends-within)
 
-pub step-ended : (last : ℕ) (r : Progress) (n : ℕ) (ss : List Symbol) (bs : List ℕ) (b : Bool) (s e : ℕ)
+pub step-ended : (last : ℕ) (r : Progress) (n : ℕ) (ss : List Symbol) (bs : List ℕ) (b : Bool)
+    (s e : ℕ)
     → b ≡ false → IsFirstLexeme bs s e → line_end ≡ lexeme_of (slice_range bs s e)
     → read_on last r n ss (text_lexemes b (drop s bs))
     ≡ (after_line n last r ss >>= (λ q. read_on last q (n + 1) [] (text_lexemes b (drop e bs))))
 step-ended last r n ss bs b s e f h k =
     rw f (step-line-end last r n ss bs s e h (sym k))
 
-pub program-start : (text : List ℕ) (last : ℕ) (r : Progress) → last ≡ last_line text → r ≡ no_progress
+pub program-start : (text : List ℕ) (last : ℕ) (r : Progress) → last ≡ last_line text
+    → r ≡ no_progress
     → read_on last r 1 [] (text_lexemes false (drop 0 text)) ≡ program_of text
 unfolding read_on program_of
 program-start text last r e f = rw (e, f) refl

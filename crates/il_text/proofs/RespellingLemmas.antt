@@ -24,7 +24,8 @@ or-cases : (a b : Bool) → a || b ≡ true → (a ≡ true) ⊎ (b ≡ true)
 or-cases true b h = inl refl
 or-cases false b h = inr h
 
-ends-more : (x : ℕ) (xs t : List ℕ) → ends_comment (x ∷ xs) ≡ true → ends_comment (x ∷ (xs ++ t)) ≡ true
+ends-more : (x : ℕ) (xs t : List ℕ) → ends_comment (x ∷ xs) ≡ true
+    → ends_comment (x ∷ (xs ++ t)) ≡ true
 ends_comment-more x [] t h = absurd (false≢true (and-right (eqb x 42) false h))
 ends-more x (y ∷ ys) t h = h
 
@@ -39,7 +40,8 @@ closes-more (x ∷ xs) t h = ⊎_elim
 
 closed-step : (x y : ℕ) (xs : List ℕ) (b : Bool) → ends_comment (x ∷ y ∷ xs) ≡ b
     → ends_inside true (x ∷ y ∷ xs) ≡ false
-    → (ends_inside true (y ∷ xs) ≡ false → ends_later (y ∷ xs) ≡ true) → ends_later (x ∷ y ∷ xs) ≡ true
+    → (ends_inside true (y ∷ xs) ≡ false → ends_later (y ∷ xs) ≡ true)
+    → ends_later (x ∷ y ∷ xs) ≡ true
 unfolding ends_later ends_inside
 closed-step x y xs true e h f = rw e refl
 closed-step x y xs false e h f = let k = f (rw e at h) in rw k (or-true (ends_comment (x ∷ y ∷ xs)))
@@ -49,7 +51,8 @@ unfolding ends_inside
 closed-later [] h = absurd (false≢true (sym h))
 closed-later (x ∷ []) h = absurd (false≢true (sym h))
 closed-later (x ∷ y ∷ xs) h =
-    closed-step x y xs (ends_comment (x ∷ y ∷ xs)) refl h (unfold ends_inside in closed-later (y ∷ xs))
+    closed-step x y xs (ends_comment (x ∷ y ∷ xs)) refl h
+    (unfold ends_inside in closed-later (y ∷ xs))
 
 inside-step : (x y : ℕ) (xs t : List ℕ) (e : Bool) → ends_comment (x ∷ y ∷ xs) ≡ e
     → ends_inside true (x ∷ y ∷ xs) ≡ false
@@ -120,7 +123,8 @@ blanks-part false (x ∷ []) t h a =
     let other : x ≢ 40 =
     not-blank x 40 (and-left (is_blank x) true a) (λ e. absurd (omega (arith, e)))
     (λ e. absurd (omega (arith, e))) in
-    let plain : opens_comment (x ∷ t) ≡ false = rw (ne_eqb x 40 other) refl in blanked-plain x t plain
+    let plain : opens_comment (x ∷ t) ≡ false =
+    rw (ne_eqb x 40 other) refl in blanked-plain x t plain
 blanks-part true (x ∷ y ∷ xs) t h a =
     inside-step x y xs t _ refl h
     (λ e k. let q = rw e at a in unfold ends_inside without_comments in blanks-part false xs t k q)
@@ -196,7 +200,8 @@ lines-blanks [] t ps h = refl
 lines-blanks (c ∷ bs) t ps h =
     let here : is_blank c ≡ true = and-left (is_blank c) _ h in
     ap (λ (q : List (List ℕ)). lines (ps ++ map lexeme_of q)) (blank-alone c (bs ++ t) here)
-    ∙ ap (λ (q : LexemeData). lines (ps ++ (q ∷ map lexeme_of (lexemes (bs ++ t))))) (blank-piece c here)
+    ∙ ap (λ (q : LexemeData). lines (ps ++ (q ∷ map lexeme_of (lexemes (bs ++ t)))))
+    (blank-piece c here)
     ∙ lines-blank ps (map lexeme_of (lexemes (bs ++ t)))
     ∙ lines-blanks bs t ps (and-right (is_blank c) _ h)
 
@@ -209,7 +214,8 @@ lines-between u (c ∷ bs) t n h =
     let here : is_blank c ≡ true = and-left (is_blank c) _ h in
     ap (λ (q : List (List ℕ)). lines (map lexeme_of q)) (pieces-parts u c (bs ++ t) here)
     ∙ ap lines (map-append lexeme_of (lexemes u) ((c ∷ []) ∷ lexemes (bs ++ t)))
-    ∙ ap (λ (q : LexemeData). lines (map lexeme_of (lexemes u) ++ (q ∷ map lexeme_of (lexemes (bs ++ t)))))
+    ∙ ap (λ (q : LexemeData). lines
+    (map lexeme_of (lexemes u) ++ (q ∷ map lexeme_of (lexemes (bs ++ t)))))
     (blank-piece c here)
     ∙ lines-blank (map lexeme_of (lexemes u)) (map lexeme_of (lexemes (bs ++ t)))
     ∙ lines-blanks bs t (map lexeme_of (lexemes u)) (and-right (is_blank c) _ h)

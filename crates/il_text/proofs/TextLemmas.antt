@@ -321,7 +321,8 @@ parts-so last n before r ls (Some ps) f a =
 
 tokens-so : (last n : ℕ) (before : List TextLine) (r : Progress) (ls : List (List LexemeData))
     (t : Result (List Symbol) TextFault) → More last n ls → After before r
-    → ReadsTokens n (Going last before n ls (t >>= (λ ts. after_line n last r ts >>= rest last n ls)))
+    → ReadsTokens n (Going last before n ls
+    (t >>= (λ ts. after_line n last r ts >>= rest last n ls)))
     t (t >>= (λ ts. after_line n last r ts >>= rest last n ls))
 unfolding after_line
 tokens-so last n before r ls (Err e) f a = refl

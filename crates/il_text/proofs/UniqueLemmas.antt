@@ -42,7 +42,8 @@ not-both last n ls (Err e) a (no_program b q) = b a.is_prefix
 not-both last n ls (Err e) a (too_deep g d q) = a.shallow d
 not-both last n ls (Err e) a (too_long g d l q) = a.short l
 
-ends-one : (last : ℕ) (ls : List TextLine) (x y : Result PlainProgram TextFault) → EndsText last ls x
+ends-one : (last : ℕ) (ls : List TextLine) (x y : Result PlainProgram TextFault)
+    → EndsText last ls x
     → EndsText last ls y → x ≡ y
 ends-one last ls (Ok p) (Ok q) a b = ap Ok (one-derived (all_parts ls) p q a b)
 ends-one last ls (Ok p) (Err f) a b = absurd (b.0 p a)
@@ -53,7 +54,8 @@ ends-one last ls (Err e) (Err f) a b = ap Err (a.1 ∙ sym b.1)
 going-one : (last n : ℕ) (ls : List TextLine) (P : Result PlainProgram TextFault → Type 0)
     (x y : Result PlainProgram TextFault)
     → ((u v : Result PlainProgram TextFault) → P u → P v → u ≡ v)
-    → (AreAllowed ls × P x) ⊎ IsFaultyLine last n ls x → (AreAllowed ls × P y) ⊎ IsFaultyLine last n ls y
+    → (AreAllowed ls × P x) ⊎ IsFaultyLine last n ls x
+    → (AreAllowed ls × P y) ⊎ IsFaultyLine last n ls y
     → x ≡ y
 going-one last n ls P x y f (inl a) (inl b) = f x y a.1 b.1
 going-one last n ls P x y f (inl a) (inr b) = absurd (not-both last n ls y a.0 b)
@@ -79,12 +81,14 @@ tokens-one n (Err e) G x y f a b = a ∙ sym b
 tokens-one n (Ok ts) G x y f a b = parts-one n (parts_of ts) G x y f a b
 
 reads-one : (last : ℕ) (before : List TextLine) (n : ℕ) (ls : List (List LexemeData))
-    (x y : Result PlainProgram TextFault) → ReadsLines last before n ls x → ReadsLines last before n ls y
+    (x y : Result PlainProgram TextFault) → ReadsLines last before n ls x
+    → ReadsLines last before n ls y
     → x ≡ y
 reads-one last before n [] x y a b = ends-one last before x y a b
 reads-one last before n (l ∷ ls) x y a b =
     tokens-one n (tokens_of n l)
-    (λ z ps. (AreAllowed (before ++ (n, ps) ∷ []) × ReadsLines last (before ++ (n, ps) ∷ []) (n + 1) ls z)
+    (λ z ps. (AreAllowed (before ++ (n, ps) ∷ [])
+    × ReadsLines last (before ++ (n, ps) ∷ []) (n + 1) ls z)
     ⊎ IsFaultyLine last n (before ++ (n, ps) ∷ []) z)
     x y
     (λ ps g h. going-one last n (before ++ (n, ps) ∷ [])
@@ -155,7 +159,8 @@ derived-rises ps p m d c =
     ap (map line_of) d.parts
     ∙ map-append line_of ((d.first, program_start p.name) ∷ flat_map block_parts d.blocks)
     (flat_map entry_parts p.items ++ (d.end, program_end) ∷ [])
-    ∙ ap (λ (l : List ℕ). map line_of ((d.first, program_start p.name) ∷ flat_map block_parts d.blocks)
+    ∙ ap (λ (l : List ℕ). map line_of
+    ((d.first, program_start p.name) ∷ flat_map block_parts d.blocks)
     ++ l) (map-append line_of (flat_map entry_parts p.items) ((d.end, program_end) ∷ [])) in
     let whole = subst (λ (l : List ℕ). Climbs 0 l m) same c in
     let back =
@@ -171,7 +176,8 @@ parts_rise n None G p R f a = cc
 parts_rise n (Some ps) G p R f a = f ps a
 
 tokens_rise : (n : ℕ) (t : Result (List Symbol) TextFault) (G : List LineContent → Type 0)
-    (p : PlainProgram) (R : Type 0) → ((ps : List LineContent) → G ps → R) → ReadsTokens n G t (Ok p)
+    (p : PlainProgram) (R : Type 0) → ((ps : List LineContent) → G ps → R)
+    → ReadsTokens n G t (Ok p)
     → R
 tokens_rise n (Err e) G p R f a = cc
 tokens_rise n (Ok ts) G p R f a = parts_rise n (parts_of ts) G p R f a

@@ -127,7 +127,8 @@ pub record Derives (ps : List Numbered) (program : PlainProgram) : Type 0 where
   pub end : ℕ
   pub parts : ps
       ≡ (first, program_start program.name)
-      ∷ (flat_map block_parts blocks ++ (flat_map entry_parts program.items ++ (end, program_end) ∷ []))
+      ∷ (flat_map block_parts blocks
+      ++ (flat_map entry_parts program.items ++ (end, program_end) ∷ []))
   pub declared : program.declarations ≡ flat_map block_declared blocks
   pub blocks_allowed : list_all is_allowed blocks ≡ true
   pub items_allowed : list_all is_outer program.items ≡ true

@@ -37,7 +37,8 @@ without_comments inside (x ∷ y ∷ xs) =
     (if ends_comment (x ∷ y ∷ xs) then byte " " ∷ byte " " ∷ without_comments false xs
     else blank_of x ∷ without_comments true (y ∷ xs))
     else
-    (if opens_comment (x ∷ y ∷ xs) then (if ends_later xs then byte " " else unclosed_comment) ∷ byte " "
+    (if opens_comment (x ∷ y ∷ xs)
+    then (if ends_later xs then byte " " else unclosed_comment) ∷ byte " "
     ∷ without_comments true xs
     else x ∷ without_comments false (y ∷ xs))
 

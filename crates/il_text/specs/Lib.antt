@@ -8,10 +8,11 @@
 --
 -- Read it bottom up. `Characters`, `Lexemes`, `Tokens`, `Symbols` and `Literals` (2.1, 2.2, annex
 -- B.1) cut a text by longest match into lexemes: blanks, line ends and tokens. A comment is blank,
--- but its line ends still end lines. `DurationGrammar` (2.2.3.1) defines durations by their grammar:
--- numbers with units, each unit smaller than the one before. `Parts` and `Forms` (annexes B.1.4.3,
--- B.1.5.3, B.2) define which parts a line has (`L: LD a` has two). A form is made of smaller ones
--- by the combinators of `TokenForms`, and is both a function that reads tokens and a relation.
+-- but its line ends still end lines. `DurationGrammar` (2.2.3.1) defines durations by their
+-- grammar: numbers with units, each unit smaller than the one before. `Parts` and `Forms` (annexes
+-- B.1.4.3, B.1.5.3, B.2) define which parts a line has (`L: LD a` has two). A form is made of
+-- smaller ones by the combinators of `TokenForms`, and is both a function that reads tokens and a
+-- relation.
 -- `Grammar` (2.5.3, annex B.2) derives a program from the parts of its lines. `Listing`: a program
 -- as plain data, with a line for each item; items nest. `Places`: the last line.
 --

@@ -96,7 +96,8 @@ within_limits line last before ps s =
 
 -- the state after a line with these parts, given the state by its parts alone; none means that the
 -- line is not allowed here
-abbrev pub after_text_line : ℕ → ℕ → ℕ → List LineContent → Option DraftData → Result Progress TextFault
+abbrev pub after_text_line : ℕ → ℕ → ℕ → List LineContent → Option DraftData
+    → Result Progress TextFault
 after_text_line line last before ps None = Err (BadLine line)
 after_text_line line last before ps (Some s) = within_limits line last before ps s
 

@@ -14,7 +14,8 @@ unfoldable pub ends_inside : Bool → List ℕ → Bool
 ends_inside inside [] = inside
 ends_inside inside (x ∷ []) = inside
 ends_inside inside (x ∷ y ∷ xs) =
-    if inside then (if ends_comment (x ∷ y ∷ xs) then ends_inside false xs else ends_inside true (y ∷ xs))
+    if inside
+    then (if ends_comment (x ∷ y ∷ xs) then ends_inside false xs else ends_inside true (y ∷ xs))
     else (if opens_comment (x ∷ y ∷ xs) then ends_inside true xs else ends_inside false (y ∷ xs))
 
 -- The text is spaces, tabs and whole comments without a line end, at least one of them.

@@ -171,7 +171,8 @@ may_follow r = is_body r.stage && is_outside r.parentheses
 -- whether an instruction may come here: the first in a parenthesis is a load, and none leaves it
 unfoldable pub may_have_instruction : DraftData → Action → Bool
 may_have_instruction r a =
-    is_body r.stage && (is_outside r.parentheses || (is_plain a && (has_entries r.items || is_load a)))
+    is_body r.stage && (is_outside r.parentheses
+    || (is_plain a && (has_entries r.items || is_load a)))
 
 -- whether a parenthesis may begin here
 unfoldable pub may_enter : DraftData → Bool
@@ -194,7 +195,8 @@ step n r (block_start scope) =
 step n r (names_part ns kind initial) = after_declaration n ns kind initial r (block_scope r.stage)
 step n r block_end = closed_block r (block_scope r.stage)
 step n r (label_part name) = if may_follow r then Some (with_item (label n name) r) else None
-step n r (action_part a) = if may_have_instruction r a then Some (with_item (action n a) r) else None
+step n r (action_part a) =
+    if may_have_instruction r a then Some (with_item (action n a) r) else None
 step n r (parenthesis_start operator negated) =
     if may_enter r then Some (with_opened n operator negated r) else None
 step n r parenthesis_end = if may_leave r then after_parenthesis n r r.parentheses else None

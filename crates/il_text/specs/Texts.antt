@@ -52,8 +52,10 @@ pub record AreAllowed (ls : List TextLine) : Type 0 where
 
 -- The fault of the last of these lines, if the lines before it are allowed.
 pub data LineFault (last line : ℕ) (ls : List TextLine) (fault : TextFault) : Type 0 where
-  no_program : (IsProgramPrefix (all_parts ls) → ⊥) → fault ≡ BadLine line → LineFault last line ls fault
-  too_deep : IsProgramPrefix (all_parts ls) → IsDeep ls → fault ≡ past_limit line last (TooDeep line)
+  no_program : (IsProgramPrefix (all_parts ls) → ⊥) → fault ≡ BadLine line
+      → LineFault last line ls fault
+  too_deep : IsProgramPrefix (all_parts ls) → IsDeep ls
+      → fault ≡ past_limit line last (TooDeep line)
       → LineFault last line ls fault
   too_long : IsProgramPrefix (all_parts ls) → (IsDeep ls → ⊥) → IsLong ls
       → fault ≡ past_limit line last (TooLong line)
@@ -86,7 +88,8 @@ ReadsTokens line goes (Ok ts) r = ReadsParts line goes (parts_of ts) r
 -- How the lines from this number on are read, after allowed lines: the first faulty line decides.
 -- In a line a bad token or literal comes first, then a missing form, then a line after which no
 -- program is possible, then the limits.
-abbrev pub ReadsLines : ℕ → List TextLine → ℕ → List (List LexemeData) → Result PlainProgram TextFault
+abbrev pub ReadsLines : ℕ → List TextLine → ℕ → List (List LexemeData)
+    → Result PlainProgram TextFault
     → Type 0
 ReadsLines last before line [] r = EndsText last before r
 ReadsLines last before line (l ∷ ls) r =

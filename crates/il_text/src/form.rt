@@ -159,7 +159,8 @@ fn output_by<'a>(timer: Token<'a>, output: Token<'a>) -> Option<SymbolicVariable
 // Reads a name, or a name with `.Q` or `.ET`.
 #[tactic(auto, unfolding(crate::specs::Forms::symbolic_variable))]
 fn parse_variable<'a>(tokens: &[Token<'a>]) -> Option<SymbolicVariable<'a>>
-    ensures { option_map variable_data result ≡ spec.symbolic_variable.reads (symbols_of tokens.now) }
+    ensures { option_map variable_data result
+        ≡ spec.symbolic_variable.reads (symbols_of tokens.now) }
 {
     match tokens {
         [only] => name_of(*only).map(SymbolicVariable::Name),
@@ -319,7 +320,11 @@ fn parse_bare<'a>(instruction: Instruction<'a>, tokens: &[Token<'a>]) -> Option<
 
 // Reads what follows the `(` of an operator: an operand or nothing.
 #[tactic(auto, unfolding(crate::specs::Forms::parenthesis))]
-fn parse_parenthesis<'a>(operator: Operator, negated: bool, tokens: &[Token<'a>]) -> Option<Statement<'a>>
+fn parse_parenthesis<'a>(
+    operator: Operator,
+    negated: bool,
+    tokens: &[Token<'a>],
+) -> Option<Statement<'a>>
     ensures { option_map statement_parts result
         ≡ (spec.parenthesis operator negated).reads (symbols_of tokens.now) }
 {
@@ -336,12 +341,18 @@ fn parse_parenthesis<'a>(operator: Operator, negated: bool, tokens: &[Token<'a>]
 
 // Reads what follows an operator that combines the current result with an operand.
 #[tactic(auto, unfolding(crate::specs::Forms::operator_parts))]
-fn parse_combine<'a>(operator: Operator, negated: bool, tokens: &[Token<'a>]) -> Option<Statement<'a>>
+fn parse_combine<'a>(
+    operator: Operator,
+    negated: bool,
+    tokens: &[Token<'a>],
+) -> Option<Statement<'a>>
     ensures { option_map statement_parts result
         ≡ (spec.operator_parts operator negated).reads (symbols_of tokens.now) }
 {
     match tokens {
-        [first, rest @ ..] if is_mark(*first, Mark::Open) => parse_parenthesis(operator, negated, rest),
+        [first, rest @ ..] if is_mark(*first, Mark::Open) => parse_parenthesis(
+            operator, negated, rest,
+        ),
         _ => {
             let operand = operand(tokens)?;
             Some(Statement::Plain(Instruction::Combine {

@@ -4,7 +4,7 @@ ghost use Rattle.il_text.specs.Symbols as spec;
 ghost use Rattle.il_text.specs.TokenViews.{lexeme_data, symbol_of};
 
 use crate::character::{begins_name, begins_word, byte_at, is_blank};
-use crate::literal::{LiteralFault, parse_decimal, split_at_hash, parse_prefixed, plain_literal};
+use crate::literal::{LiteralFault, parse_decimal, parse_prefixed, plain_literal, split_at_hash};
 use crate::program::{Literal, Operator};
 use crate::reserved::{combine, reserved_token};
 use crate::token::{Mark, Token};

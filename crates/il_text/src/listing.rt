@@ -187,10 +187,12 @@ impl<'a> Draft<'a> {
         position: Position,
     ) -> Result<(), TextFault>
         ensures ok { OnOk result
-            (spec.after_line position.line position.last (progress_of self.old) (symbols_of tokens.now)
+            (spec.after_line position.line position.last (progress_of self.old)
+            (symbols_of tokens.now)
             ≡ Ok (progress_of self.new)) }
         ensures refused { IfErr result
-            (λ e. e ≢ OutOfMemory → spec.after_line position.line position.last (progress_of self.old)
+            (λ e. e ≢ OutOfMemory → spec.after_line position.line position.last
+            (progress_of self.old)
             (symbols_of tokens.now) ≡ Err e) }
     {
         let line = position.line;
@@ -316,7 +318,8 @@ impl<'a> Draft<'a> {
             (step line (draft_data self.old) (block_start scope) ≡ Some (draft_data self.new)) }
         ensures count { OnOk result (self.new.instructions ≡ self.old.instructions) }
         ensures bad { IfErr result (λ e. e ≡ BadLine line) }
-        ensures none { IfErr result (λ e. step line (draft_data self.old) (block_start scope) ≡ None) }
+        ensures none { IfErr result
+            (λ e. step line (draft_data self.old) (block_start scope) ≡ None) }
     {
         if !is_between_blocks(self.stage) {
             return Err(TextFault::BadLine { line });
@@ -389,7 +392,11 @@ impl<'a> Draft<'a> {
     // Reads an instruction. The first one in a parenthesis is a load, and none in it leaves the
     // parenthesis.
     #[tactic(auto, unfolding(crate::specs::Steps::step))]
-    fn take_instruction(&mut self, instruction: Instruction<'a>, line: usize) -> Result<(), TextFault>
+    fn take_instruction(
+        &mut self,
+        instruction: Instruction<'a>,
+        line: usize,
+    ) -> Result<(), TextFault>
         ensures ok { OnOk result
             (step line (draft_data self.old) (action_part (action_of instruction.entry))
             ≡ Some (draft_data self.new)) }
@@ -421,7 +428,8 @@ impl<'a> Draft<'a> {
         ensures count { OnOk result (self.new.instructions ≡ self.old.instructions) }
         ensures bad { IfErr result (λ e. e ≢ OutOfMemory → e ≡ BadLine line) }
         ensures none { IfErr result
-            (λ e. e ≢ OutOfMemory → step line (draft_data self.old) (parenthesis_start operator negated)
+            (λ e. e ≢ OutOfMemory → step line (draft_data self.old)
+            (parenthesis_start operator negated)
             ≡ None) }
     {
         if !self.may_enter() {
@@ -551,7 +559,8 @@ impl<'a> Draft<'a> {
         line: usize,
     ) -> Result<(), TextFault>
         ensures ok { OnOk result
-            (steps line (draft_data self.old) (label_part name.now ∷ statement_parts statement.entry)
+            (steps line (draft_data self.old)
+            (label_part name.now ∷ statement_parts statement.entry)
             ≡ Some (draft_data self.new)) }
         ensures count { OnOk result (self.new.instructions ≡ self.old.instructions) }
         ensures bad { IfErr result (λ e. e ≢ OutOfMemory → e ≡ BadLine line) }

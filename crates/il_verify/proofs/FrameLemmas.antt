@@ -82,16 +82,20 @@ pub joined-grows : (olds news kinds : List CellKind) (a b c : ℕ) → length ol
     → kinds ≡ join_all olds news → c ≡ max a b
     → JoinsFrame (plain news b) (Some (plain olds a)) (plain kinds c)
 joined-grows olds news kinds a b c e same larger =
-    subst (λ (v : List CellKind). JoinsFrame (plain news b) (Some (plain olds a)) (plain v c)) (sym same)
-    (subst (λ (n : ℕ). JoinsFrame (plain news b) (Some (plain olds a)) (plain (join_all olds news) n))
+    subst (λ (v : List CellKind). JoinsFrame (plain news b) (Some (plain olds a)) (plain v c))
+    (sym same)
+    (subst (λ (n : ℕ). JoinsFrame (plain news b) (Some (plain olds a))
+    (plain (join_all olds news) n))
     (sym larger) (grown olds news a b e))
 
 pub begun-grows : (o : Option Frame) (news kinds : List CellKind) (b : ℕ) → o ≡ None → kinds ≡ news
     → JoinsFrame (plain news b) (option_map plain_frame o) (plain kinds b)
 begun-grows o news kinds b is same =
-    subst (λ (v : Option Frame). JoinsFrame (plain news b) (option_map plain_frame v) (plain kinds b))
+    subst (λ (v : Option Frame). JoinsFrame (plain news b) (option_map plain_frame v)
+    (plain kinds b))
     (sym is)
-    (subst (λ (v : List CellKind). JoinsFrame (plain news b) None (plain v b)) (sym same) (begun news b))
+    (subst (λ (v : List CellKind). JoinsFrame (plain news b) None (plain v b)) (sym same)
+    (begun news b))
 
 pub grows-along : (come : PlainFrame) (old : Option PlainFrame) (mid new : PlainFrame)
     → JoinsFrame come old mid → JoinsFrame come (Some mid) new → JoinsFrame come old new

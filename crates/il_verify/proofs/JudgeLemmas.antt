@@ -158,7 +158,8 @@ enough : (types : List ElementaryType) (timers : ℕ) (i : Instr) (kinds gives :
 enough types timers Drop kinds gives e = let size : length kinds ≡ suc (length gives) =
     below-some Any kinds gives e in omega arith
 enough types timers (Slot Store n) kinds gives e =
-    let t = bind-some (slice_get types n) (λ (t : ElementaryType). peek_kind (Plain t) kinds) gives e
+    let t = bind-some (slice_get types n) (λ (t : ElementaryType). peek_kind (Plain t) kinds) gives
+    e
     in looks-some (Plain t.0) kinds gives t.2
 enough types timers (Slot SetIf n) kinds gives e = truth-some types n kinds gives e
 enough types timers (Slot ResetIf n) kinds gives e = truth-some types n kinds gives e

@@ -282,7 +282,8 @@ lengths-first code frames come is one none = record {
 
 pub is-budget : (code : List ℕ) (budget : ℕ) (now : PlainFrames) → (done : ℕ) → length code ≤ done
     → Lengths code done budget now
-    → ((q : ℕ) (m : PlainFrame) → done ≤ q → now q ≡ Some m → InstrBegins code q) → IsBudget code budget
+    → ((q : ℕ) (m : PlainFrame) → done ≤ q → now q ≡ Some m → InstrBegins code q)
+    → IsBudget code budget
 is-budget code budget now done past l places = record {
   some = elim l.some [
     | inl e ↦ (let m = l.more e in let within : m.0 < length code = (places m.0 m.1 m.2 m.3).0 in

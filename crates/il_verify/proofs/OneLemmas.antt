@@ -95,7 +95,8 @@ join-alike image t u done to kinds same m =
 -- ---- the tables of two fronts
 
 known-same : (image : Image) (t u : Table) (d e place : ℕ) (o p : Option (List CellKind))
-    → IsTableUpTo image t d → IsTableUpTo image u e → place < d → place < e → Alike t u place → t place ≡ o
+    → IsTableUpTo image t d → IsTableUpTo image u e → place < d → place < e → Alike t u place
+    → t place ≡ o
     → u place ≡ p → t place ≡ u place
 known-same image t u d e place None None f g less more same is other = is ∙ sym other
 known-same image t u d e place None (Some k) f g less more same is other =
@@ -220,7 +221,8 @@ something image t place fault (inr (inr (inr h))) none =
     none h.1.at.joined.some.0 h.1.at.joined.some.1
 
 -- two views of what comes to a place are one
-abbrev Met : {image : Image} {t : Table} {place : ℕ} → ReachedInstr image t place → ReachedInstr image t place
+abbrev Met : {image : Image} {t : Table} {place : ℕ} → ReachedInstr image t place
+    → ReachedInstr image t place
     → Type 0
 Met a b = ◌≡◌ {A = Instr × ℕ} (a.instr, a.next) (b.instr, b.next) × (a.kinds ≡ b.kinds)
 
@@ -242,13 +244,15 @@ own-or-none : (image : Image) (t : Table) (place : ℕ) (fault : VerifyFault)
 own-or-none image t place fault a b h g = let e = own-same image t place a b in absurd (cc)
 
 jump-or-not : (image : Image) (t : Table) (place : ℕ) (j : HasBadJump image t place)
-    (b : ReachedInstr image t place) → ((to : ℕ) → JumpsTo b.instr b.next to → InstrBegins image.code to) → ⊥
+    (b : ReachedInstr image t place)
+    → ((to : ℕ) → JumpsTo b.instr b.next to → InstrBegins image.code to) → ⊥
 jump-or-not image t place j b all =
     j.bad (all j.to (subst (λ (x : Instr × ℕ). JumpsTo x.0 x.1 j.to) (met image t place j.at b).0
     j.jumps))
 
 past-or-not : (image : Image) (t : Table) (place : ℕ) (g : RunsPastEnd image t place)
-    (b : ReachedInstr image t place) → ((to : ℕ) → LeadsTo b.instr b.next to → InstrBegins image.code to) → ⊥
+    (b : ReachedInstr image t place)
+    → ((to : ℕ) → LeadsTo b.instr b.next to → InstrBegins image.code to) → ⊥
 past-or-not image t place g b all =
     let there =
     all g.at.next (leads-same (g.at.instr, g.at.next) (b.instr, b.next) g.at.next
@@ -307,7 +311,8 @@ abbrev arrives_there : (image : Image) (t : Table) (place : ℕ) (p : IsFaultles
 arrives_there image t place p m =
     record { instr = p.instr; next = p.next; kinds = p.kinds; here = p.here; joined = m }
 
-no-reason : (image : Image) (t : Table) (place : ℕ) (fault : VerifyFault) (p : IsFaultless image t place)
+no-reason : (image : Image) (t : Table) (place : ℕ) (fault : VerifyFault)
+    (p : IsFaultless image t place)
     → IsJoin image t place place p.kinds → Reason image t place fault → ⊥
 no-reason image t place fault p m (inl h) =
     own-or-none image t place fault h.0 (arrives_there image t place p m) h.1 p.faultless
@@ -326,7 +331,8 @@ no-reason image t place fault p m (inr (inr (inr h))) =
     let leads = leads-same (c.at.instr, c.at.next) (p.instr, p.next) c.to e.0 c.leads in
     c.unequal (p.depths c.to leads c.others c.comes ∙ sym (ap length gives))
 
-no_fault : (image : Image) (t : Table) (done place : ℕ) (fault : VerifyFault) → IsTableUpTo image t done
+no_fault : (image : Image) (t : Table) (done place : ℕ) (fault : VerifyFault)
+    → IsTableUpTo image t done
     → place < done → InstrBegins image.code place → IsFaultAt image t place fault → ⊥
 no_fault image t done place fault front less there h =
     let p = front.passes place less there in

@@ -222,7 +222,8 @@ module _ (image : Image) (place : ℕ) (instr : Instr) (next : ℕ) (come : Plai
         }))
   ]
 
-  collides : (c : FailsDepths image instr next come old) → HasDepthClash image p.standing.table place
+  collides : (c : FailsDepths image instr next come old)
+      → HasDepthClash image p.standing.table place
   collides c =
       let leads = leads-join instr next c.to c.leads in
       let f : place < next = (goes-forward image.code place instr next here).0 in
@@ -264,7 +265,8 @@ module _ (image : Image) (place : ℕ) (instr : Instr) (next : ℕ) (come : Plai
 -- ---- the frame at a place does not matter to what its instruction does elsewhere
 
 where-beside : (P : ℕ → Type 0) (place : ℕ) (come : PlainFrame) (x : Option PlainFrame)
-    (old new : PlainFrames) → (P place → ⊥) → ((to : ℕ) → JoinsFrameIf (P to) come (old to) (new to))
+    (old new : PlainFrames) → (P place → ⊥)
+    → ((to : ℕ) → JoinsFrameIf (P to) come (old to) (new to))
     → (to : ℕ) → JoinsFrameIf (P to) come (with_value_at place x old to)
     (with_value_at place x new to)
 where-beside P place come x old new not-here each to = elim (cases_eq to place) [
@@ -278,7 +280,8 @@ where-beside P place come x old new not-here each to = elim (cases_eq to place) 
       (
         c.1.0,
         beside-other place to x new ne ∙ c.1.1,
-        subst (λ (o : Option PlainFrame). JoinsFrame come o c.1.0) (sym (beside-other place to x old ne))
+        subst (λ (o : Option PlainFrame). JoinsFrame come o c.1.0)
+            (sym (beside-other place to x old ne))
             c.1.2,
       ),
     )

@@ -146,7 +146,8 @@ Framed image table done q None = (kinds : List CellKind) → KindsReach image ta
 Framed image table done q (Some m) = IsJoin image table done q m.kinds
 
 pub framed-none : (image : Image) (table : Table) (done q : ℕ) (o : Option PlainFrame) → o ≡ None
-    → Framed image table done q o → (kinds : List CellKind) → KindsReach image table done q kinds → ⊥
+    → Framed image table done q o → (kinds : List CellKind) → KindsReach image table done q kinds
+    → ⊥
 framed-none image table done q o e h = subst (Framed image table done q) e h
 
 pub framed-some : (image : Image) (table : Table) (done q : ℕ) (o : Option PlainFrame)

@@ -81,7 +81,8 @@ first-place code h = (h, (0, refl))
 
 -- What passes, told by the instruction and the kinds that are there.
 passed-fault : (image : Image) (table : Table) (place : ℕ) (i : Instr) (next : ℕ)
-    (kinds : List CellKind) → IsFaultless image table place → instr_at image.code place ≡ Some (i, next)
+    (kinds : List CellKind) → IsFaultless image table place
+    → instr_at image.code place ≡ Some (i, next)
     → table place ≡ Some kinds
     → fault_of (slots_of image) (length image.timers) i kinds ≡ None
 passed-fault image table place i next kinds p here known =
@@ -205,13 +206,15 @@ module _ (image : Image) (table : Table) (front : IsTableUpTo image table (lengt
 
 module _ (image : Image) (table : Table) (done : ℕ) (front : IsTableUpTo image table done)
     (other : Table) (agrees_so : Agrees image other) where
-  top-at : (place : ℕ) → InstrBegins image.code place → (top : List CellKind) × (other place ≡ Some top)
+  top-at : (place : ℕ) → InstrBegins image.code place
+      → (top : List CellKind) × (other place ≡ Some top)
   top-at place is = value_of (other place) ((agrees_so.places place).1 is)
 
   -- what comes to a place is within what the other table has there, if that is so of the places
   -- before
   comes-within : (bound to : ℕ) (top others : List CellKind) → other to ≡ Some top
-      → ((q : ℕ) (kinds : List CellKind) → q < bound → table q ≡ Some kinds → FitsTable other q kinds)
+      → ((q : ℕ) (kinds : List CellKind) → q < bound → table q ≡ Some kinds
+      → FitsTable other q kinds)
       → KindsReach image table bound to others → AreWithin others top
   comes-within bound to top others is below comes = elim comes [
     | inl e ↦
@@ -237,7 +240,8 @@ module _ (image : Image) (table : Table) (done : ℕ) (front : IsTableUpTo image
   ]
 
   join-enters : (place : ℕ) (kinds : List CellKind) → InstrBegins image.code place
-      → ((q : ℕ) (known : List CellKind) → q < place → table q ≡ Some known → FitsTable other q known)
+      → ((q : ℕ) (known : List CellKind) → q < place → table q ≡ Some known
+      → FitsTable other q known)
       → IsJoin image table place place kinds → FitsTable other place kinds
   join-enters place kinds is below m =
       let t = top-at place is in
@@ -267,7 +271,8 @@ module _ (image : Image) (table : Table) (done : ℕ) (front : IsTableUpTo image
   halts-small i kinds gives e is =
       same_Some kinds gives (ap (λ (j : Instr). kinds_after_instr image j kinds) (sym e) ∙ is)
 
-  does : (place : ℕ) (a : ReachedInstr image table place) → InstrBegins image.code place → Does place a
+  does : (place : ℕ) (a : ReachedInstr image table place) → InstrBegins image.code place
+      → Does place a
   does place a is =
       let e = join-enters place a.kinds is (λ q known before was. lies-above q known was) a.joined
       in
@@ -277,7 +282,8 @@ module _ (image : Image) (table : Table) (done : ℕ) (front : IsTableUpTo image
       b.effect in
       let effect-there : kinds_after_instr image a.instr a.kinds ≡ Some l.lower =
       ap (λ (j : Instr). kinds_after_instr image j a.kinds) (sym same.0) ∙ l.is in
-      let enters_there : (to : ℕ) → LeadsTo a.instr a.next to → FitsTable other to l.lower = λ to way.
+      let enters_there : (to : ℕ) → LeadsTo a.instr a.next to → FitsTable other to l.lower =
+      λ to way.
       let g = b.enters to (subst (λ (n : ℕ). LeadsTo b.instr n to) (sym same.1)
       (subst (λ (j : Instr). LeadsTo j a.next to) (sym same.0) way)) in
       (g.0, g.1, all-within-along l.lower b.after g.0 l.within g.2) in
@@ -301,11 +307,13 @@ module _ (image : Image) (table : Table) (done : ℕ) (front : IsTableUpTo image
         ];
       }
 
-  place-of-entry : (to : ℕ) (kinds : List CellKind) → FitsTable other to kinds → InstrBegins image.code to
+  place-of-entry : (to : ℕ) (kinds : List CellKind) → FitsTable other to kinds
+      → InstrBegins image.code to
   place-of-entry to kinds e = (agrees_so.places to).0 (is-some-of (other to) e.0 e.1)
 
   module _ (writes : WritesNoReadOnly image) (place : ℕ) (is : InstrBegins image.code place) where
-    no-own : (fault : VerifyFault) (a : ReachedInstr image table place) → own_fault a ≡ Some fault → ⊥
+    no-own : (fault : VerifyFault) (a : ReachedInstr image table place) → own_fault a ≡ Some fault
+        → ⊥
     no-own fault a e =
         let d = does place a is in
         let effect-so : kinds_after (types_of (slots_of image)) (length image.timers) a.instr
@@ -390,7 +398,8 @@ module _ (image : Image) (table : Table) (done : ℕ) (front : IsTableUpTo image
 
 -- ---- the longest list
 
-longest-so : (image : Image) (table : Table) → IsTableUpTo image table (length image.code) → (depth : ℕ)
+longest-so : (image : Image) (table : Table) → IsTableUpTo image table (length image.code)
+    → (depth : ℕ)
     → IsLongest table depth → (other : Table) → Agrees image other → IsLongest other depth
 longest-so image table front depth l other agrees_so = record {
   some =

@@ -21,7 +21,8 @@ use Rattle.il_verify.specs.Slots.{slots_of, types_of}
 
 -- The list is true exactly at the offsets of the code's instructions.
 abbrev pub MarksInstrs : List ℕ → List Bool → Type 0
-MarksInstrs code starts = (place : ℕ) → (slice_get starts place ≡ Some true) ↔ InstrBegins code place
+MarksInstrs code starts =
+    (place : ℕ) → (slice_get starts place ≡ Some true) ↔ InstrBegins code place
 
 -- The plan is that of the image.
 pub record IsPlan (image : Image) (plan : Plan) : Type 0 where
@@ -59,7 +60,8 @@ with_value_at place known others q = if q == place then known else others q
 
 -- Another path leads to an offset: the new frame is the join of the old one, if there is one, and
 -- of `come`, the frame that the path brings.
-pub record JoinsFrame (come : PlainFrame) (old : Option PlainFrame) (new : PlainFrame) : Type 0 where
+pub record JoinsFrame (come : PlainFrame) (old : Option PlainFrame) (new : PlainFrame)
+    : Type 0 where
   pub over : AreWithin come.kinds new.kinds
   pub keeps : (m : PlainFrame) → old ≡ Some m → AreWithin m.kinds new.kinds
   pub least : (top : List CellKind) → AreWithin come.kinds top
@@ -71,7 +73,8 @@ pub record JoinsFrame (come : PlainFrame) (old : Option PlainFrame) (new : Plain
 
 -- If P holds, a path brings the frame `come`; otherwise the frame is unchanged.
 abbrev pub JoinsFrameIf : Type 0 → PlainFrame → Option PlainFrame → Option PlainFrame → Type 0
-JoinsFrameIf P come old new = (P × ((frame : PlainFrame) × (new ≡ Some frame) × JoinsFrame come old frame))
+JoinsFrameIf P come old new =
+    (P × ((frame : PlainFrame) × (new ≡ Some frame) × JoinsFrame come old frame))
     ⊎ ((P → ⊥) × (new ≡ old))
 
 -- There is an old frame, and it has another number of kinds.
@@ -138,7 +141,8 @@ HasTargetFault code instr next fault = ((fault ≡ BadTarget) × JumpsToNoInstr 
 
 -- The instruction brings a frame to the offset that it jumps to; other frames are unchanged.
 abbrev pub Jumps : Instr → ℕ → PlainFrame → PlainFrames → PlainFrames → Type 0
-Jumps instr next come old new = (to : ℕ) → JoinsFrameIf (JumpsTo instr next to) come (old to) (new to)
+Jumps instr next come old new =
+    (to : ℕ) → JoinsFrameIf (JumpsTo instr next to) come (old to) (new to)
 
 -- The instruction jumps to an offset whose frame has another number of kinds.
 abbrev pub JumpClash : Instr → ℕ → PlainFrames → List CellKind → Type 0
@@ -147,7 +151,8 @@ JumpClash instr next old kinds = (to : ℕ) × JumpsTo instr next to × HasOther
 -- The instruction brings a frame to the offset that it falls through to; other frames are
 -- unchanged.
 abbrev pub Falls : Instr → ℕ → PlainFrame → PlainFrames → PlainFrames → Type 0
-Falls instr next come old new = (to : ℕ) → JoinsFrameIf (FallsTo instr next to) come (old to) (new to)
+Falls instr next come old new =
+    (to : ℕ) → JoinsFrameIf (FallsTo instr next to) come (old to) (new to)
 
 -- The instruction of the image has no fault on the kinds before it, and brings the kinds after it
 -- to the offsets that it leads to.

@@ -77,7 +77,8 @@ truth = Plain elementary.Bool
 
 -- the kinds after an operation on two numbers of a width
 abbrev pub computes : ArithmeticOperation → Width → List CellKind → Option (List CellKind)
-computes o w kinds = replace_two (second_kind o w) (Plain (type_of_width w)) (Plain (type_of_width w)) kinds
+computes o w kinds =
+    replace_two (second_kind o w) (Plain (type_of_width w)) (Plain (type_of_width w)) kinds
 
 -- whether the slot exists and may only be read
 abbrev pub is_read_only : List SlotType → ℕ → Bool

@@ -20,7 +20,8 @@ use Rattle.il_verify.specs.Slots.{slots_of}
 
 -- the kinds after an instruction of the image, if it is allowed
 abbrev pub kinds_after_instr : Image → Instr → List CellKind → Option (List CellKind)
-kinds_after_instr image instr kinds = kinds_after (slot_types image) (length image.timers) instr kinds
+kinds_after_instr image instr kinds =
+    kinds_after (slot_types image) (length image.timers) instr kinds
 
 -- The table has kinds before the instruction at the offset `from`; the instruction leads to the
 -- offset `to`, and these are the kinds after it.
@@ -38,14 +39,16 @@ pub record KindsReachFrom (image : Image) (table : Table) (from to : ℕ) (kinds
 -- each instruction before `done` that leads there.
 abbrev pub KindsReach : Image → Table → ℕ → ℕ → List CellKind → Type 0
 KindsReach image table done to kinds =
-    ((to ≡ 0) × (kinds ≡ [])) ⊎ ((from : ℕ) × (from < done) × KindsReachFrom image table from to kinds)
+    ((to ≡ 0) × (kinds ≡ []))
+    ⊎ ((from : ℕ) × (from < done) × KindsReachFrom image table from to kinds)
 
 -- Some kinds reach the offset `to`, and these are the join of all that do: the least kinds that
 -- include them.
 pub record IsJoin (image : Image) (table : Table) (done to : ℕ) (kinds : List CellKind)
     : Type 0 where
   pub some : (first : List CellKind) × KindsReach image table done to first
-  pub above : (others : List CellKind) → KindsReach image table done to others → AreWithin others kinds
+  pub above : (others : List CellKind) → KindsReach image table done to others
+      → AreWithin others kinds
   pub least : (top : List CellKind)
       → ((others : List CellKind) → KindsReach image table done to others → AreWithin others top)
       → AreWithin kinds top
@@ -72,7 +75,8 @@ pub record IsTableUpTo (image : Image) (table : Table) (done : ℕ) : Type 0 whe
       → (place < done) × InstrBegins image.code place
   pub joined : (place : ℕ) (kinds : List CellKind) → table place ≡ Some kinds
       → IsJoin image table place place kinds
-  pub passes : (place : ℕ) → place < done → InstrBegins image.code place → IsFaultless image table place
+  pub passes : (place : ℕ) → place < done → InstrBegins image.code place
+      → IsFaultless image table place
 
 -- ---- the faults at an offset, of which at most one is the first
 
@@ -136,7 +140,8 @@ pub record HasDepthClash (image : Image) (table : Table) (place : ℕ) : Type 0 
 
 -- The instruction at the offset has this fault of its own.
 abbrev pub HasOwnFault : Image → Table → ℕ → VerifyFault → Type 0
-HasOwnFault image table place fault = (a : ReachedInstr image table place) × (own_fault a ≡ Some fault)
+HasOwnFault image table place fault =
+    (a : ReachedInstr image table place) × (own_fault a ≡ Some fault)
 
 -- This is the first fault at the offset.
 abbrev pub IsFaultAt : Image → Table → ℕ → VerifyFault → Type 0

@@ -73,7 +73,10 @@ fn join_frame(frame: &mut Frame, kinds: &[CellKind], longest: u32) -> Result<(),
 }
 
 /// Extends the pending frames up to an offset, with nothing pending at the new offsets.
-pub(crate) fn extend_pending(pending: &mut Vec<Option<Frame>>, place: usize) -> Result<(), AllocError>
+pub(crate) fn extend_pending(
+    pending: &mut Vec<Option<Frame>>,
+    place: usize,
+) -> Result<(), AllocError>
     requires { place < 2 ^ 64 - 1 }
     ensures room { OnOk result (place < length pending.new.items) }
     ensures same { OnOk result
@@ -147,7 +150,9 @@ pub(crate) fn follow_jump(
         × JumpClash instr next (plain_frames pending.old.items) (reverse kinds.now)) }
 {
     match instr {
-        Instr::Jump(_, distance) => { join_pending(pending, next + usize::from(distance), kinds, longest) }
+        Instr::Jump(_, distance) => {
+            join_pending(pending, next + usize::from(distance), kinds, longest)
+        }
         _ => Ok(()),
     }
 }

@@ -9,7 +9,7 @@ ghost use Rattle.il_verify.specs.Refusals.{JumpsTo};
 
 use crate::effect::apply_instr;
 use crate::fault::VerifyFault;
-use crate::frame::{Frame, next_frame, falls_through, follow_jump};
+use crate::frame::{Frame, falls_through, follow_jump, next_frame};
 use crate::plan::{Plan, begins_instr};
 use il_image::image::Image;
 use il_image::instr::Instr;

@@ -37,7 +37,9 @@ pub fn value(alloc: Global, kind: &str, octets: &[u8]) -> Result<String> {
     };
     let mut is_written = false;
     if tlv.tag.number < 31 {
-        is_written = encode_value(alloc, kind, tlv)?.is_some_and(|it| octets.starts_with(it.as_slice()));
+        is_written = encode_value(alloc, kind, tlv)?.is_some_and(|it| octets.starts_with(
+            it.as_slice(),
+        ));
     }
     let text = match kind {
         "int" => format!(in alloc; "{:?}", int_of(tlv.content)),

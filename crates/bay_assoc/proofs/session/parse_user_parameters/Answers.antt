@@ -9,7 +9,8 @@ loop-unit-init c = rw c.new-units.ensures (found-first c.args.octets.now)
 
 pub loop-unit-preserved : goal.loop-unit-preserved
 loop-unit-preserved c =
-    found-more c.args.octets.now c.loop-unit.units c.next_unit.new.self (user_data_view c.loop-unit.found)
+    found-more c.args.octets.now c.loop-unit.units c.next_unit.new.self
+    (user_data_view c.loop-unit.found)
     _ (unit_of c.in-Unit.unit) c.loop-unit.invariant c.in-Unit.ensures.0
     c.user_data_with_unit-found.ensures
 

@@ -32,7 +32,8 @@ returns c shown =
       is = example-is case;
       inside = inside;
       covered = asked-so p (example-is case) case inside rule.when c.in_ok-covered.covered
-          (c.in_ok-covered.ensures ∙ ap (condition_truths case) c.as_slice.ensures) c.if-covered.false;
+          (c.in_ok-covered.ensures ∙ ap (condition_truths case) c.as_slice.ensures)
+          c.if-covered.false;
       early = subst
           (λ (xs : List Value). IsEarlyBy xs (first_machine g.image) (index_of_release g rule)
           c.args.time)

@@ -12,7 +12,8 @@ returns c given =
     let lasts = c.in_ok-lasting_cases.ensures (ap is_some c.in-Some.is) in
     record {
       long = let some = c.if-timing-eq0.false in grind (arith, some);
-      begun_met = subst (λ (is : List ConditionItem). IsMet g (begun_demand is n)) condition lasts.0;
+      begun_met =
+          subst (λ (is : List ConditionItem). IsMet g (begun_demand is n)) condition lasts.0;
       lasting_met =
           subst (λ (is : List ConditionItem). IsMet g (lasting_demand is n)) condition lasts.1;
       due_met = subst (IsMet g)

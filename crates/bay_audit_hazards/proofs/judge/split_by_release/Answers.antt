@@ -22,7 +22,8 @@ loop-reported-preserved-in-Refused-2 c =
     parted-refused first c.pop.new.self.items c.in-Some.reported c.loop-reported.released.items
     c.loop-reported.undecided.items so c.in-Refused.is
 
-pub loop-reported-preserved-in_ok-push-in-Depends : goal.loop-reported-preserved-in_ok-push-in-Depends
+pub loop-reported-preserved-in_ok-push-in-Depends
+    : goal.loop-reported-preserved-in_ok-push-in-Depends
 loop-reported-preserved-in_ok-push-in-Depends c =
     let first = c.args.cases.items in
     let so = subst (λ cs. ArePartedSo first cs c.loop-reported.released.items

@@ -87,7 +87,8 @@ invariant_of-result c =
     record {
       listed = c.in_ok-names.ensures;
       placed =
-          subst (λ (l : Layout). AreBoundByName l c.new.result) (sym c.in_ok-control_rows.ensures.layout)
+          subst (λ (l : Layout). AreBoundByName l c.new.result)
+          (sym c.in_ok-control_rows.ensures.layout)
           (subst (AreBoundByName layout) (sym c.new.ensures) placed);
       controlled = c.in_ok-control_rows.ensures.named;
       sized = c.in_ok-control_rows.ensures.sized ∙ sym count;

@@ -25,7 +25,8 @@ returns-clause-ok c =
     c.args.effects.now.decisions.items c.record_answer.new.effects.decisions.items
     (with_controls (state_of s.controls.controls c.answer.new.controls) (bay_of s))
     (later_pending s.pending pending)
-    answered-as.left (ap (later_pending d.pending) (is ∙ ap (pending_if a terms) answered-as.termination))
+    answered-as.left (ap (later_pending d.pending)
+    (is ∙ ap (pending_if a terms) answered-as.termination))
     (sends ∙ ap (λ pdus. c.args.effects.now.sent.items
     ++ map (λ pdu. sent_on a (octets_to_send terms pdu)) pdus) answered-as.sent)
     (does ∙ ap (λ cs. c.args.effects.now.commands.items ++ cs) answered-as.commands)

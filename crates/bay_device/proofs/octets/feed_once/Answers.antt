@@ -60,5 +60,6 @@ returns-clause-ok c connections =
     c.in_ok-fed.fed.used new.state c.requires.going fed.left
     (indication_of c.in_ok-fed.fed.heard new)
     (step_state (state_view connections c.args.state.now) c.args.effects.now)
-    (step_state (state_view connections c.handle_indication.new.state) c.handle_indication.new.effects)
+    (step_state (state_view connections c.handle_indication.new.state)
+    c.handle_indication.new.effects)
     fed.fed (λ later. c.in_ok-handle_indication.ensures.ok connections later)

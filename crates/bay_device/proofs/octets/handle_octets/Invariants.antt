@@ -15,7 +15,8 @@ invariant-loop-at l = record {
   moves : (connections : List (Option ConnectionState))
       → AdvancesTo l.now l.association l.initial.connection.state l.octets
       (step_state (state_view connections l.initial.state) l.initial.effects)
-      l.connection.state (drop l.at l.octets) (step_state (state_view connections l.state) l.effects);
+      l.connection.state (drop l.at l.octets)
+      (step_state (state_view connections l.state) l.effects);
 }
 
 abbrev pub decreases-loop-at : goal.decreases-loop-at

@@ -15,7 +15,8 @@ returns-in_default-2 c =
     let r = reading_in c.args.known.now in
     let s = c.args.switch.now in
     let d = c.in-Some.other.now in
-    opposed (leaves_current net r s d) (leaves_any net r s) (left-parts net r s d (sym c.in-Some.ensures))
+    opposed (leaves_current net r s d) (leaves_any net r s)
+    (left-parts net r s d (sym c.in-Some.ensures))
     (and-none-left _ _ (rw c.in_default-2.is at c.in_ok-beside.ensures))
 
 pub returns-in_default-3 : goal.returns-in_default-3
@@ -24,7 +25,8 @@ returns-in_default-3 c =
     let r = reading_in c.args.known.now in
     let s = c.args.switch.now in
     let d = c.in-Some.other.now in
-    opposed (leaves_current net r s d) (leaves_any net r s) (left-parts net r s d (sym c.in-Some.ensures))
+    opposed (leaves_current net r s d) (leaves_any net r s)
+    (left-parts net r s d (sym c.in-Some.ensures))
     (and-none-right _ _ (rw c.in_default-3.is at c.in_ok-walk.ensures))
 
 pub returns : goal.returns

@@ -20,7 +20,8 @@ returns-in-Err-kept-clause-memory g c =
 pub returns-then-limit-count-clause-too_long : goal.returns-then-limit-count-clause-too_long
 returns-then-limit-count-clause-too_long g c =
     let e = c.in-Ok.ensures in
-    λ _. HasRead-over c.loop-turn.invariant.calls_made _ _ _ _ _ _ e.call e.failed e.bytes.0 c.args.limit
+    λ _. HasRead-over c.loop-turn.invariant.calls_made _ _ _ _ _ _ e.call e.failed e.bytes.0
+    c.args.limit
     (omega arith) (omega arith)
 
 pub loop-turn-preserved : goal.loop-turn-preserved
@@ -37,7 +38,8 @@ loop-turn-preserved g c =
     }
 
 pub returns-then-has_failed-clause-calls_made : goal.returns-then-has_failed-clause-calls_made
-returns-then-has_failed-clause-calls_made g c = record { calls_made = AskedFew-none _ _ _; gave = tt }
+returns-then-has_failed-clause-calls_made g c =
+    record { calls_made = AskedFew-none _ _ _; gave = tt }
 
 pub loop-turn-init : goal.loop-turn-init
 loop-turn-init g c = record {
@@ -65,10 +67,12 @@ returns-in-Err-kept-clause-calls_made g c =
 pub returns-then-limit-count-clause-calls_made : goal.returns-then-limit-count-clause-calls_made
 returns-then-limit-count-clause-calls_made g c =
     let e = c.in-Ok.ensures in
-    ReadsAll-over c.loop-turn.invariant.calls_made _ _ _ _ _ _ e.call e.failed e.bytes.0 _ c.args.limit
+    ReadsAll-over c.loop-turn.invariant.calls_made _ _ _ _ _ _ e.call e.failed e.bytes.0 _
+    c.args.limit
     (omega arith) (omega arith) (omega arith)
 
 pub returns-in-Err-clause-calls_made : goal.returns-in-Err-clause-calls_made
 returns-in-Err-clause-calls_made g c =
     let e = c.in-Err.ensures in
-    ReadsAll-failed c.loop-turn.invariant.calls_made _ c.args.limit _ _ _ (omega arith) e.call e.failed
+    ReadsAll-failed c.loop-turn.invariant.calls_made _ c.args.limit _ _ _ (omega arith) e.call
+    e.failed

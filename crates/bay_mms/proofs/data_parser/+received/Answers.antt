@@ -64,7 +64,8 @@ read_datum-returns-in_ok-parts t c =
     ap (same_tag c.args.value.now.tag) (sym c.context_constructed.ensures) ∙ sym c.is.ensures
     ∙ c.if-is.true in
     structure-ok c.args.depth (part_of c.args.value.now) (data_in c.in_ok-parts.parts.items)
-    (omega arith) is c.in_ok-parts.ensures.requested ∙ ap Ok (sym (view-structure c.in_ok-parts.parts))
+    (omega arith) is c.in_ok-parts.ensures.requested
+    ∙ ap Ok (sym (view-structure c.in_ok-parts.parts))
 
 pub read_datum-returns-else-is : goal.read_datum-returns-else-is
 read_datum-returns-else-is t c =

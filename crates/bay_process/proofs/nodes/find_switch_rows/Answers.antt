@@ -12,10 +12,12 @@ pub find_status_rows-requires-3 : goal.find_status_rows-requires-3
 find_status_rows-requires-3 c = rw c.as_str-node.ensures (are-there _ _ _ c.requires.operations)
 
 pub find_status_rows-requires-4 : goal.find_status_rows-requires-4
-find_status_rows-requires-4 c = rw c.as_str-interlocking.ensures (are-there _ _ _ c.requires.ena_opn)
+find_status_rows-requires-4 c =
+    rw c.as_str-interlocking.ensures (are-there _ _ _ c.requires.ena_opn)
 
 pub find_status_rows-requires-5 : goal.find_status_rows-requires-5
-find_status_rows-requires-5 c = rw c.as_str-interlocking.ensures (are-there _ _ _ c.requires.ena_cls)
+find_status_rows-requires-5 c =
+    rw c.as_str-interlocking.ensures (are-there _ _ _ c.requires.ena_cls)
 
 pub returns : goal.returns
 returns c =

@@ -9,5 +9,6 @@ invariant-loop-index l = record {
   enables : rest-text l.tree 0 l.switches
       ≡ l.text.items ++ rest-text l.tree l.index (drop l.index l.switches);
   placed : digits_from 0 (switches_of l.switches)
-      ≡ l.offsets.items ++ digits_from (length l.text.items) (switches_of (drop l.index l.switches));
+      ≡ l.offsets.items ++ digits_from (length l.text.items)
+      (switches_of (drop l.index l.switches));
 }

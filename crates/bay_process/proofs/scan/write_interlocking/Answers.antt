@@ -34,7 +34,8 @@ returns-clause-kept c ss kept within =
     let e = c.args.enabled in
     let named = c.requires.rows.named in
     let few : c.args.kept.now.offsets.len < 2 ^ 63 = search rules in
-    let so_many : length c.args.kept.now.offsets.items ≡ c.args.kept.now.offsets.len = search rules in
+    let so_many : length c.args.kept.now.offsets.items ≡ c.args.kept.now.offsets.len =
+    search rules in
     kept-written rows c.write_output.new.tree ss k c.args.kept.now c.set.new.self e c.args.now kept
     within (omega (
       arith,

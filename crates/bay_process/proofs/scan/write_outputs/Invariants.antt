@@ -8,6 +8,7 @@ abbrev pub invariant-loop-index : goal.invariant-loop-index
 invariant-loop-index l = record {
   layout : layout_of l.tree ≡ layout_of l.initial.tree;
   written : rows_after_outputs (layout_of l.initial.tree) l.switches l.outputs l.now l.initial.tree
-      ≡ rows_after_outputs (layout_of l.initial.tree) (drop l.index l.switches) l.outputs l.now l.tree;
+      ≡ rows_after_outputs (layout_of l.initial.tree) (drop l.index l.switches) l.outputs l.now
+      l.tree;
   kept : AreStored l.tree (switches_of l.switches) l.index l.kept;
 }

@@ -13,7 +13,8 @@ returns-in-Ok g c =
 pub returns-in-Err : goal.returns-in-Err
 returns-in-Err g c =
     let same = c.set_presence-in-Err.ensures ∙ emptied-same Absent _ _ c.in-Err.ensures.bound
-    ∙ ap (with_no_data Absent) c.set_presence.ensures ∙ emptied-twice Absent Present c.args.port.now in
+    ∙ ap (with_no_data Absent) c.set_presence.ensures
+    ∙ emptied-twice Absent Present c.args.port.now in
     rw same
     (welcomes-gone _ c.args.moment c.args.device.now _ _ _ c.args.port.now _ _
     (rw c.set_presence.ensures at c.in-Err.ensures.does) c.close.ensures)

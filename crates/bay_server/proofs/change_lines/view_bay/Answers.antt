@@ -17,7 +17,8 @@ loop-switch-preserved c =
     (subst (λ n. c.loop-switch.switch < n) c.min-switch-end.ensures c.loop-switch-test.true) in
     rw c.view_switch.ensures (
       simp length-set sized,
-      fill_by_more (switch_view_at c.args.device.now) c.loop-switch.switches c.loop-switch.switch no_view
+      fill_by_more (switch_view_at c.args.device.now) c.loop-switch.switches c.loop-switch.switch
+          no_view
           (omega (arith, sized, below)) c.loop-switch.invariant.1,
       λ k past. get_or-set_other c.loop-switch.switches c.loop-switch.switch k _ no_view
           (λ same. omega (arith, past, below, same)) ∙ c.loop-switch.invariant.2 k past,
@@ -25,7 +26,8 @@ loop-switch-preserved c =
 
 pub returns : goal.returns
 returns c =
-    let seen : c.loop-switch.switches ≡ map (switch_view_at c.args.device.now) (range_with_len 0 32) =
+    let seen : c.loop-switch.switches
+    ≡ map (switch_view_at c.args.device.now) (range_with_len 0 32) =
     fill_by_all (switch_view_at c.args.device.now) c.loop-switch.switches 32 no_view
     c.loop-switch.invariant.0
     (λ k lt. by-end c.args.device.now c.loop-switch.switches k c.switch_count-count.result

@@ -61,7 +61,8 @@ returns-in_ok-reported-in-Ok g c =
           c.clocks.ensures c.log_shift.ensures c.in-Ok.ensures.right
           (rw (sym c.write_record.ensures) at c.in-Ok.ensures.ok)
           (ap bay_view c.device-3.ensures)
-          (reports-seen {H = Unit {0}} (CountedCall g.L.Link.does g.L.Link.failures) (λ _ _ _. Unit {0})
+          (reports-seen {H = Unit {0}} (CountedCall g.L.Link.does g.L.Link.failures)
+          (λ _ _ _. Unit {0})
           g.W.Sink.contents g.W.Sink.does _ _ _ _ _ _ _ _ _ _ _ _ c.view_for_log-before.ensures
           c.in_ok-reported-in-Ok.ensures) c.after-served.ensures c.log_record.ensures),
     )

@@ -18,7 +18,8 @@ loop-place-preserved c =
     get_or_default rows i c.index-rows-place.result (record { name = []; leaf = None }) lt in
     let named : c.as_bytes-name.result.now ≡ name_at rows i =
     c.as_bytes-name.ensures.value ∙ c.as_str.ensures ∙ ap (λ (r : Row). r.name) row in
-    let indexing = subst (λ n. IsIndexing n rows c.loop-place.longest first c.loop-place.next.items) at
+    let indexing =
+    subst (λ n. IsIndexing n rows c.loop-place.longest first c.loop-place.next.items) at
     c.loop-place.invariant in
     let bucket = c.bucket_of-bucket.result in
     let count : c.len.result ≡ length rows + 1 =

@@ -8,7 +8,8 @@ use Rattle.cmd_audit.proofs.judging_diagram.write_count.Goals as goal
 pub returns : goal.returns
 returns g c =
     Prints-alone _
-    (Prints-last (IsLoggedOutput None (codes "diagram " ++ (decimal c.args.count ++ codes "\n")) 0 None)
+    (Prints-last (IsLoggedOutput None (codes "diagram " ++ (decimal c.args.count ++ codes "\n")) 0
+    None)
     c.finish.new.writer 0 _ (refl, (refl, refl))
     (Puts-then c.put.ensures (Puts-then c.put_number.ensures c.put-2.ensures))
     c.finish.ensures.finishes c.finish.ensures.status)

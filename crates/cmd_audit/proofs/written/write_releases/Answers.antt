@@ -39,7 +39,8 @@ returns-in_err-push g c =
     let half = ways-half k n low in
     when-err _ c.from_residual-in_err-push.result c.from_residual-in_err-push.ensures.0
     (some-of c.args.bay.now c.args.names.now c.args.program.now (directions n)
-    (directions k ++ (k, Open) ∷ []) ((k, Close) ∷ half.0) (before ++ c.in_ok-first.first ∷ []) half.1
+    (directions k ++ (k, Open) ∷ []) ((k, Close) ∷ half.0) (before ++ c.in_ok-first.first ∷ [])
+    half.1
     one)
 
 pub returns-in_err-second : goal.returns-in_err-second
@@ -55,7 +56,8 @@ returns-in_err-second g c =
     let half = ways-half k n low in
     when-err _ c.from_residual-in_err-second.result c.from_residual-in_err-second.ensures.0
     (stopped-at c.args.bay.now c.args.names.now c.args.program.now (directions n)
-    (directions k ++ (k, Open) ∷ []) half.0 (k, Close) (before ++ c.in_ok-first.first ∷ []) half.1 one
+    (directions k ++ (k, Open) ∷ []) half.0 (k, Close) (before ++ c.in_ok-first.first ∷ []) half.1
+    one
     c.in_err-second.ensures)
 
 pub returns-in_err-push-2 : goal.returns-in_err-push-2
@@ -69,7 +71,8 @@ returns-in_err-push-2 g c =
     let one = more-releases c.args.bay.now c.args.names.now c.args.program.now (directions k) before
     (k, Open) c.in_ok-first.first c.loop-switch.invariant c.in_ok-first.ensures in
     let two = more-releases c.args.bay.now c.args.names.now c.args.program.now
-    (directions k ++ (k, Open) ∷ []) (before ++ c.in_ok-first.first ∷ []) (k, Close) c.in_ok-second.second
+    (directions k ++ (k, Open) ∷ []) (before ++ c.in_ok-first.first ∷ []) (k, Close)
+    c.in_ok-second.second
     one c.in_ok-second.ensures in
     let half = ways-half k n low in
     when-err _ c.from_residual-in_err-push-2.result c.from_residual-in_err-push-2.ensures.0
@@ -85,7 +88,8 @@ loop-switch-preserved g c =
     let one = more-releases c.args.bay.now c.args.names.now c.args.program.now (directions k) before
     (k, Open) c.in_ok-first.first c.loop-switch.invariant c.in_ok-first.ensures in
     let two = more-releases c.args.bay.now c.args.names.now c.args.program.now
-    (directions k ++ (k, Open) ∷ []) (before ++ c.in_ok-first.first ∷ []) (k, Close) c.in_ok-second.second
+    (directions k ++ (k, Open) ∷ []) (before ++ c.in_ok-first.first ∷ []) (k, Close)
+    c.in_ok-second.second
     one c.in_ok-second.ensures in
     subst (λ (rs : List Release). PutsReleases g.W.Sink.contents g.W.Sink.does c.args.bay.now
     c.args.names.now c.args.program.now (directions (k + 1)) rs c.args.writer.now

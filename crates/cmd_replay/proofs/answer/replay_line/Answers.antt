@@ -7,6 +7,7 @@ pub returns-in-Some-Blank : goal.returns-in-Some-Blank
 returns-in-Some-Blank g c =
     rw (sym c.in-Some-Blank.ensures.line, c.in-Some-Blank.field-0-is)
     (record {
-      answers = record { choice = heard None; text = Puts-nil _; last = refl; after_is = λ e. refl };
+      answers =
+          record { choice = heard None; text = Puts-nil _; last = refl; after_is = λ e. refl };
       end = tt;
     })

@@ -4,7 +4,8 @@ use Rattle.il_compile.proofs.compile.compile.Goals as goal
 
 pub returns-clause-follows : goal.returns-clause-follows
 returns-clause-follows c =
-    does-the-text (checked_view c.args.program.now) c.in_ok-image.image c.compile_image.ensures.typed
+    does-the-text (checked_view c.args.program.now) c.in_ok-image.image
+    c.compile_image.ensures.typed
     c.in_ok-image.ensures.image
 
 pub returns-clause-tabled : goal.returns-clause-tabled

@@ -10,7 +10,8 @@ pub returns : goal.returns
 returns c =
     let empty : c.loop-instr.continuation.items ≡ [] = search rules in
     c.in_ok-spell-3.ensures.ok
-    ∙ whole-spelled (reverse c.args.continuation.items) c.loop-instr.continuation.items push_unset Halt
+    ∙ whole-spelled (reverse c.args.continuation.items) c.loop-instr.continuation.items push_unset
+    Halt
     c.loop-instr.code.items empty
     (c.loop-instr.invariant ∙ ap (λ l. l ++ all_spelled (reverse c.args.continuation.items))
     (c.in_ok-spell.ensures.ok ∙ ap (λ l. l ++ spelling push_unset) c.new-code.ensures.items))

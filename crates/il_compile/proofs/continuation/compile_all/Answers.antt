@@ -17,7 +17,8 @@ put_item-requires-clause-spellable c =
 
 pub put_item-requires-clause-bounded : goal.put_item-requires-clause-bounded
 put_item-requires-clause-bounded c =
-    bounded c.args.externals (map item_view (drop c.loop-at.at c.args.items.now)) c.loop-at.continuation
+    bounded c.args.externals (map item_view (drop c.loop-at.at c.args.items.now))
+    c.loop-at.continuation
     c.loop-at.invariant.settled
 
 pub loop-at-preserved : goal.loop-at-preserved

@@ -10,7 +10,8 @@ loop-instr-preserved c =
     record {
       bounded = omega (arith, c.bounded_sum-all.ensures);
       counted =
-          one-counted c.loop-instr.pending.items c.pop.new.self.items c.in-Some.instr c.loop-instr.all
+          one-counted c.loop-instr.pending.items c.pop.new.self.items c.in-Some.instr
+          c.loop-instr.all
           c.bounded_sum-all.result c.octets_of.result pending c.octets_of.ensures
           c.bounded_sum-all.ensures at.bounded ∙ at.counted;
       before =

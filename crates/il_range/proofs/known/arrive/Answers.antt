@@ -17,12 +17,14 @@ returns-clause-ok c =
     elim c.match-take.branch [
       | in-None w ↦
           arrived old c.args.place o c.take.new.self c.match-take.come c.args.known less was
-          (subst (λ (s : Known). IsCoveredBy (known_view c.args.known) (known_view s)) (sym w.come-is)
+          (subst (λ (s : Known). IsCoveredBy (known_view c.args.known) (known_view s))
+          (sym w.come-is)
           (λ h c. c))
           (λ s is. absurd (let none = w.in-None.is in let value = c.take.ensures.value in cc))
       | in-Some+in_ok-come-in-Some w ↦
           arrived old c.args.place o c.take.new.self c.match-take.come c.args.known less was
-          (subst (λ (s : Known). IsCoveredBy (known_view c.args.known) (known_view s)) (sym w.come-is)
+          (subst (λ (s : Known). IsCoveredBy (known_view c.args.known) (known_view s))
+          (sym w.come-is)
           (under-right w.in-Some.other c.args.known _ w.in_ok-come-in-Some.ensures))
           (λ s is. let some = w.in-Some.is in let value = c.take.ensures.value in
           let same : w.in-Some.other ≡ s = cc in

@@ -44,7 +44,8 @@ returns-in-Jump-clause-ok c =
     on_ok_weaker c.jump.result
     (λ m. visits-moves code instr offset next old new c.in-Some.here reads
     c.in-Some-instr_at.ensures.forward.0 c.in-Some.ensures.value
-    (subst (λ (mid : List (Option Known)). CoversSteps instr next (known_view c.in-Some.here) mid new)
+    (subst (λ (mid : List (Option Known)). CoversSteps instr next (known_view c.in-Some.here) mid
+    new)
     c.take_pending.ensures.after m))
     c.jump.ensures.ok
 
@@ -62,7 +63,8 @@ returns-in_default-instr c =
           (λ m. visits-moves code instr offset next old new c.in-Some.here
           (sym c.in-Some-instr_at.ensures.value) c.in-Some-instr_at.ensures.forward.0
           c.in-Some.ensures.value
-          (subst (λ (mid : List (Option Known)). CoversSteps instr next (known_view c.in-Some.here) mid
+          (subst (λ (mid : List (Option Known)). CoversSteps instr next (known_view c.in-Some.here)
+          mid
           new)
           c.take_pending.ensures.after m))
           c.step.ensures.ok;

@@ -41,4 +41,5 @@ returns-in-Ok-clause-predicts c =
     (sym (ap (λ v. v.items) is.0)) predicts)) c.prediction_at.ensures
 
 pub returns-in_default-clause-predicts : goal.returns-in_default-clause-predicts
-returns-in_default-clause-predicts c = c.predict_nothing.ensures.predicts c.args.start.items c.args.delays.now
+returns-in_default-clause-predicts c =
+    c.predict_nothing.ensures.predicts c.args.start.items c.args.delays.now

@@ -9,7 +9,8 @@ use Rattle.il_range.proofs.scan.scan_ranges.Goals as goal
 pub returns-clause-predicts : goal.returns-clause-predicts
 returns-clause-predicts c =
     IfOk-weaker c.predict.result _ _
-    (λ f h. subst (λ (i : Image). PredictsScans i c.args.memory.now c.args.delays.now c.args.given.now
+    (λ f h. subst (λ (i : Image). PredictsScans i c.args.memory.now c.args.delays.now
+    c.args.given.now
     f.delays.items f.ranges.items) c.image-image.ensures.value
     (tells-given c.image-image.result.now c.in_ok-start.start.items c.args.memory.now
     c.args.delays.now c.args.given.now f.delays.items f.ranges.items

@@ -28,6 +28,7 @@ unreachable-requires c =
 
 pub returns-clause-value : goal.returns-clause-value
 returns-clause-value c =
-    fetched c.args.code.now c.args.offset (λ k. (c.type_inv.code k).fits) c.requires c.in-Some.opcode
+    fetched c.args.code.now c.args.offset (λ k. (c.type_inv.code k).fits) c.requires
+    c.in-Some.opcode
     (sym c.of.ensures ∙ c.in-Some.is) c.read_operand.result c.read_operand.ensures.value
     c.read_operand.ensures.within

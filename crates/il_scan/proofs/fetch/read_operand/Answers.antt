@@ -5,7 +5,8 @@ use Rattle.il_scan.proofs.fetch.read_operand.Goals as goal
 pub returns-in-Slot-clause-value : goal.returns-in-Slot-clause-value
 returns-in-Slot-clause-value c =
     rw c.in-Slot.is (numbered (λ m. instr.Slot c.in-Slot.slot_use m) c.args.code.now c.args.at
-    c.read_number.result c.requires.within (rw c.in-Slot.is at c.requires.whole) c.read_number.ensures).value
+    c.read_number.result c.requires.within (rw c.in-Slot.is at c.requires.whole)
+    c.read_number.ensures).value
 
 pub returns-in-Slot-clause-within : goal.returns-in-Slot-clause-within
 returns-in-Slot-clause-within c =
@@ -20,7 +21,8 @@ returns-in-Jump-clause-value c =
 
 pub returns-in-Jump-clause-within : goal.returns-in-Jump-clause-within
 returns-in-Jump-clause-within c =
-    (numbered (λ m. instr.Jump c.in-Jump.when m) c.args.code.now c.args.at c.read_number-in-Jump.result
+    (numbered (λ m. instr.Jump c.in-Jump.when m) c.args.code.now c.args.at
+    c.read_number-in-Jump.result
     c.requires.within (rw c.in-Jump.is at c.requires.whole) c.read_number-in-Jump.ensures).within
 
 pub returns-in-Timer-clause-value : goal.returns-in-Timer-clause-value

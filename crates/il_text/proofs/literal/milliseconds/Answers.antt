@@ -8,7 +8,8 @@ use Rattle.il_text.proofs.literal.milliseconds.Goals as goal
 pub returns-in_default : goal.returns-in_default
 unfolding milliseconds
 returns-in_default c =
-    let none = none-from _ (c.parse_parts.ensures ∙ ap (option_map duration_view) c.in_default.is) in
+    let none =
+    none-from _ (c.parse_parts.ensures ∙ ap (option_map duration_view) c.in_default.is) in
     sym (ap (λ (o : Option Duration). capped_time (option_and_then total_of o)) none)
 
 pub returns-then-is_empty : goal.returns-then-is_empty

@@ -44,7 +44,8 @@ returns-in-Err-clause-err c =
     let clash =
     clash-of c.take_pending-old.result c.in-Some.other c.as_slice.result.now c.in-Some.is h.1 in
     let there =
-    subst (λ (kinds : List CellKind). HasOtherDepth (option_map plain_frame c.take_pending-old.result)
+    subst (λ (kinds : List CellKind). HasOtherDepth
+    (option_map plain_frame c.take_pending-old.result)
     (reverse kinds)) c.as_slice.ensures.value clash in (
       h.0,
       (

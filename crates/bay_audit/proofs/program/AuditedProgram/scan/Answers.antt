@@ -15,6 +15,7 @@ returns-clause-predicts c =
     (foresees-by (program own.verified.now own.reads.items own.writes.items) own.memory.items
     c.args.limits.now c.args.given.now found.delays.items found.ranges.items c.self.invariant
     (subst
-    (λ (memory : List Range). PredictsScans own.verified.now memory c.args.limits.now c.args.given.now
+    (λ (memory : List Range). PredictsScans own.verified.now memory c.args.limits.now
+    c.args.given.now
     found.delays.items found.ranges.items) c.as_slice-memory.ensures.value
     c.in_ok-found.ensures.predicts))

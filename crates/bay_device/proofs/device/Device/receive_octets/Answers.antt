@@ -26,7 +26,8 @@ returns c state is_open =
     let own = c.in-Some.connection.state in
     let why = result_err c.handle_octets.result in
     let begun : step_state s c.new-effects.result ≡ step_start s =
-    rw (c.new-effects.ensures.sent, c.new-effects.ensures.commands, c.new-effects.ensures.decisions) refl in
+    rw (c.new-effects.ensures.sent, c.new-effects.ensures.commands, c.new-effects.ensures.decisions)
+    refl in
     let here : connection_at (slot_of a) s ≡ Some state =
     ap (connection_at (slot_of a)) c.self.view_is ∙ is_open in
     let at : connection_at (slot_of a) s ≡ unwrap_or (slice_get cs slot) None =
@@ -49,7 +50,8 @@ returns c state is_open =
     subst (λ (u : ConnectionState). ResultsIn now a u octets (step_start s) why
     (step_state t c.handle_octets.new.effects))
     same
-    (subst (λ (d : StepState). ResultsIn now a own octets d why (step_state t c.handle_octets.new.effects)) begun
+    (subst (λ (d : StepState). ResultsIn now a own octets d why
+    (step_state t c.handle_octets.new.effects)) begun
     comes)
     in
     let left : c.finish.new.self ≡ recv_after a (connection_after state octets) t why =

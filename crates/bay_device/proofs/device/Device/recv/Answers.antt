@@ -73,4 +73,5 @@ returns c =
     c.receive_octets.new.self) after heard) in
     subst (λ (t : State). Receives now a octets t (Ok c.receive_octets.result)
     c.receive_octets.new.self) c.self.view_is
-    (received now a octets s c.receive_octets.new.self state.0 c.receive_octets.result some lent own)
+    (received now a octets s c.receive_octets.new.self state.0 c.receive_octets.result some lent
+    own)

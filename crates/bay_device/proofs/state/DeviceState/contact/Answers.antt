@@ -29,7 +29,8 @@ returns c connections =
     let own = ap (λ (t : State). slice_get t.switches k) after ∙ here.1 in
     let took = c.apply_contact-report_reached.ensures.after connections here.0 own in
     let told : c.or_else.result
-    ≡ or_else (expiry_report c.args.now s) (reached_report_at k c.args.position (device_at c.args.now s)) =
+    ≡ or_else (expiry_report c.args.now s)
+    (reached_report_at k c.args.position (device_at c.args.now s)) =
     c.or_else.ensures
     ∙ ap (λ (o : Option Sent). or_else o c.apply_contact-report_reached.result)
     (c.advance-over.ensures.sent connections)

@@ -13,4 +13,5 @@ pub returns-else-is_ok : goal.returns-else-is_ok
 returns-else-is_ok g c =
     let put = c.write_pending.ensures in
     Puts-stuck c.args.self.now c.write_pending.new.self c.args.text.now c.write_pending.result
-    put.err put.fault put.kept put.calls_made put.logs (sym c.is_ok.ensures.value ∙ c.if-is_ok.false)
+    put.err put.fault put.kept put.calls_made put.logs
+    (sym c.is_ok.ensures.value ∙ c.if-is_ok.false)

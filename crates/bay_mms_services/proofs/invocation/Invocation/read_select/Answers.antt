@@ -12,7 +12,8 @@ pub returns-in_ok-object-in-Ok-clause-ok : goal.returns-in_ok-object-in-Ok-claus
 returns-in_ok-object-in-Ok-clause-ok c =
     let d = c.args.self.now.bay.now in
     let b = bay_of c.args.self.now in
-    let r = read_state_view d c.args.controls.now c.args.decisions.now.items c.args.response.now.octets
+    let r = read_state_view d c.args.controls.now c.args.decisions.now.items
+    c.args.response.now.octets
     in
     let told : c.as_str.result.now
     ≡ selected_text (object_of b (name_at d.tree c.args.row)) (Ok tt) =
@@ -31,7 +32,8 @@ pub returns-in_ok-object-in-Ok-clause-long : goal.returns-in_ok-object-in-Ok-cla
 returns-in_ok-object-in-Ok-clause-long c =
     let d = c.args.self.now.bay.now in
     let b = bay_of c.args.self.now in
-    let r = read_state_view d c.args.controls.now c.args.decisions.now.items c.args.response.now.octets
+    let r = read_state_view d c.args.controls.now c.args.decisions.now.items
+    c.args.response.now.octets
     in
     let told : c.as_str.result.now
     ≡ selected_text (object_of b (name_at d.tree c.args.row)) (Ok tt) =

@@ -37,7 +37,8 @@ returns c =
     (ap (λ (v : _). v.items) did.reports ∙ put.reports)
     (ordered ∙ ap (λ (v : _). v.items ++ operate_commands k asking answer) put.commands)
     (ap (λ (v : _). v.items) did.decisions ∙ put.decisions)
-    (due ∙ ap (λ (e : Option TerminationReports). later_ending e (accepted_termination a k item asking b answer))
+    (due ∙ ap (λ (e : Option TerminationReports). later_ending e
+    (accepted_termination a k item asking b answer))
     put.termination)
     ∙ ap (λ (x : Ask). after_operate a b k item asking
     (operate_outcome a.association k x view a.now w.controls) w) c.control_request_of.ensures

@@ -19,7 +19,8 @@ returns-in_err-taken-clause-err c =
 
 pub loop-used-preserved : goal.loop-used-preserved
 loop-used-preserved c =
-    let t : StepConsumes c.loop-used.self (drop c.loop-used.used c.args.piece.now) c.in_ok-taken.taken More
+    let t : StepConsumes c.loop-used.self (drop c.loop-used.used c.args.piece.now)
+    c.in_ok-taken.taken More
     c.step.new.self =
     rw (c.in-More.is, take_rest c.args.piece.now c.loop-used.used) at c.in_ok-taken.ensures.ok
     in
@@ -37,7 +38,8 @@ loop-used-preserved c =
 
 pub returns-in_default-clause-ok : goal.returns-in_default-clause-ok
 returns-in_default-clause-ok c =
-    let t : StepConsumes c.loop-used.self (drop c.loop-used.used c.args.piece.now) c.in_ok-taken.taken
+    let t : StepConsumes c.loop-used.self (drop c.loop-used.used c.args.piece.now)
+    c.in_ok-taken.taken
     c.in_ok-taken.kind c.step.new.self =
     rw (take_rest c.args.piece.now c.loop-used.used) at c.in_ok-taken.ensures.ok in
     reaches-kind c.args.self.now c.loop-used.self c.step.new.self c.args.piece.now c.loop-used.used

@@ -11,7 +11,8 @@ use Rattle.il_compile.proofs.continuation.Continuation.put_jump.Goals as goal
 
 pub returns : goal.returns
 returns c n is settled =
-    on_success c.prepend_pending.result c.prepend_pending.ensures.counted c.prepend_pending.ensures.before
+    on_success c.prepend_pending.result c.prepend_pending.ensures.counted
+    c.prepend_pending.ensures.before
     c.prepend_pending.ensures.empty c.prepend_pending.ensures.label_octets
     (λ counted before empty label_octets.
     put-leap n (transfer (go.Jump c.args.condition c.args.label)) is _

@@ -6,7 +6,8 @@ use Rattle.il_compile.proofs.continuation.Continuation.put_timer.Goals as goal
 
 pub returns : goal.returns
 returns c is settled =
-    on_success c.prepend_pending.result c.prepend_pending.ensures.counted c.prepend_pending.ensures.before
+    on_success c.prepend_pending.result c.prepend_pending.ensures.counted
+    c.prepend_pending.ensures.before
     c.prepend_pending.ensures.empty c.prepend_pending.ensures.label_octets
     (λ counted before empty label_octets. put-settled c.args.externals
     (transfer (go.Call c.args.timer c.args.arguments)) is _ c.args.self.now

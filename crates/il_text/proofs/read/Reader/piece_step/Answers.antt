@@ -10,7 +10,8 @@ pub returns-in-LineEnd-clause-ok : goal.returns-in-LineEnd-clause-ok
 returns-in-LineEnd-clause-ok c =
     let old = c.args.self.now in
     let piece =
-    subst (λ (bs : List ℕ). IsFirstLexeme bs old.at c.lexeme_end-end.result) c.as_bytes.ensures.value
+    subst (λ (bs : List ℕ). IsFirstLexeme bs old.at c.lexeme_end-end.result)
+    c.as_bytes.ensures.value
     c.lexeme_end-end.ensures.piece in
     rw (sym (step-ended old.last (progress_of old.listing) old.line (symbols_of old.tokens.items)
     old.text.now old.in_comment old.at _ c.requires.outside piece c.in-LineEnd.ensures)) at
@@ -20,7 +21,8 @@ pub returns-in-LineEnd-clause-refused : goal.returns-in-LineEnd-clause-refused
 returns-in-LineEnd-clause-refused c =
     let old = c.args.self.now in
     let piece =
-    subst (λ (bs : List ℕ). IsFirstLexeme bs old.at c.lexeme_end-end.result) c.as_bytes.ensures.value
+    subst (λ (bs : List ℕ). IsFirstLexeme bs old.at c.lexeme_end-end.result)
+    c.as_bytes.ensures.value
     c.lexeme_end-end.ensures.piece in
     rw (sym (step-ended old.last (progress_of old.listing) old.line (symbols_of old.tokens.items)
     old.text.now old.in_comment old.at _ c.requires.outside piece c.in-LineEnd.ensures)) at
