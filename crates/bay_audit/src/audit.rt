@@ -10,9 +10,9 @@ use crate::case::{Case, Test};
 use crate::demand::{Demand, Goal};
 use crate::effort::PassBudget;
 use crate::program::AuditedProgram;
-use crate::release::releases;
+use crate::release::find_releases;
 use crate::until::answer_timed_rule;
-use crate::verdict::verdict;
+use crate::verdict::find_verdict;
 use bay_audit_rules::rule::Rule;
 use bay_base::listing::Listing;
 use bay_config::bay::Bay;
@@ -60,7 +60,7 @@ pub(crate) fn answer_demand(
             break;
         };
         *passes = passes.saturating_sub(1);
-        match verdict(alloc, program, demand, &case)? {
+        match find_verdict(alloc, program, demand, &case)? {
             Verdict::Obeyed => cases = cases.saturating_add(1),
             Verdict::Broken => return Ok(RuleAnswer::Broken { case }),
             Verdict::Open(depends_on) => return Ok(RuleAnswer::Open { case, depends_on }),
@@ -130,7 +130,7 @@ pub fn answer_rule(
 }
 
 // Answers a list of rules.
-fn answers(
+fn answer_each(
     alloc: Global,
     program: &AuditedProgram<'_>,
     rules: &[Rule],
@@ -161,7 +161,7 @@ pub fn answer_rules(
 {
     let program = AuditedProgram::new(alloc, bay, verified)?;
     let mut budget = PassBudget::new(verified.image(), effort, rules.len());
-    answers(alloc, &program, rules, &mut budget)
+    answer_each(alloc, &program, rules, &mut budget)
 }
 
 /// Returns the number of answers of an audit: one for each rule, and one for each release.
@@ -202,7 +202,7 @@ pub fn audit(
     let program = AuditedProgram::new(alloc, bay, verified)?;
     let mut budget = PassBudget::new(verified.image(), effort, answer_count(bay, rules));
     Ok(Audit {
-        answers: answers(alloc, &program, rules, &mut budget)?,
-        releases: releases(alloc, bay, &program, &mut budget)?,
+        answers: answer_each(alloc, &program, rules, &mut budget)?,
+        releases: find_releases(alloc, bay, &program, &mut budget)?,
     })
 }

@@ -13,7 +13,7 @@ use crate::audit::{plain_demand, split};
 use crate::case::Case;
 use crate::program::AuditedProgram;
 use crate::truth_set::condition_truths_of;
-use crate::verdict::{release_index, verdict};
+use crate::verdict::{find_verdict, release_index};
 use bay_audit_rules::rule::Rule;
 use il_image::value::Value;
 use il_scan::machine::Machine;
@@ -144,7 +144,7 @@ pub(crate) fn early_case(
             break;
         };
         *passes = passes.saturating_sub(1);
-        match verdict(alloc, program, &demand, &case)? {
+        match find_verdict(alloc, program, &demand, &case)? {
             Verdict::Obeyed => {}
             Verdict::Split(test) => split(alloc, &mut left, &case, test)?,
             Verdict::Broken | Verdict::Open(_) => {

@@ -13,7 +13,7 @@ use crate::effort::PassBudget;
 use crate::program::AuditedProgram;
 use crate::split::dependencies_of;
 use crate::truth_set::TruthSet;
-use crate::verdict::{input_ranges, release_range, run_pass, verdict};
+use crate::verdict::{find_verdict, input_ranges, release_range, run_pass};
 use bay_audit_rules::rule::{ConditionItem, RuleKind};
 use bay_base::listing::Listing;
 use bay_base::switch::Operation;
@@ -22,7 +22,11 @@ use il_range::range::Range;
 use std::alloc::{AllocError, Global};
 
 // Returns the demand that a switch is always released in a direction.
-fn demand(alloc: Global, switch: usize, operation: Operation) -> Result<Demand, AllocError>
+fn make_release_demand(
+    alloc: Global,
+    switch: usize,
+    operation: Operation,
+) -> Result<Demand, AllocError>
     ensures { IfOk result (λ demand. demand ≡ spec.release_demand switch operation) }
 {
     let when = vec![in alloc; ConditionItem::True]?;
@@ -57,7 +61,7 @@ fn lost_release(
 ) -> Result<CaseRelease, AllocError>
     ensures { IfOk result (IsRightFor (IsLost bay.now) program.now switch operation) }
 {
-    let demand = demand(alloc, switch, operation)?;
+    let demand = make_release_demand(alloc, switch, operation)?;
     let case = Case::lost(
         alloc,
         bay.switches.as_slice().len(),
@@ -105,7 +109,7 @@ fn start_release(
 /// Returns the cases in which a switch is released in a direction, in its share of the passes that
 /// are left. Leaves the passes that it did not need to the answers after it. Fails only if an
 /// allocation fails.
-pub fn release(
+pub fn find_release(
     alloc: Global,
     bay: &Bay,
     program: &AuditedProgram<'_>,
@@ -122,7 +126,7 @@ pub fn release(
     // It made at most its share of the passes, and one answer less shares the others.
     ensures shared { OnOk result (IsSpent budget.old budget.new) }
 {
-    let demand = demand(alloc, switch, operation)?;
+    let demand = make_release_demand(alloc, switch, operation)?;
     let mut left = Case::all(alloc)?;
     let mut cases = Vec::new(alloc);
     let share = budget.share();
@@ -132,7 +136,7 @@ pub fn release(
             break;
         };
         passes = passes.saturating_sub(1);
-        match release_or_test(verdict(alloc, program, &demand, &case)?) {
+        match release_or_test(find_verdict(alloc, program, &demand, &case)?) {
             Ok(release) => cases.push(ReportedCase { case, release })?,
             Err(test) => split(alloc, &mut left, &case, test)?,
         }
@@ -150,7 +154,7 @@ pub fn release(
 
 /// Returns the cases in which each switch of a bay is released, opening first, each in its share of
 /// the passes that are left. Fails only if an allocation fails.
-pub fn releases(
+pub fn find_releases(
     alloc: Global,
     bay: &Bay,
     program: &AuditedProgram<'_>,
@@ -163,8 +167,8 @@ pub fn releases(
 {
     let mut releases = Vec::new(alloc);
     for switch in 0..bay.switches.as_slice().len() {
-        releases.push(release(alloc, bay, program, switch, Operation::Open, budget)?)?;
-        releases.push(release(alloc, bay, program, switch, Operation::Close, budget)?)?;
+        releases.push(find_release(alloc, bay, program, switch, Operation::Open, budget)?)?;
+        releases.push(find_release(alloc, bay, program, switch, Operation::Close, budget)?)?;
     }
     Ok(releases)
 }

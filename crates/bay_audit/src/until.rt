@@ -37,7 +37,12 @@ fn limit_of(
 
 // Returns the demand that the switch is not released unless a delay of the timer runs that began at
 // least `time` ago.
-fn late_demand(alloc: Global, rule: &Rule, time: u32, timer: usize) -> Result<Demand, AllocError>
+fn make_late_demand(
+    alloc: Global,
+    rule: &Rule,
+    time: u32,
+    timer: usize,
+) -> Result<Demand, AllocError>
     ensures { IfOk result (λ demand. demand ≡ spec.delay_demand rule.now time timer) }
 {
     let when = copy_of(alloc, rule.when.as_slice())?;
@@ -55,7 +60,7 @@ fn late_demand(alloc: Global, rule: &Rule, time: u32, timer: usize) -> Result<De
 }
 
 // Returns the demand that the switch is not released while the condition is FALSE.
-fn presence_demand(
+fn make_presence_demand(
     alloc: Global,
     rule: &Rule,
     condition: &[ConditionItem],
@@ -77,7 +82,7 @@ fn presence_demand(
 }
 
 // Returns the demand that no delay of the timer runs while the condition is FALSE.
-fn idle_demand(
+fn make_idle_demand(
     alloc: Global,
     condition: &[ConditionItem],
     timer: usize,
@@ -97,7 +102,7 @@ fn idle_demand(
 
 // Returns the demand that the switch is released while the condition is TRUE, in scans before
 // which the delays of timers are within the limits.
-fn release_demand(
+fn make_early_demand(
     alloc: Global,
     rule: &Rule,
     condition: &[ConditionItem],
@@ -170,11 +175,11 @@ fn cases_by_timer(
         → IsMet program.now (spec.delay_demand rule.now timing.now.time timer)
         × IsMet program.now (spec.idle_timer_demand timing.now.condition timer)) }
 {
-    let demand = late_demand(alloc, rule, timing.time, timer)?;
+    let demand = make_late_demand(alloc, rule, timing.time, timer)?;
     let Some(late_demand) = cases_needed(alloc, program, &demand, passes)? else {
         return Ok(None);
     };
-    let demand = idle_demand(alloc, timing.condition.as_slice(), timer)?;
+    let demand = make_idle_demand(alloc, timing.condition.as_slice(), timer)?;
     let Some(idle_demand) = cases_needed(alloc, program, &demand, passes)? else {
         return Ok(None);
     };
@@ -245,7 +250,7 @@ fn answer_forbidden(
 ) -> Result<RuleAnswer, AllocError>
     ensures { IfOk result (IsUntilAnswer program.now rule.now timing.now) }
 {
-    let demand = presence_demand(alloc, rule, timing.condition.as_slice())?;
+    let demand = make_presence_demand(alloc, rule, timing.condition.as_slice())?;
     match answer_demand(alloc, program, &demand, passes)? {
         RuleAnswer::Holds { cases } => {
             if let Some(found) = answer_by_bearing_timer(
@@ -307,7 +312,7 @@ fn cases_due(
         return Ok(None);
     };
     let limits = limit_of(alloc, timer, KnownDelay::AtLeast(timing.time))?;
-    let demand = release_demand(alloc, rule, condition, limits)?;
+    let demand = make_early_demand(alloc, rule, condition, limits)?;
     let Some(release_cases) = cases_needed(alloc, program, &demand, passes)? else {
         return Ok(None);
     };
@@ -346,7 +351,7 @@ fn answer_required(
     ensures { IfOk result (IsAfterAnswer program.now rule.now timing.now) }
 {
     let none = Listing::new(Vec::new(alloc));
-    let demand = release_demand(alloc, rule, timing.condition.as_slice(), none)?;
+    let demand = make_early_demand(alloc, rule, timing.condition.as_slice(), none)?;
     let found = answer_demand(alloc, program, &demand, passes)?;
     let RuleAnswer::Open { case, depends_on } = found else {
         return Ok(found);

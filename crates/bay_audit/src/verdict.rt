@@ -216,7 +216,7 @@ pub(crate) fn run_pass(
 }
 
 /// Returns the verdict of one pass on a demand in a case. Fails only if an allocation fails.
-pub fn verdict(
+pub fn find_verdict(
     alloc: Global,
     program: &AuditedProgram<'_>,
     demand: &Demand,

@@ -98,7 +98,7 @@ fn read_values_after_is<'a>(
 }
 
 // Reads the number after a relation.
-fn number<'a>(
+fn read_compared_number<'a>(
     draft: &mut ConditionDraft,
     named: NamedObject,
     relation: Relation,
@@ -142,7 +142,9 @@ pub fn read_fact<'a>(
         tokens.entry.now) }
 {
     match tokens {
-        [RuleToken::Relation(relation), rest @ ..] => number(draft, named, *relation, rest),
+        [RuleToken::Relation(relation), rest @ ..] => read_compared_number(
+            draft, named, *relation, rest,
+        ),
         [RuleToken::Is, rest @ ..] => read_values_after_is(draft, named, rest),
         [RuleToken::Not, rest @ ..] => read_values(draft, named, true, rest),
         _ => read_values_or_none(draft, named, tokens),
@@ -303,7 +305,7 @@ fn end_condition<'a>(
 
 /// Reads the condition at the start of the tokens into an empty draft, and returns the rest; `None`
 /// if there is no condition. Fails only if an allocation fails.
-pub fn condition<'a>(
+pub fn read_condition<'a>(
     alloc: Global,
     draft: &mut ConditionDraft,
     tokens: &'a [RuleToken],

@@ -25,7 +25,7 @@ impl Model for ConditionDraft {
 }
 
 // Returns the truth value that a number is for an input; `None` if the number is not 0 or 1.
-fn truth(number: i32) -> Option<bool>
+fn truth_from_number(number: i32) -> Option<bool>
     ensures { result ≡ truth_of number }
 {
     match number {
@@ -115,7 +115,7 @@ impl ConditionDraft {
         ensures { OnOk result (self.new ≡ self.old ⊕ number_items measurand number) }
     {
         match measurand {
-            Some(Measurand::Input(_)) => match truth(number) {
+            Some(Measurand::Input(_)) => match truth_from_number(number) {
                 Some(truth) => self.push_input(measurand, truth)?,
                 None => self.refuse(),
             },

@@ -8,7 +8,7 @@ ghost use Rattle.bay_audit_rules.specs.Words as spec;
 ghost use Rattle.bay_audit_rules.specs.Meaning.{is_comment, line_tokens};
 ghost use Rattle.bay_audit_rules.specs.Meaning as meaning;
 
-use crate::numbers::{number, time};
+use crate::numbers::{read_number, read_time};
 use crate::pieces::{Cut, split_piece};
 use crate::rule::{Relation, RuleKind};
 use crate::token::{Connector, Measurand, NamedObject, RuleToken, TestValue};
@@ -172,16 +172,16 @@ fn has_name_characters(text: &[u8]) -> bool
 }
 
 // Returns the token that a piece spells; `None` if it spells none.
-fn token(bay: &Bay, piece: &[u8]) -> Option<RuleToken>
+fn token_from_piece(bay: &Bay, piece: &[u8]) -> Option<RuleToken>
     ensures { result ≡ token_of bay.now piece.now }
 {
     if let Some(token) = find_reserved(piece) {
         return Some(token);
     }
-    if let Some(number) = number(piece) {
+    if let Some(number) = read_number(piece) {
         return Some(RuleToken::TestValue(TestValue::Number(number)));
     }
-    if let Some(time) = time(piece) {
+    if let Some(time) = read_time(piece) {
         return Some(RuleToken::Time(time));
     }
     if begins_with_letter(piece) && has_name_characters(piece) {
@@ -225,7 +225,7 @@ pub fn tokens_of(
         if is_blank(piece) {
             continue;
         }
-        match token(bay, piece) {
+        match token_from_piece(bay, piece) {
             Some(token) => tokens.push(token)?,
             None => return Ok(None),
         }

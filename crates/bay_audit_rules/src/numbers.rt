@@ -43,7 +43,7 @@ fn read_digits(word: &[u8]) -> Option<u64>
 
 /// Reads a number, with an optional `-` before it; `None` if the word is not a number. A number
 /// that does not fit 32 bits with a sign is `Some(None)`.
-pub fn number(word: &[u8]) -> Option<Option<i32>>
+pub fn read_number(word: &[u8]) -> Option<Option<i32>>
     ensures { result ≡ number_in word.now }
 {
     match word {
@@ -115,7 +115,7 @@ fn to_timer_time(time: u64) -> Option<u32>
 
 /// Reads a time, in milliseconds; `None` if the word is not a time. A time that no timer can have
 /// is `Some(None)`.
-pub fn time(word: &[u8]) -> Option<Option<u32>>
+pub fn read_time(word: &[u8]) -> Option<Option<u32>>
     ensures { result ≡ time_in word.now }
 {
     Some(to_timer_time(read_milliseconds(word)?))

@@ -62,7 +62,7 @@ fn is_deep(tokens: &[RuleToken]) -> bool
 
 // Returns the time of a rule; `None` if a name has a value that it can't have, or if no timer can
 // have the time.
-fn timing(timed: Option<HeldCondition>) -> Option<Option<Timing>>
+fn make_timing(timed: Option<HeldCondition>) -> Option<Option<Timing>>
     ensures { result ≡ timing_of timed }
 {
     let Some(since) = timed else {
@@ -79,7 +79,7 @@ fn make_template(line: usize, rule_line: RuleLine) -> Option<Rule>
     ensures { result ≡ spec.template_of line rule_line }
 {
     let switch = rule_line.named.switch?;
-    let timed = timing(rule_line.timed)?;
+    let timed = make_timing(rule_line.timed)?;
     let when = Listing::new(rule_line.when.into_items()?);
     Some(Rule {
         line,

@@ -3,7 +3,7 @@ ghost use Rattle.std.specs.Prelude.{◌≡◌, ◌<◌, length, Some, None, opti
 ghost use Rattle.bay_audit_rules.specs.TokenParsing.{directions_at, timed_at, when_at, looks_at, rule_at, statement_at};
 ghost use Rattle.bay_audit_rules.specs.TokenParsing as spec;
 
-use crate::condition::{condition, read_fact};
+use crate::condition::{read_condition, read_fact};
 use crate::draft::ConditionDraft;
 use crate::rule::{ConditionItem, RuleKind};
 use crate::token::{NamedObject, RuleToken};
@@ -73,7 +73,7 @@ fn read_held_condition<'a>(
         ≡ spec.held_condition_at tokens.entry.now) }
 {
     let mut draft = ConditionDraft::new(alloc);
-    match condition(alloc, &mut draft, tokens)? {
+    match read_condition(alloc, &mut draft, tokens)? {
         Some([RuleToken::For, RuleToken::Time(time), rest @ ..]) => Ok(Some((
             HeldCondition {
                 condition: draft,
@@ -92,7 +92,7 @@ fn read_when(alloc: Global, tokens: &[RuleToken]) -> Result<Option<ConditionDraf
     let mut draft = ConditionDraft::new(alloc);
     match tokens {
         [] => draft.push(ConditionItem::True)?,
-        [RuleToken::When, rest @ ..] => match condition(alloc, &mut draft, rest)? {
+        [RuleToken::When, rest @ ..] => match read_condition(alloc, &mut draft, rest)? {
             Some([]) => {}
             _ => return Ok(None),
         },

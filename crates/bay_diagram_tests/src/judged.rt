@@ -2,7 +2,7 @@
 use crate::bays::{Fault, LINE, TRANSFORMER, Texts};
 use bay_audit::effort::{EFFORT, PassBudget};
 use bay_audit::program::AuditedProgram;
-use bay_audit::release::release;
+use bay_audit::release::find_release;
 use bay_audit_hazards::answer::HazardAnswer;
 use bay_audit_hazards::explain::explain;
 use bay_audit_hazards::judge::judge;
@@ -108,7 +108,7 @@ fn broken_releases(alloc: Global, texts: Texts, fault: Option<Fault>) -> Result<
     let mut found = String::new(alloc);
     for (index, switch) in switches.iter().enumerate() {
         for operation in [Operation::Open, Operation::Close] {
-            let release = release(alloc, &bay, &program, index, operation, &mut budget)?;
+            let release = find_release(alloc, &bay, &program, index, operation, &mut budget)?;
             let answer = judge(alloc, &bay, &program, &network, release, &mut budget)?;
             let is_shown = is_shown(alloc, &bay, &network, index, operation, &answer)?;
             if let Some(word) = word_of(&answer, is_shown) {

@@ -7,7 +7,7 @@ ghost use Rattle.cmd_audit.specs.Judged as spec;
 
 use bay_audit::effort::PassBudget;
 use bay_audit::program::AuditedProgram;
-use bay_audit::release::release;
+use bay_audit::release::find_release;
 use bay_audit_hazards::answer::HazardAnswer;
 use bay_audit_hazards::explain::explain;
 use bay_audit_hazards::judge::judge;
@@ -81,7 +81,7 @@ pub(crate) fn judge_release(
     ensures right { IfOk result (IsJudgedRelease program.now network.now) }
     ensures way { IfOk result (λ r. judged_way r ≡ way) }
 {
-    let found = release(alloc, bay, program, way.0, way.1, budget)?;
+    let found = find_release(alloc, bay, program, way.0, way.1, budget)?;
     let answer = judge(alloc, bay, program, network, found, budget)?;
     let shown = shown_of(alloc, bay, network, way, &answer)?;
     Ok(JudgedRelease {

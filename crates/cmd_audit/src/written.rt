@@ -12,7 +12,7 @@ use bay_audit::answer::Release;
 use bay_audit::audit::{answer_count, answer_rule};
 use bay_audit::effort::PassBudget;
 use bay_audit::program::AuditedProgram;
-use bay_audit::release::release;
+use bay_audit::release::find_release;
 use bay_audit_rules::rule::Rule;
 use bay_base::switch::Operation;
 use bay_config::bay::Bay;
@@ -81,7 +81,7 @@ fn write_release<W: Sink>(
         (λ _. PutsReleaseIfAny W.contents W.does bay.now names.now program.now way writer.old
         writer.new) }
 {
-    let found = release(alloc, bay, program, way.0, way.1, budget)?;
+    let found = find_release(alloc, bay, program, way.0, way.1, budget)?;
     let mut text = Vec::new(alloc);
     put_release_of(&mut text, bay, names, &found)?;
     write_now(writer, text.as_slice())?;

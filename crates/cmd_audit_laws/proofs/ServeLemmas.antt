@@ -149,7 +149,8 @@ module _ (f : Form) (both : FilesData) (device : State)
   where
     -- avoids a set in which a release of the program is refused
     pub orders-avoid : (own : Bay) (image : Image) → parsed_bay both.bay ≡ Ok own
-        → IsImageOf f both.program own image → (set : Process → Bool) (k : ℕ) (operation : Operation)
+        → IsImageOf f both.program own image
+        → (set : Process → Bool) (k : ℕ) (operation : Operation)
         → k < length own.switches → IsRefusedWhere (program_of own image) set k operation
         → OrdersAvoid set k operation device (new_server device) [] ts
     orders-avoid own image read made set k operation there refused =
@@ -172,11 +173,13 @@ module _ (f : Form) (both : FilesData) (device : State)
           → OfOctets ByTimer both.bay f both.program rule
           → OrdersWait rule timing device (new_server device) [] [] ts
       orders-wait timing never timed own =
-          let b = begins both.bay f both.program device loads file own.own own.image own.read own.made
+          let b = begins both.bay f both.program device loads file own.own own.image own.read
+          own.made
           in
           let borne = right-timer (program_of own.own own.image) rule timing own.answer never timed
           own.how own.right in
-          turns-wait own.own own.image rule timing borne.timer b.sound own.there borne.bears device ts
+          turns-wait own.own own.image rule timing borne.timer b.sound own.there borne.bears device
+          ts
           (new_server device) [] [] are given
           (subst (Ready own.own own.image rule timing borne.timer b.sound own.there borne.bears [])
           (sym b.is)
@@ -186,7 +189,8 @@ module _ (f : Form) (both : FilesData) (device : State)
       pub scans-obey : rule.timed ≡ None → OfOctets Plainly both.bay f both.program rule
           → EachPast (ScanObeysAt rule) device (past_of ts (new_server device) [])
       scans-obey plain own =
-          let b = begins both.bay f both.program device loads file own.own own.image own.read own.made
+          let b = begins both.bay f both.program device loads file own.own own.image own.read
+          own.made
           in
           let stands =
           stands-turns device ts (new_server device) []

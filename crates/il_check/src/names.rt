@@ -84,7 +84,11 @@ impl ProgramNames {
     }
 
     /// Returns the number of the first label of a name, or `None` if there is none.
-    pub(crate) fn label(&self, buffer: &mut String, name: &str) -> Result<Option<usize>, AllocError>
+    pub(crate) fn find_label(
+        &self,
+        buffer: &mut String,
+        name: &str,
+    ) -> Result<Option<usize>, AllocError>
         ensures { IfOk result (λ found. found ≡ (names_of self.now).label name.now) }
     {
         put_upper(buffer, name)?;

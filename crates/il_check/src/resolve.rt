@@ -151,7 +151,7 @@ fn called_of(meaning: Option<Meaning>) -> CalledTimer
 
 impl ProgramNames {
     // Resolves a symbolic variable: a variable, or an output of a timer.
-    fn variable(
+    fn resolve_symbolic_variable(
         &self,
         buffer: &mut String,
         variable: SymbolicVariable<'_>,
@@ -168,7 +168,7 @@ impl ProgramNames {
     }
 
     // Resolves an operand.
-    fn operand(
+    fn resolve_operand(
         &self,
         buffer: &mut String,
         operand: Operand<'_>,
@@ -178,12 +178,12 @@ impl ProgramNames {
     {
         match operand {
             Operand::Literal(literal) => Ok(literal_operand(literal)),
-            Operand::Variable(variable) => self.variable(buffer, variable),
+            Operand::Variable(variable) => self.resolve_symbolic_variable(buffer, variable),
         }
     }
 
     // Resolves an argument of a call.
-    fn argument(
+    fn resolve_argument(
         &self,
         buffer: &mut String,
         argument: Argument<'_>,
@@ -193,12 +193,12 @@ impl ProgramNames {
     {
         Ok(SourceArgument {
             input: argument.input,
-            given: self.operand(buffer, argument.operand)?,
+            given: self.resolve_operand(buffer, argument.operand)?,
         })
     }
 
     // Resolves the arguments of a call.
-    fn arguments(
+    fn resolve_arguments(
         &self,
         buffer: &mut String,
         arguments: Arguments<'_>,
@@ -208,17 +208,19 @@ impl ProgramNames {
     {
         match arguments {
             Arguments::None => Ok(SourceArguments::None),
-            Arguments::One(first) => Ok(SourceArguments::One(self.argument(buffer, first)?)),
+            Arguments::One(first) => Ok(SourceArguments::One(self.resolve_argument(
+                buffer, first,
+            )?)),
             Arguments::Two(first, second) => {
-                let first = self.argument(buffer, first)?;
-                let second = self.argument(buffer, second)?;
+                let first = self.resolve_argument(buffer, first)?;
+                let second = self.resolve_argument(buffer, second)?;
                 Ok(SourceArguments::Two(first, second))
             }
         }
     }
 
     // Resolves the names of a call.
-    fn call(
+    fn resolve_call(
         &self,
         buffer: &mut String,
         timer: &str,
@@ -229,7 +231,7 @@ impl ProgramNames {
             (text.call timer.now (arguments_of arguments.entry))) }
     {
         let called = called_of(self.meaning(buffer, timer)?);
-        let arguments = self.arguments(buffer, arguments)?;
+        let arguments = self.resolve_arguments(buffer, arguments)?;
         Ok(Resolved::Call { called, arguments })
     }
 
@@ -245,11 +247,11 @@ impl ProgramNames {
     {
         match instruction {
             Instruction::Load { negated, operand } => {
-                let given = self.operand(buffer, operand)?;
+                let given = self.resolve_operand(buffer, operand)?;
                 Ok(Resolved::Load { negated, given })
             }
             Instruction::Store { kind, target } => {
-                let target = self.variable(buffer, target)?;
+                let target = self.resolve_symbolic_variable(buffer, target)?;
                 Ok(Resolved::Store { kind, target })
             }
             Instruction::Combine {
@@ -257,7 +259,7 @@ impl ProgramNames {
                 negated,
                 operand,
             } => {
-                let given = self.operand(buffer, operand)?;
+                let given = self.resolve_operand(buffer, operand)?;
                 Ok(Resolved::Combine {
                     operator,
                     negated,
@@ -268,11 +270,11 @@ impl ProgramNames {
             Instruction::Not => Ok(Resolved::Not),
             Instruction::Convert(conversion) => Ok(Resolved::Convert(conversion)),
             Instruction::Jump { condition, label } => {
-                let label = self.label(buffer, label)?;
+                let label = self.find_label(buffer, label)?;
                 Ok(Resolved::Jump { condition, label })
             }
             Instruction::Return(condition) => Ok(Resolved::Return(condition)),
-            Instruction::Call { timer, arguments } => self.call(buffer, timer, arguments),
+            Instruction::Call { timer, arguments } => self.resolve_call(buffer, timer, arguments),
         }
     }
 }

@@ -65,7 +65,7 @@ struct CheckedEntries {
 
 impl Checker {
     // Resolves the names of an instruction and notes its faults.
-    fn instruction(
+    fn check_instruction(
         &mut self,
         names: &ProgramNames,
         context: InstructionContext,
@@ -107,7 +107,7 @@ impl Checker {
             (spec.entry_faults (names_of names.now) context.room context.is_reached context.passed
             (text.action line (action_of instruction.entry)) kind)) }
     {
-        let resolved = self.instruction(names, context, line, instruction, kind)?;
+        let resolved = self.check_instruction(names, context, line, instruction, kind)?;
         Ok(CheckedEntry {
             entry: action_entry(resolved, kind),
             kind: type_after(resolved, kind),
@@ -116,7 +116,7 @@ impl Checker {
 
     // Checks the entries of a parenthesis.
     #[cycle(entries)]
-    fn entries(
+    fn check_entries(
         &mut self,
         names: &ProgramNames,
         context: InstructionContext,
@@ -139,7 +139,7 @@ impl Checker {
             kind: None,
         };
         for item in items {
-            let left = self.entry(names, context, item, passed.kind)?;
+            let left = self.check_entry(names, context, item, passed.kind)?;
             passed.add(left)?;
         }
         Ok(passed)
@@ -148,7 +148,7 @@ impl Checker {
     // Checks one entry, on a result of this type, or `None` if it is not set.
     #[cycle(entries)]
     #[tactic(auto, using(crate::proofs::EntryLemmas::entry_rules))]
-    fn entry(
+    fn check_entry(
         &mut self,
         names: &ProgramNames,
         context: InstructionContext,
@@ -183,7 +183,13 @@ impl Checker {
                     negated: *negated,
                     end: *end,
                 };
-                let entry = self.block(names, context, parenthesis, items.as_slice(), kind)?;
+                let entry = self.check_parenthesis(
+                    names,
+                    context,
+                    parenthesis,
+                    items.as_slice(),
+                    kind,
+                )?;
                 Ok(CheckedEntry {
                     entry,
                     kind: type_after_operator(*operator, kind),
@@ -195,7 +201,7 @@ impl Checker {
     // Checks a parenthesis on a result of this type, or `None` if it is not set, and returns its
     // typed form. The contents of one nested too deep are not checked.
     #[cycle(entries)]
-    fn block(
+    fn check_parenthesis(
         &mut self,
         names: &ProgramNames,
         context: InstructionContext,
@@ -229,7 +235,7 @@ impl Checker {
             passed: context.passed,
             room: context.room - 1,
         };
-        let inner = self.entries(names, within, items)?;
+        let inner = self.check_entries(names, within, items)?;
         let closing = ParenthesisEnd {
             operator,
             negated,
@@ -448,7 +454,7 @@ impl Walk {
 
 impl Checker {
     // Checks a label.
-    fn label(
+    fn check_label(
         &mut self,
         names: &ProgramNames,
         line: usize,
@@ -468,7 +474,7 @@ impl Checker {
             (spec.item_faults (names_of names.now) (text.label line name.now)
             (progress_of walk.old))) }
     {
-        let number = names.label(&mut self.buffer, name)?;
+        let number = names.check_label(&mut self.buffer, name)?;
         self.found = note_label(self.found, line, number, walk.passed);
         walk.add_label()
     }
@@ -493,7 +499,13 @@ impl Checker {
             (spec.item_faults (names_of names.now)
             (text.action line (action_of instruction.entry)) (progress_of walk.old))) }
     {
-        let resolved = self.instruction(names, walk.context(), line, instruction, walk.reach.kind)?;
+        let resolved = self.check_instruction(
+            names,
+            walk.context(),
+            line,
+            instruction,
+            walk.reach.kind,
+        )?;
         walk.add_instruction(resolved)?;
         walk.follow(resolved);
         Ok(())
@@ -527,13 +539,13 @@ impl Checker {
             walk.old.passed
             (entry_of item.now) walk.old.reach.kind)) }
     {
-        let left = self.entry(names, walk.context(), item, walk.reach.kind)?;
+        let left = self.check_entry(names, walk.context(), item, walk.reach.kind)?;
         walk.add_block(left)
     }
 
     // Checks one item.
     #[tactic(auto, using(crate::proofs::EntryLemmas::entry_rules))]
-    fn item(
+    fn check_item(
         &mut self,
         names: &ProgramNames,
         item: &Item<'_>,
@@ -553,7 +565,7 @@ impl Checker {
             (spec.item_faults (names_of names.now) (entry_of item.now) (progress_of walk.old))) }
     {
         match item {
-            Item::Label { line, name } => self.label(names, *line, name, walk),
+            Item::Label { line, name } => self.check_label(names, *line, name, walk),
             Item::Instruction { line, instruction } => {
                 self.check_action(names, *line, *instruction, walk)
             }
@@ -563,7 +575,7 @@ impl Checker {
 
     /// Checks all items of a program and returns their typed forms, none if a fault was found.
     /// Fails only if an allocation fails, and never if there are no items.
-    pub(crate) fn items(
+    pub(crate) fn check_items(
         &mut self,
         names: &ProgramNames,
         items: &[Item<'_>],
@@ -589,7 +601,7 @@ impl Checker {
             items: Vec::new(self.alloc),
         };
         for item in items {
-            self.item(names, item, &mut walk)?;
+            self.check_item(names, item, &mut walk)?;
             walk.clear_if_faulty(self.found);
         }
         let Walk { items, .. } = walk;

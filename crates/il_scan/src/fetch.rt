@@ -72,7 +72,7 @@ fn size_of_type(elementary: ElementaryType) -> usize
 
 // Reads the value of the type at an offset.
 #[inline(always)]
-fn value(elementary: ElementaryType, code: &[u8], at: usize) -> Value
+fn read_value(elementary: ElementaryType, code: &[u8], at: usize) -> Value
     requires { IsOk (value_at (size_of elementary) elementary (drop at code.now)) }
     ensures { value_at (size_of elementary) elementary (drop at code.now)
         ≡ Ok (result, drop (at + octet_count (size_of elementary)) code.now) }
@@ -109,7 +109,7 @@ fn read_operand(opcode: Opcode, code: &[u8], at: usize) -> (Instr, usize)
     match opcode {
         Opcode::Halt => (Instr::Halt, at),
         Opcode::Push(elementary) => (
-            Instr::Push(value(elementary, code, at)),
+            Instr::Push(read_value(elementary, code, at)),
             at + size_of_type(elementary),
         ),
         Opcode::Drop => (Instr::Drop, at),

@@ -181,7 +181,7 @@ fn only_literal(tokens: &[Token<'_>]) -> Option<Literal>
 
 // Reads a literal, a name, or a name with `.Q` or `.ET`.
 #[tactic(auto, unfolding(crate::specs::Forms::operand))]
-fn operand<'a>(tokens: &[Token<'a>]) -> Option<Operand<'a>>
+fn parse_operand<'a>(tokens: &[Token<'a>]) -> Option<Operand<'a>>
     ensures { option_map operand_data result ≡ spec.operand.reads (symbols_of tokens.now) }
 {
     match only_literal(tokens) {
@@ -212,7 +212,7 @@ fn parse_argument<'a>(tokens: &[Token<'a>]) -> Option<Argument<'a>>
     match tokens {
         [name, assign, rest @ ..] if is_mark(*assign, Mark::Assign) => {
             let input = input_named(name_of(*name)?)?;
-            let operand = operand(rest)?;
+            let operand = parse_operand(rest)?;
             Some(Argument { input, operand })
         }
         _ => None,
@@ -270,7 +270,7 @@ fn argument_list<'a>(tokens: &[Token<'a>]) -> Option<Arguments<'a>>
 
 // Reads the arguments of a call: none, one or two.
 #[tactic(auto, unfolding(crate::specs::Forms::arguments))]
-fn arguments<'a>(tokens: &[Token<'a>]) -> Option<Arguments<'a>>
+fn parse_arguments<'a>(tokens: &[Token<'a>]) -> Option<Arguments<'a>>
     ensures { option_map arguments_of result ≡ spec.arguments.reads (symbols_of tokens.now) }
 {
     match tokens {
@@ -286,7 +286,7 @@ fn closed_arguments<'a>(tokens: &[Token<'a>]) -> Option<Arguments<'a>>
 {
     let halves = split_at_first(tokens, Mark::Close)?;
     match halves.rest {
-        [] => arguments(halves.front),
+        [] => parse_arguments(halves.front),
         _ => None,
     }
 }
@@ -330,7 +330,7 @@ fn parse_parenthesis<'a>(
 {
     let operand = match tokens {
         [] => None,
-        _ => Some(operand(tokens)?),
+        _ => Some(parse_operand(tokens)?),
     };
     Some(Statement::Open {
         operator,
@@ -354,7 +354,7 @@ fn parse_combine<'a>(
             operator, negated, rest,
         ),
         _ => {
-            let operand = operand(tokens)?;
+            let operand = parse_operand(tokens)?;
             Some(Statement::Plain(Instruction::Combine {
                 operator,
                 negated,
@@ -369,7 +369,7 @@ fn parse_load<'a>(negated: bool, tokens: &[Token<'a>]) -> Option<Instruction<'a>
     ensures { option_map action_of result
         ≡ option_map (text.load negated) (spec.operand.reads (symbols_of tokens.now)) }
 {
-    let operand = operand(tokens)?;
+    let operand = parse_operand(tokens)?;
     Some(Instruction::Load { negated, operand })
 }
 

@@ -27,7 +27,7 @@ const CAP: u64 = 0x1_0000_0000;
 
 // Reads the number that digits spell, with single underscores allowed between them.
 #[tactic(auto, using(crate::proofs::LiteralLemmas::number_rules))]
-fn number(digits: &[u8], radix: u32) -> Option<u64>
+fn parse_digits(digits: &[u8], radix: u32) -> Option<u64>
     requires low { 2 ≤ radix }
     requires high { radix ≤ 16 }
     ensures { result ≡ capped_number (spec.number radix digits.now) }
@@ -73,9 +73,9 @@ pub(crate) fn parse_decimal(word: &[u8]) -> Option<(bool, u64)>
     ensures { result ≡ capped_signed (spec.decimal word.now) }
 {
     match word {
-        [b'-', digits @ ..] => Some((true, number(digits, 10)?)),
-        [b'+', digits @ ..] => Some((false, number(digits, 10)?)),
-        _ => Some((false, number(word, 10)?)),
+        [b'-', digits @ ..] => Some((true, parse_digits(digits, 10)?)),
+        [b'+', digits @ ..] => Some((false, parse_digits(digits, 10)?)),
+        _ => Some((false, parse_digits(word, 10)?)),
     }
 }
 
@@ -85,7 +85,7 @@ fn parse_based(base: &str, digits: &str) -> Option<(bool, u64)>
     ensures { result ≡ capped_signed (spec.based_integer base.now digits.now) }
 {
     let radix = base_of(base)?;
-    Some((false, number(digits.as_bytes(), radix)?))
+    Some((false, parse_digits(digits.as_bytes(), radix)?))
 }
 
 /// Splits a word at its first `#`.
@@ -276,8 +276,8 @@ fn part_number(digits: &[u8], begun: bool) -> Option<u64>
     ensures { result ≡ capped_number (spec.number_of_part begun digits.now) }
 {
     match digits {
-        [b'_', rest @ ..] if begun => number(rest, 10),
-        _ => number(digits, 10),
+        [b'_', rest @ ..] if begun => parse_digits(rest, 10),
+        _ => parse_digits(digits, 10),
     }
 }
 
@@ -331,7 +331,7 @@ fn parse_parts(word: &[u8]) -> Option<Duration<'_>>
 }
 
 // Returns the milliseconds of a duration: at least one part, and nothing after the parts.
-fn milliseconds(word: &[u8]) -> Option<u64>
+fn parse_milliseconds(word: &[u8]) -> Option<u64>
     ensures { result ≡ capped_time (spec.milliseconds word.now) }
 {
     let Some(last) = parse_parts(word) else {
@@ -349,7 +349,7 @@ fn milliseconds(word: &[u8]) -> Option<u64>
 fn typed_time(word: &[u8]) -> Result<Literal, LiteralFault>
     ensures { result ≡ spec.typed_time word.now }
 {
-    time_literal(milliseconds(word))
+    time_literal(parse_milliseconds(word))
 }
 
 // Returns the TIME of a number of milliseconds, at most 2,147,483,647.

@@ -19,7 +19,7 @@ loop-rest-preserved c = record {
       c.split_piece.result.0.now
       (pieces Line c.split_piece.result.1.now) (pieces Line c.loop-rest.rest.now)
       c.split_piece.ensures.cut
-      (sym c.is_blank.ensures ∙ c.if-is_blank.false) (sym c.token.ensures ∙ c.in-Some.is)
+      (sym c.is_blank.ensures ∙ c.if-is_blank.false) (sym c.token_from_piece.ensures ∙ c.in-Some.is)
       ∙ ap (λ (ts : List RuleToken). option_map (λ us. ts ++ us)
       (tokens_of c.args.bay.now (pieces Line c.split_piece.result.1.now)))
       (sym c.in_ok-push-in-Some.ensures.items);

@@ -18,7 +18,7 @@ block-returns-clause-found t c =
     looked-found _ _ c.args.context.room c.args.parenthesis.line _ _ c.if-context-eq0.false
     (noted-after _ _ _ _ _ _ _ c.note_opening-self.ensures c.in_ok-inner.ensures.found
     (c.note_closing-self.ensures
-    ∙ ap (λ k. first_fault_of c.entries.new.self.found
+    ∙ ap (λ k. first_fault_of c.check_entries.new.self.found
     (closing_faults c.args.context.is_reached c.args.parenthesis.end c.args.parenthesis.operator
     c.args.parenthesis.negated k c.args.kind)) c.in_ok-inner.ensures.kind))
 
@@ -31,7 +31,8 @@ pub entries-loop-item-preserved : goal.entries-loop-item-preserved
 entries-loop-item-preserved t c =
     entries-more (names_of c.args.names.now) c.args.context.room c.args.context.is_reached
     c.args.context.passed c.args.items.now c.args.self.now.found
-    c.loop-item.item-index c.item-item.result c.loop-item.self.found c.entry.new.self.found
+    c.loop-item.item-index c.check_item-item.result c.loop-item.self.found
+    c.check_entry.new.self.found
     c.loop-item.passed c.add.new.self (omega arith) c.item-item.is
     c.loop-item.invariant
     (record {

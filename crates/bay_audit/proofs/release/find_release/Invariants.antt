@@ -3,7 +3,7 @@ use Rattle.std.specs.List.{All}
 use Rattle.bay_audit_rules.specs.Process.{Process}
 use Rattle.bay_audit.specs.Process.{IsProcess}
 use Rattle.bay_audit.specs.Rules.{AreRightInCases, HasProcess, case_count, reported_count}
-use Rattle.bay_audit.proofs.release.release.Given as goal
+use Rattle.bay_audit.proofs.release.find_release.Given as goal
 
 abbrev pub invariant-loop : goal.invariant-loop
 invariant-loop l = record {

@@ -1,7 +1,7 @@
 use Rattle.il_check.specs.NamesView.{names_of}
 use Rattle.il_check.specs.WellTyped.{start_progress}
 use Rattle.il_check.proofs.WalkLemmas.{ItemsSoFar}
-use Rattle.il_check.proofs.walk.Checker.items.Given as goal
+use Rattle.il_check.proofs.walk.Checker.check_items.Given as goal
 
 abbrev pub invariant-loop-item : goal.invariant-loop-item
 invariant-loop-item l =

@@ -4,13 +4,14 @@ use Rattle.il_check.specs.ProgramViews.{item_view}
 use Rattle.il_check.specs.NamesView.{names_of}
 use Rattle.il_check.specs.WellTyped.{start_progress, typed_items_of}
 use Rattle.il_check.proofs.WalkLemmas.{items-more, items-left, items-found}
-use Rattle.il_check.proofs.walk.Checker.items.Goals as goal
+use Rattle.il_check.proofs.walk.Checker.check_items.Goals as goal
 
 pub loop-item-preserved : goal.loop-item-preserved
 loop-item-preserved c =
     items-more (names_of c.args.names.now) c.args.items.now c.args.self.now.found
     (start_progress c.args.arrivals.items)
-    c.loop-item.item-index c.item-item.result c.loop-item.self.found c.item.new.self.found
+    c.loop-item.item-index c.check_item-item.result c.loop-item.self.found
+    c.check_item.new.self.found
     c.loop-item.walk c.clear_if_faulty.new.self (omega arith) c.item-item.is
     c.loop-item.invariant
     (record {

@@ -2,7 +2,7 @@ use Rattle.std.proofs.Common.{sym, ◌∙◌, ap, ap₂}
 use Rattle.std.proofs.lemmas.Bool.{not-true}
 use Rattle.bay_audit.specs.Conditions.{rule_truths}
 use Rattle.bay_audit.specs.declared.truth_set.TruthSet.{TruthSet}
-use Rattle.bay_audit.proofs.verdict.verdict.Goals as goal
+use Rattle.bay_audit.proofs.verdict.find_verdict.Goals as goal
 use Rattle.bay_audit.proofs.RuleLemmas.{idle-in}
 
 pub returns-then-not-covered : goal.returns-then-not-covered

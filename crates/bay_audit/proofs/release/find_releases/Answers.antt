@@ -2,7 +2,7 @@ use Rattle.std.proofs.Common.{◌≡◌, ◌++◌, ◌∷◌, [], List, map, sym
 use Rattle.bay_audit.specs.Rules.{AreReleases, direction_of}
 use Rattle.bay_audit.specs.declared.answer.Release.{Release}
 use Rattle.bay_audit.proofs.ReleaseLemmas.{releases-more, ways-more}
-use Rattle.bay_audit.proofs.release.releases.Goals as goal
+use Rattle.bay_audit.proofs.release.find_releases.Goals as goal
 
 pub loop-switch-preserved : goal.loop-switch-preserved
 loop-switch-preserved c =

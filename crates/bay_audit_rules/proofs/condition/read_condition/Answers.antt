@@ -2,7 +2,7 @@ use Rattle.std.proofs.Common.{◌∙◌, refl}
 use Rattle.bay_audit_rules.specs.Running.{state, condition_at}
 use Rattle.bay_audit_rules.specs.Advances.{phase_of}
 use Rattle.bay_audit_rules.proofs.ConditionLemmas.{turn-on, turn-stop, turn-refuse}
-use Rattle.bay_audit_rules.proofs.condition.condition.Goals as goal
+use Rattle.bay_audit_rules.proofs.condition.read_condition.Goals as goal
 
 pub loop-token-init : goal.loop-token-init
 unfolding condition_at

@@ -1,7 +1,7 @@
 use Rattle.std.proofs.Common.{◌≡◌, length}
 use Rattle.bay_audit_rules.specs.Running.{state, found_after_tokens, condition_at}
 use Rattle.bay_audit_rules.specs.Advances.{phase_of}
-use Rattle.bay_audit_rules.proofs.condition.condition.Given as goal
+use Rattle.bay_audit_rules.proofs.condition.read_condition.Given as goal
 
 abbrev pub invariant-loop-token : goal.invariant-loop-token
 invariant-loop-token l =

@@ -3,7 +3,7 @@ use Rattle.bay_audit_rules.specs.Numbers.{time_of, timer_time}
 use Rattle.bay_audit_rules.specs.Pieces.{pieces}
 use Rattle.bay_audit_rules.specs.declared.pieces.Cut.TheVariants.{Time}
 use Rattle.bay_audit_rules.proofs.NumberLemmas.{map-min, timer-min}
-use Rattle.bay_audit_rules.proofs.numbers.time.Goals as goal
+use Rattle.bay_audit_rules.proofs.numbers.read_time.Goals as goal
 
 pub returns-in_err-read_milliseconds : goal.returns-in_err-read_milliseconds
 returns-in_err-read_milliseconds c =

@@ -2,8 +2,8 @@ use Rattle.std.proofs.Common.{Option, option_map, option_and_then, sym, refl, ap
 use Rattle.il_text.specs.Literals.{Duration, milliseconds, total_of}
 use Rattle.il_text.specs.Durations.{duration_view, capped_time}
 use Rattle.il_text.proofs.DurationLemmas.{none-from, total-from}
-use Rattle.il_text.proofs.literal.milliseconds.Goals.{else-last-via-then-last+else-is_empty, else-last-via-else-last}
-use Rattle.il_text.proofs.literal.milliseconds.Goals as goal
+use Rattle.il_text.proofs.literal.parse_milliseconds.Goals.{else-last-via-then-last+else-is_empty, else-last-via-else-last}
+use Rattle.il_text.proofs.literal.parse_milliseconds.Goals as goal
 
 pub returns-in_default : goal.returns-in_default
 unfolding milliseconds

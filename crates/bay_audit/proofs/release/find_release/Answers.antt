@@ -10,8 +10,8 @@ use Rattle.bay_audit.specs.declared.answer.ReportedCase.{ReportedCase}
 use Rattle.bay_audit.specs.declared.case.TestAnswer.{TestAnswer}
 use Rattle.bay_audit.proofs.ReleaseLemmas.{one-split, one-told, told-full, told-more, verdict-told}
 use Rattle.bay_audit.proofs.SearchLemmas.{first-full, full-last, full-more}
-use Rattle.bay_audit.proofs.release.release.Goals as goal
-use Rattle.bay_audit.proofs.release.release.Goals.{in-Ok+in_ok-push-in-Ok, in-Err+in_ok-split-in-Err, else-loop-test, then-loop-test+in_default}
+use Rattle.bay_audit.proofs.release.find_release.Goals as goal
+use Rattle.bay_audit.proofs.release.find_release.Goals.{in-Ok+in_ok-push-in-Ok, in-Err+in_ok-split-in-Err, else-loop-test, then-loop-test+in_default}
 
 pub loop-init : goal.loop-init
 loop-init c =

@@ -3,7 +3,7 @@ use Rattle.std.proofs.lemmas.List.{take_more}
 use Rattle.bay_audit_rules.specs.declared.rule.Rule.{Rule}
 use Rattle.bay_audit.specs.Rules.{AreRightAnswers}
 use Rattle.bay_audit.specs.declared.answer.RuleAnswer.{RuleAnswer}
-use Rattle.bay_audit.proofs.audit.answers.Goals as goal
+use Rattle.bay_audit.proofs.audit.answer_each.Goals as goal
 use Rattle.bay_audit.proofs.SearchLemmas.{right-more}
 
 pub loop-rule-preserved : goal.loop-rule-preserved
