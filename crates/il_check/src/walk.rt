@@ -474,7 +474,7 @@ impl Checker {
             (spec.item_faults (names_of names.now) (text.label line name.now)
             (progress_of walk.old))) }
     {
-        let number = names.check_label(&mut self.buffer, name)?;
+        let number = names.find_label(&mut self.buffer, name)?;
         self.found = note_label(self.found, line, number, walk.passed);
         walk.add_label()
     }
