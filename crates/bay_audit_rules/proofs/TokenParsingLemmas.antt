@@ -32,13 +32,13 @@ data AfterWays : List RuleToken → Type 0 where
 ways-found : (directions : Directions) (rest : List RuleToken) → AfterWays rest
     → directions_at (direction_tokens directions ++ rest) ≡ Some (directions, rest)
 ways-found Opening rest at_end = refl
-directions-found Opening rest at_since = refl
-directions-found Opening rest at_when = refl
-directions-found Closing rest at_end = refl
-directions-found Closing rest at_since = refl
-directions-found Closing rest at_when = refl
-directions-found OpeningAndClosing rest after = refl
-directions-found ClosingAndOpening rest after = refl
+ways-found Opening rest at_since = refl
+ways-found Opening rest at_when = refl
+ways-found Closing rest at_end = refl
+ways-found Closing rest at_since = refl
+ways-found Closing rest at_when = refl
+ways-found OpeningAndClosing rest after = refl
+ways-found ClosingAndOpening rest after = refl
 
 same-kind : (kind : RuleKind) → same_kind kind kind ≡ true
 same-kind Never = refl
@@ -132,7 +132,7 @@ close-read (other ∷ ts) = refl
 
 ways-read : (ts : List RuleToken) (x : Directions × List RuleToken) → directions_at ts ≡ Some x
     → ts ≡ direction_tokens x.0 ++ x.1
-directions-read (token.Open ∷ ts) x e =
+ways-read (token.Open ∷ ts) x e =
     open-read ts ∙ ap (λ (y : Directions × List RuleToken). direction_tokens y.0 ++ y.1)
     (same_Some (directions_after_open ts)
     x e)
@@ -141,7 +141,7 @@ ways-read (token.Close ∷ ts) x e =
     (same_Some (directions_after_close
     ts) x e)
 ways-read [] x e = absurd cc
-directions-read (other ∷ ts) x e = absurd cc
+ways-read (other ∷ ts) x e = absurd cc
 
 behind-read : (c : Items) (ts : List RuleToken) (x : HeldCondition × List RuleToken)
     → time_after_condition c ts ≡ Some x

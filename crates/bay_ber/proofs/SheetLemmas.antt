@@ -262,7 +262,7 @@ short-message limit text start now is_empty is_put le =
 pub heads-put : (buffer : EncoderBuffer) (text : List ℕ)
     → (buffer_with buffer text).headers ≡ buffer.headers
 unfolding buffer_with
-headers-put buffer text = refl
+heads-put buffer text = refl
 
 pub limit-put : (buffer : EncoderBuffer) (text : List ℕ)
     → (buffer_with buffer text).limit ≡ buffer.limit

@@ -14,7 +14,7 @@ pub history-joined : (first next : List TimedCall) (s : State)
     → entries_of_calls (first ++ next) s
     ≡ entries_of_calls first s ++ entries_of_calls next (state_after_calls first s)
 history-joined [] next s = refl
-entries_of_calls-joined (h ∷ hs) next s =
+history-joined (h ∷ hs) next s =
     let here : List Entry =
     entries_of h.now (act_of h.call) (is_ok (outcome_of h.call h.now s).answer) in
     let t : State = (outcome_of h.call h.now s).after in

@@ -18,9 +18,9 @@ talks-set (x ∷ clients) (suc place) c =
 pub talk-at : (clients : List (Option ConnectionData)) (place : ℕ)
     → state_without_pdu (slice_index_or clients place None)
     ≡ unwrap_or (slice_get (connection_states clients) place) None
-state-at [] place = refl
-state-at (x ∷ clients) zero = refl
-state-at (x ∷ clients) (suc place) = talk-at clients place
+talk-at [] place = refl
+talk-at (x ∷ clients) zero = refl
+talk-at (x ∷ clients) (suc place) = talk-at clients place
 
 sized : (ts : List (Option ConnectionState)) (place : ℕ) (t : Option ConnectionState)
     → length (slice_set ts place t) ≡ length ts

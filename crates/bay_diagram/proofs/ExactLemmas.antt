@@ -133,13 +133,13 @@ module _ (a : Allowed) (p : Process) (only : IsOnly a p) where
 
 may-exact : (c n po pc : Bool) → (c ≡ true → pc ≡ true) → (pc ≡ true → po ≡ false)
     → (n ≡ true → (po || pc) ≡ false) → (c || n) ≡ true → not po ≡ true
-may_conduct-exact true n po pc f g k h = not-of-false po (g (f refl))
+may-exact true n po pc f g k h = not-of-false po (g (f refl))
 may-exact false n po pc f g k h = left-false po pc (k h)
 
 sure-exact : (o n po pc : Bool) → (o ≡ true → po ≡ true) → (pc ≡ true → po ≡ false)
     → (n ≡ true → (po || pc) ≡ false) → pc ≡ true → not (o || n) ≡ true
-conducts-exact false false po pc f g k h = refl
-conducts-exact true n true pc f g k h = cc (g h)
+sure-exact false false po pc f g k h = refl
+sure-exact true n true pc f g k h = cc (g h)
 sure-exact true n false pc f g k h = absurd (no-yes (f refl))
 sure-exact false true true pc f g k h = cc (k refl)
 sure-exact false true false true f g k h = cc (k refl)

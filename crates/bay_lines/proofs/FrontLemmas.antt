@@ -79,8 +79,8 @@ took-whole : (f : LineSearchData) (kept all : List ℕ) (later : List ℕ → Re
     → first_line_of kept ≡ f
     → ((k : List ℕ) → LosesFrom k all (later k)) → LosesFrom kept all (after_removal f kept later)
 took-whole Waiting kept all later e h = h kept
-after_removal-whole Overlong kept all later e h = h kept
-after_removal-whole (Whole line rest) kept all later e h =
+took-whole Overlong kept all later e h = h kept
+took-whole (Whole line rest) kept all later e h =
     let c = cuts-front kept line rest e in
     let l = h rest in
     record {

@@ -17,7 +17,7 @@ told-read octets r is =
     ap (request_or_fault (leading_id.reads octets)) (request-exact.read octets r is)
 
 pub asked-read : (octets : List ℕ) (m : MmsRequest) → Asks m octets → request_in octets ≡ Ok m
-requested-read octets m is = told-read octets (Ok m) is
+asked-read octets m is = told-read octets (Ok m) is
 
 unknown-read : (octets : List ℕ) (id : ℕ) → AsksUnknown id octets
     → request_in octets ≡ Err (fault.UnknownService id)
@@ -70,7 +70,7 @@ answer-says octets b = pick (request.reads octets) refl
 
 pub asked-back : (octets : List ℕ) (m : MmsRequest) → IsBytes octets → request_in octets ≡ Ok m
     → Asks m octets
-requested-back octets m b e = subst (Says octets) e (answer-says octets b)
+asked-back octets m b e = subst (Says octets) e (answer-says octets b)
 
 pub one-asked : (octets : List ℕ) (m n : MmsRequest) → Asks m octets → Asks n octets → m ≡ n
 one-asked octets m n a c =

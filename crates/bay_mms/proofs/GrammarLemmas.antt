@@ -46,4 +46,4 @@ front_id-exact = search (exacts, id-exact, front-exact) depth 20
 
 pub list_pdu-exact : ExactIn (one list_service_pdu)
 unfolding list_service_pdu list_service_parts
-list_service_pdu-exact = search exacts depth 20
+list_pdu-exact = search exacts depth 20

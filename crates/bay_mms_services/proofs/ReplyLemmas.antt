@@ -105,7 +105,7 @@ pub responded-fits : (c : ClientContext) (id : ℕ) (b : Bay) (pdu found : List 
     (was : Option (List ℕ))
     → was ≡ pdu_within_size c.size pdu → was ≡ Some found
     → response_answer c id b pdu ≡ plain_answer found b
-answer_response-fits c id b pdu found was is some =
+responded-fits c id b pdu found was is some =
     let fit = sym is ∙ some in
     within-fits c id b pdu found (plain_answer pdu b) fit
     ∙ ap (λ p. plain_answer p b) (sym (fits c.size pdu found fit).1)
@@ -113,7 +113,7 @@ answer_response-fits c id b pdu found was is some =
 pub responded-over : (c : ClientContext) (id : ℕ) (b : Bay) (pdu : List ℕ) (was : Option (List ℕ))
     → was ≡ pdu_within_size c.size pdu → was ≡ None
     → response_answer c id b pdu ≡ plain_answer (error_text id Resource) b
-answer_response-over c id b pdu was is none =
+responded-over c id b pdu was is none =
     within-over c id b pdu (plain_answer pdu b) (sym is ∙ none)
 
 pub read-fits : (c : ClientContext) (id : ℕ) (b : Bay) (r : ReadState) (found : List ℕ)

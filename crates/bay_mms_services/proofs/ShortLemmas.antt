@@ -77,13 +77,13 @@ endings-if : (c : ClientContext) (item : List ℕ) (o : asked.Operate) (b : Bay)
     → c.size ≤ 65000
     → IsShort (cond t (Some (termination_reports c item o b)) None)
 endings-if c item o b true most = ending-short c item o b most
-accepted_termination-if c item o b false most = tt
+endings-if c item o b false most = tt
 
 endings-short : (c : ClientContext) (k : ℕ) (item : List ℕ) (o : asked.Operate) (b : Bay)
     (answer : Result (Unit {0}) AddCause) → c.size ≤ 65000
     → IsShort (accepted_termination c k item o b answer)
 endings-short c k item o b (Ok done) most = endings-if c item o b (has_reports b k) most
-accepted_termination-short c k item o b (Err why) most = tt
+endings-short c k item o b (Err why) most = tt
 
 later-short : (before later : Option TerminationReports) → IsShort before → IsShort later
     → IsShort (later_ending before later)

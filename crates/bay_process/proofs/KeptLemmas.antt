@@ -76,7 +76,7 @@ StaysAt k rows new = (s : List ℕ)
 told-stays : (rows new : List Row) (k : ℕ) (e : SwitchEnables) → StaysAt k rows new
     → HoldsRelease rows k e
     → HoldsRelease new k e
-enables-stays rows new k e stays is = record {
+told-stays rows new k e stays is = record {
   opening =
       record {
         value_is = stays _ ∙ is.opening.value_is;
@@ -121,7 +121,7 @@ beq-true false = refl
 
 told-shown : (rows : List Row) (k : ℕ) (e : SwitchEnables) → HoldsRelease rows k e
     → enabled_at rows k ≡ e
-enables-shown rows k e is =
+told-shown rows k e is =
     ap (λ o. let d : SwitchEnables = record {
       may_open = is_truth true o;
       may_close = is_truth true (leaf_named (closing_names_at k).value rows);

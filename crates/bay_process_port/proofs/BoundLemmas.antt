@@ -19,8 +19,8 @@ emptied-same presence p q b = ap₂ (λ t d. empty_port t d presence) b.sent b.s
 
 told-some : (s : State) (sent : Option (List (Option ReleaseData)))
     → is_some (sent_releases_after s sent) ≡ is_some sent
-sent-some s None = refl
-sent-some s (Some sent) = refl
+told-some s None = refl
+told-some s (Some sent) = refl
 
 answered-duties : (watch : Option WatchData)
     → settings_in (after_alive_answer watch) ≡ settings_in watch
@@ -60,13 +60,13 @@ bound-as p q sent watch = record { sent = ap is_some sent; settings = ap setting
 
 told-again : (sent : Option (List (Option ReleaseData)))
     → is_some (if is_some sent then Some no_releases_sent else None) ≡ is_some sent
-sent-again None = refl
-sent-again (Some sent) = refl
+told-again None = refl
+told-again (Some sent) = refl
 
 duties-again : (watch : Option WatchData)
     → settings_in (option_map initial_watch (settings_in watch)) ≡ settings_in watch
-settings-again None = refl
-settings-again (Some w) = refl
+duties-again None = refl
+duties-again (Some w) = refl
 
 -- a port that was emptied twice
 pub emptied-twice : (one other : Presence) (p : PortData)

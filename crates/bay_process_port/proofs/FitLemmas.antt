@@ -40,7 +40,7 @@ line-some s (Some (at_moment moment named)) = event-some s named
 -- a line tells of an event of a device exactly where it tells of one
 pub told-some : (s : State) (line : List ℕ)
     → is_some (event_in_line s line) ≡ has_process_event line
-sent-some s line = line-some s (trace_line_of line)
+told-some s line = line-some s (trace_line_of line)
 
 -- ---- what a line comes to is what it tells
 
@@ -53,7 +53,7 @@ pub record IsTimely (limit now moment : ℕ) (message : ProcessMessage) (said : 
 -- what can be taken was said in time
 pub timely-is : (limit now moment : ℕ) (message : ProcessMessage) (said : TimedMessage)
     → judge_moment limit now moment message ≡ Ok said → IsTimely limit now moment message said
-check_moment-is limit now moment message said e = by-time (is_timely limit now moment) refl
+timely-is limit now moment message said e = by-time (is_timely limit now moment) refl
   where
     by-time : (v : Bool) → is_timely limit now moment ≡ v → IsTimely limit now moment message said
     by-time true t =
@@ -65,13 +65,13 @@ check_moment-is limit now moment message said e = by-time (is_timely limit now m
 -- and its event
 pub timely-event : (limit now moment : ℕ) (message : ProcessMessage) (said : TimedMessage)
     → IsTimely limit now moment message said → event_in message ≡ event_in said.message
-check_moment-event limit now moment message said t =
+timely-event limit now moment message said t =
     ap (λ (x : TimedMessage). event_in x.message) t.is
 
 -- the event of a later line
 pub word-event : (event : Option ProcessEvent) → event_in (event_message event) ≡ event
-message-event None = refl
-message-event (Some event) = refl
+word-event None = refl
+word-event (Some event) = refl
 
 plain-told : (s : State) (now : ℕ) (line : List ℕ) (said : TimedMessage)
     → judge_plain_line now line (event_in_line s line) ≡ Ok said
@@ -170,16 +170,16 @@ had-event : (message : ProcessMessage) (line lines_read : List ℕ)
     → line_in message line ≡ Some lines_read
     → input_of_event (event_in message) ≡ Ok (report_of_event (event_in message))
 had-event Blank line lines_read e = absurd cc
-lines_read-event (Reports event) line lines_read e = refl
-lines_read-event Introduces line lines_read e = absurd cc
-lines_read-event Lives line lines_read e = absurd cc
+had-event (Reports event) line lines_read e = refl
+had-event Introduces line lines_read e = absurd cc
+had-event Lives line lines_read e = absurd cc
 
 had-line : (message : ProcessMessage) (line lines_read : List ℕ)
     → line_in message line ≡ Some lines_read → line ≡ lines_read
-lines_read-line Blank line lines_read e = absurd cc
-lines_read-line (Reports event) line lines_read e = cc
-lines_read-line Introduces line lines_read e = absurd cc
-lines_read-line Lives line lines_read e = absurd cc
+had-line Blank line lines_read e = absurd cc
+had-line (Reports event) line lines_read e = cc
+had-line Introduces line lines_read e = absurd cc
+had-line Lives line lines_read e = absurd cc
 
 -- a line that a turn has can be read as what the turn is given
 pub judged-readable : (watch : Option WatchData) (s : State) (now : ℕ) (line lines_read : List ℕ)

@@ -339,12 +339,12 @@ kept-waits : (before : PortData) (r : Result PortData DisconnectReason) (calls :
     (rest : List ℕ) → ((p : PortData) → r ≡ Ok p → p.queue ≡ rest)
     → (closed_or_open before r calls).connection_event ≡ None
     → (closed_or_open before r calls).port.queue ≡ rest
-buffer-waits before (Ok p) calls rest waits e = waits p refl
-buffer-waits before (Err why) calls rest waits e = absurd cc
+kept-waits before (Ok p) calls rest waits e = waits p refl
+kept-waits before (Err why) calls rest waits e = absurd cc
 
 pub tells-in-order : (t : ReportedTurn) (s : State) (script : Script) (p : PortData)
     → p.presence ≡ Present → WritesInOrder t s script p
-sends-in-order t s script p here =
+tells-in-order t s script p here =
     let part = exchange_part t s (script.taken, script.heard) p in
     let sent = tells-talked t s (script.taken, script.heard) p in
     let is : poll_outcome t s script p ≡ connected_outcome p part =

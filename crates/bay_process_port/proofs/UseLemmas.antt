@@ -130,13 +130,13 @@ keeps-talked t s answers p =
     keeps-behind p.buffer b.after b.calls (read_part answers.1) ka (keeps-read answers.1)
 
 -- where the process is still there, it was read into what is kept
-buffer-here : (before : PortData) (r : Result PortData DisconnectReason) (calls : List Call)
+kept-here : (before : PortData) (r : Result PortData DisconnectReason) (calls : List Call)
     (buffer : List ℕ) → Keeps buffer r calls
     → (closed_or_open before r calls).port.presence ≡ Present
     → (closed_or_open before r calls).port.buffer
     ≡ buffer ++ octets_read_by (closed_or_open before r calls).calls
-buffer-here before (Ok q) calls buffer k here = k q refl
-buffer-here before (Err why) calls buffer k here = absurd cc
+kept-here before (Ok q) calls buffer k here = k q refl
+kept-here before (Err why) calls buffer k here = absurd cc
 
 pub attends-keep : (t : ReportedTurn) (s : State) (script : Script) (p : PortData)
     → p.presence ≡ Present
@@ -241,7 +241,7 @@ UseFollows us p =
     (all_octets_read us p) (all_lines_read us p)
 
 -- a line is had where it tells something
-lines_read-told : (line : List ℕ) (lines_read lines : List (List ℕ))
+had-told : (line : List ℕ) (lines_read lines : List (List ℕ))
     → lines_read ≡ filter has_process_event lines
     → option_to_list (line_or_none line) ++ lines_read ≡ filter has_process_event (line ∷ lines)
 had-told line lines_read lines e = by-told (has_process_event line) refl

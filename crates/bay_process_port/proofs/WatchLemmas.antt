@@ -274,8 +274,8 @@ jump-near jump w (Some v) is near =
 
 silence-near : (now : ℕ) (w : WatchData) (watch : Option WatchData) → watch ≡ Some w
     → judge_silence now watch ≡ Ok None → now - w.heard ≤ w.settings.limit
-judge_silence-near now w None is e = absurd cc
-judge_silence-near now w (Some v) is e = by-span (nat_le (now - v.heard) v.settings.limit) refl
+silence-near now w None is e = absurd cc
+silence-near now w (Some v) is e = by-span (nat_le (now - v.heard) v.settings.limit) refl
   where
     by-span : (b : Bool) → nat_le (now - v.heard) v.settings.limit ≡ b
         → now - w.heard ≤ w.settings.limit
@@ -561,11 +561,11 @@ kept-owes : (w : WatchData) (before : PortData) (r : Result PortData DisconnectR
     (calls : List Call)
     → before.watch ≡ Some w → Steady w r
     → settings_in (closed_or_open before r calls).port.watch ≡ Some w.settings
-buffer-owes w before (Ok q) calls is h =
+kept-owes w before (Ok q) calls is h =
     let same : SameWatch w q.watch = (h q refl).watch in
     ap settings_in same.is ∙ ap (λ d. let o : Option SupervisionSettings = Some d in o)
     same.settings
-buffer-owes w before (Err why) calls is h = owes-emptied LossPending before ∙ ap settings_in is
+kept-owes w before (Err why) calls is h = owes-emptied LossPending before ∙ ap settings_in is
 
 come-owes : (w : WatchData) (before : PortData) (r : Result PortData DisconnectReason)
     (calls : List Call)

@@ -113,8 +113,8 @@ lines-are Is (line ∷ lines) each =
     split-at 10 line (with_ends lines) each.0.0 ∙ ap (λ ls. line ∷ ls) (lines-are Is lines each.1)
 
 pub ended-append : (xs ys : List (List ℕ)) → with_ends (xs ++ ys) ≡ with_ends xs ++ with_ends ys
-with_ends-append [] ys = refl
-with_ends-append (x ∷ xs) ys =
+ended-append [] ys = refl
+ended-append (x ∷ xs) ys =
     ap (λ t. x ++ 10 ∷ t) (ended-append xs ys)
     ∙ sym (append_assoc x (10 ∷ with_ends xs) (with_ends ys))
 

@@ -65,7 +65,7 @@ load-is report =
 told-is : (s : State) (k : ℕ) (switches : List Switch)
     → switches_text s k switches ≡ told_text (switches_digits s k switches)
 told-is s k [] = refl
-reported-is s k (switch ∷ switches) =
+told-is s k (switch ∷ switches) =
     let p : PrintedSwitch =
     record { id = switch.id; opens = may_open s k; closes = may_close s k } in
     word-whole switch.id (digit_text (may_open s k) ++ digit_text (may_close s k))
@@ -82,12 +82,12 @@ scan-is now steps s =
 pub told-plain : (s : State) (k : ℕ) (switches : List Switch) → HaveIds switches
     → AllPlain (switches_digits s k switches)
 told-plain s k [] ids = tt
-reported-plain s k (switch ∷ switches) ids =
+told-plain s k (switch ∷ switches) ids =
     (name-plain 16 switch.id ids.0, told-plain s (k + 1) switches ids.1)
 
 told-free : (ps : List PrintedSwitch) → AllPlain ps → free 10 (told_text ps) ≡ true
-reported-free [] all = refl
-reported-free (p ∷ ps) all =
+told-free [] all = refl
+told-free (p ∷ ps) all =
     free-append 10 (word_of p) (told_text ps) (word-free 10 p all.0.no_end refl)
     (told-free ps all.1)
 

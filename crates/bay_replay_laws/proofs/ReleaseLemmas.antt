@@ -56,7 +56,7 @@ told-at : (s : State) (j k : ℕ) (switches : List Switch) (switch : Switch)
     → Contains (switches_digits s j switches)
     (record { id = switch.id; opens = may_open s (j + k); closes = may_close s (j + k) })
 told-at s j k [] switch here = absurd cc
-reported-at s j zero (x ∷ switches) switch here =
+told-at s j zero (x ∷ switches) switch here =
     let same : x ≡ switch = cc in
     let there : j + 0 ≡ j = omega arith in (
       0,

@@ -41,12 +41,12 @@ use Rattle.bay_server.proofs.LogLemmas.{unlogged-as}
 
 told-some : (k : ℕ) (line : List ℕ) (lines : List (List ℕ)) → (length line == 0) ≡ false
     → numbered_lines k (line ∷ lines) ≡ (k, line) ∷ numbered_lines (k + 1) lines
-reported-some k [] lines e = absurd cc
-reported-some k (b ∷ bs) lines e = refl
+told-some k [] lines e = absurd cc
+told-some k (b ∷ bs) lines e = refl
 
 told-none : (k : ℕ) (line : List ℕ) (lines : List (List ℕ)) → (length line == 0) ≡ true
     → numbered_lines k (line ∷ lines) ≡ numbered_lines (k + 1) lines
-reported-none k line lines e =
+told-none k line lines e =
     ap (λ l. numbered_lines k (l ∷ lines)) (nil-from-length line (grind (arith, nat_tests)))
 
 module _ (k : ℕ) (text : List ℕ) (all : List (ℕ × List ℕ))

@@ -13,15 +13,15 @@ use Rattle.bay_server_turn_laws.proofs.RoomLemmas.{holds-turn, in-room}
 use Rattle.bay_server_turn_laws.proofs.TurnFlows.{loses-nothing}
 
 told-by : (b u : Bool) → u ≡ false → (b ≡ false → u ≡ true) → b ≡ true
-reported-by true u e f = refl
-reported-by false u e f = absurd (let no : false ≡ true = sym e ∙ f refl in cc)
+told-by true u e f = refl
+told-by false u e f = absurd (let no : false ≡ true = sym e ∙ f refl in cc)
 
 pub told-where-full : (now : ℕ) (given : ProcessReport) (script : Script) (h : ServerData)
     → IsTidy h
     → IsInTime now h → AreInRoom h → length script.readings ≡ 8
     → length script.offers ≡ 8 → (p : ℕ) → p < 8 → IsOpenIn p script h
     → IsReportedIfFull now given script h p
-reported-where-full now given script h tidy time room readings offers p low up =
+told-where-full now given script h tidy time room readings offers p low up =
     let t : TurnState = after_turn now given script h in
     let taken = written_by_calls (p + 1) (turn_calls now given script h) in
     let held = server_queue p h in

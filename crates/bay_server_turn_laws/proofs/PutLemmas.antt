@@ -75,12 +75,12 @@ put_quiet-puts answer s =
 
 told-if : (b : Bool) (n m : TurnData) → m.states ≡ n.states
     → (let o : TurnData = if b then n else m in o).states ≡ n.states
-reported-if true n m e = refl
-reported-if false n m e = e
+told-if true n m e = refl
+told-if false n m e = e
 
 pub told-standings : (slot : ℕ) (why : CloseReason) (n : TurnData)
     → (with_closing slot why n).states ≡ n.states
-reported-standings slot why n =
+told-standings slot why n =
     told-if (is_close_reported (noted_state slot n)) n
     (record n { closed = n.closed ++ (slot + 1, why) ∷ [] }) refl
 

@@ -167,7 +167,7 @@ pub told-once : (now : ℕ) (given : ProcessReport) (script : Script) (h : Serve
     → length script.readings ≡ 8 → length script.offers ≡ 8
     → times_reported (slot + 1) (after_turn now given script h).noted.closed
     (after_turn now given script h).noted.memory ≤ 1
-reported-once now given script h slot reads offers =
+told-once now given script h slot reads offers =
     let t : TurnState = after_turn now given script h in
     let once =
     keep-turn now 8 IsOnce once-kept h script.accepted t _ _

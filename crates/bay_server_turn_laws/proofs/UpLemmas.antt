@@ -61,7 +61,7 @@ some-up (x ∷ ts) (suc i) t e = some-up ts i t e
 -- ---- numbers of associations
 
 pub place-of : (slot : ℕ) → slot < 8 → slot_of (slot + 1) ≡ Some slot
-slot-of slot h =
+place-of slot h =
     let low : nat_lt 0 (slot + 1) ≡ true = lt-ltb 0 (slot + 1) (omega arith) in
     let high : nat_lt (slot + 1) 9 ≡ true = lt-ltb (slot + 1) 9 (omega arith) in
     let same : slot + 1 - 1 ≡ slot = omega arith in

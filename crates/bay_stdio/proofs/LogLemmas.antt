@@ -37,7 +37,7 @@ parts-turn parts k part is lt =
 -- all was added
 pub Keeps-all : {before whole now : List ℕ} → Added before whole [] now → length now ≤ 65536
     → AppendsIfFits before whole now true
-AppendsIfFits-all {before} {whole} {now} a within = record {
+Keeps-all {before} {whole} {now} a within = record {
   fitted = sym (grind (arith, nat_tests, ap length same));
   whole = λ e. same;
   part = (whole, same);
@@ -50,7 +50,7 @@ AppendsIfFits-all {before} {whole} {now} a within = record {
 pub Keeps-part : {before whole rest now : List ℕ} (part more : List ℕ)
     → Added before whole rest now → rest ≡ part ++ more → fits_buffer now part ≡ false
     → AppendsIfFits before whole now false
-AppendsIfFits-part {before} {whole} {rest} {now} part more a e full = record {
+Keeps-part {before} {whole} {rest} {now} part more a e full = record {
   fitted = sym (grind (
     arith,
     nat_tests,

@@ -119,7 +119,7 @@ name-text (b ∷ bs) name e = by_test (is_utf8 (b ∷ bs)) refl
 
 told-text : (id : List ℕ) (field : MeterField) (word : List ℕ) (d : NamedData)
     → measure_event_of id field word ≡ Some d → IsUtf8 word
-tail-text id field word d e =
+told-text id field word d e =
     choice word (codes "bad") _ d _ refl
     (λ h. let number = mapped (measure id field) (read_integer word) d h in
     integer-text word number.0 number.1) e

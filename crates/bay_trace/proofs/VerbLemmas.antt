@@ -68,7 +68,7 @@ integer-word (b ∷ bs) z e = by_test (eqb b 45) refl
 
 told-word : (id : List ℕ) (field : MeterField) (word : List ℕ) (y : NamedData)
     → measure_event_of id field word ≡ Some y → IsWord word
-tail-word id field word y e =
+told-word id field word y e =
     chosen IsWord word (codes "bad") _ y _ refl (λ h. by-value (read_integer word) refl h) e
   where
     by-value : (o : Option ℤ) → read_integer word ≡ o

@@ -206,7 +206,7 @@ word-named p whole begins = by-halves (split_at_hash p) refl
 
 piece-named : (p : List ℕ) → Whole p → IsPieceNamed (lexeme_of p)
 unfolding lexeme_of IsMaybe
-lexeme_of-named p whole =
+piece-named p whole =
     either IsPieceNamed (is_blank (slice_index p 0)) tt
     (either IsPieceNamed (is_line_end p) tt (by-first (begins_word (slice_index p 0)) refl))
   where
@@ -217,7 +217,7 @@ lexeme_of-named p whole =
 
 pieces-named : (ps : List (List ℕ)) → Each Whole ps → Each IsPieceNamed (map lexeme_of ps)
 pieces-named [] all = tt
-lexemes-named (p ∷ ps) all = (piece-named p all.0, pieces-named ps all.1)
+pieces-named (p ∷ ps) all = (piece-named p all.0, pieces-named ps all.1)
 
 -- ---- lines
 

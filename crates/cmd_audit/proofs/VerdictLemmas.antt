@@ -230,7 +230,7 @@ told-read : (line id : List ℕ) (operation : Operation) (hold : PrintedHold)
     → (let o : Option PrintedHold =
     Some (record { line = line; id = id; operation = operation }) in o) ≡ Some hold
     → AreRead line id operation hold
-release-read line id operation hold e = record { line = cc; id = cc; operation = cc }
+told-read line id operation hold e = record { line = cc; id = cc; operation = cc }
 
 hold-read : (line id : List ℕ) (operation : Operation) (ws : List (List ℕ)) (hold : PrintedHold)
     → hold_in (codes "rule" ∷ line ∷ id ∷ operation_word operation ∷ ws) ≡ Some hold

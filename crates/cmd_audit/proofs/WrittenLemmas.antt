@@ -86,7 +86,7 @@ ways-plus k (suc d) =
     )
 
 -- those of the first switches are the first of all
-directions-rest : (k n : ℕ) → k ≤ n
+ways-rest : (k n : ℕ) → k ≤ n
     → (later : List (ℕ × Operation)) × (directions n ≡ directions k ++ later)
 ways-rest k n low =
     let more = ways-plus k (n - k) in

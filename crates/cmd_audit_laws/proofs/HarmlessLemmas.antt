@@ -25,8 +25,8 @@ abbrev last_ways : ℕ → List (ℕ × Operation)
 last_ways n = (n, operations.Open) ∷ (n, operations.Close) ∷ []
 
 -- each of them is of one of its switches
-directions-below : (n : ℕ) (way : ℕ × Operation) → Contains (directions n) way → way.0 < n
-directions-below zero way c = absurd (let low = c.1 in omega (arith, low))
+ways-below : (n : ℕ) (way : ℕ × Operation) → Contains (directions n) way → way.0 < n
+ways-below zero way c = absurd (let low = c.1 in omega (arith, low))
 ways-below (suc n) way c = elim (Contains-append_cases (directions n) (last_ways n) way c) [
   | inl before ↦ (let low = ways-below n way before in omega (arith, low))
   | inr last ↦ by-last last
@@ -44,7 +44,7 @@ last-way n operations.Open = (0, omega arith, refl)
 last-way n operations.Close = (1, omega arith, refl)
 
 -- each operation of each of its switches is there
-directions-have : (n k : ℕ) (operation : Operation) → k < n → Contains (directions n) (k, operation)
+ways-have : (n k : ℕ) (operation : Operation) → k < n → Contains (directions n) (k, operation)
 ways-have zero k operation lt = absurd (omega (arith, lt))
 ways-have (suc n) k operation lt = by-case (nat_lt k n) refl (ways-have n k operation)
   where

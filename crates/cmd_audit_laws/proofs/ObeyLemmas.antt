@@ -69,7 +69,7 @@ of-typed Scan h = tt
 
 told-typed : (o : Option ProcessEvent) → IfSome o EventFits → AreTyped (process_events o)
 told-typed None h = All-nil IsTyped
-reported-typed (Some event) h = one _ h
+told-typed (Some event) h = one _ h
 
 first-typed : (given : ProcessReport) → AreTyped (process_events (loss_event given))
 first-typed given = told-typed (loss_event given) (by-lost given.is_lost)

@@ -82,7 +82,7 @@ LineFits (at_moment moment named) = NamedFits named
 
 told-fits : (id : List ℕ) (field : MeterField) (message : List ℕ)
     → IfSome (measure_event_of id field message) NamedFits
-reported-fits id field message =
+told-fits id field message =
     cond-some NamedFits (bytes_eq message (codes "bad")) (Some (bad_measure id field))
     (option_map (measure id field) (read_integer message)) tt
     (number-told (read_integer message) (integer-fits message))
@@ -197,9 +197,9 @@ process-fits scan h = tt
 
 told-of-line : (s : State) (o : Option LineData) → IfSome o LineFits
     → IfSome (option_and_then (served_event s) (process_of o)) EventFits
-reported-of-line s None h = tt
-reported-of-line s (Some blank) h = tt
-reported-of-line s (Some (at_moment moment named)) h =
+told-of-line s None h = tt
+told-of-line s (Some blank) h = tt
+told-of-line s (Some (at_moment moment named)) h =
     both (process_event named) (process-fits named h)
   where
     both : (o : Option NamedData) → IfSome o NamedFits
@@ -208,7 +208,7 @@ reported-of-line s (Some (at_moment moment named)) h =
     both (Some event) k = served-fits s event k
 
 told-by-fits : (s : State) (text : List ℕ) → IfSome (event_in_line s text) EventFits
-reported-by-fits s text = told-of-line s (trace_line_of text) (line-fits text)
+told-by-fits s text = told-of-line s (trace_line_of text) (line-fits text)
 
 -- what is given is of its type
 abbrev GivenFits : TurnInput → Type 0

@@ -23,7 +23,7 @@ pub Does-same : {W : Type 0} (contents : W → Option (List ℕ)) (asks : W → 
     (event other : Event) (before : State) (new : WriterState W) (after : State)
     → without_address event ≡ other → AppliesEvent contents asks old now event before new after
     → AppliesEvent contents asks old now other before new after
-AppliesEvent-same contents asks old now event other before new after e d =
+Does-same contents asks old now event other before new after e d =
     let same : outcome d.choice now event before ≡ outcome d.choice now other before =
     same-anywhere d.choice now event before ∙ ap (λ f. outcome d.choice now f before) e in
     record {
@@ -43,7 +43,7 @@ pub Does-put : {W : Type 0} (contents : W → Option (List ℕ)) (asks : W → W
     → after ≡ (outcome choice now event before).after
     → Puts contents asks old (step_text now answer after) new
     → AppliesEvent contents asks old now event before new after
-AppliesEvent-put contents asks old now event before new after choice answer answered left put =
+Does-put contents asks old now event before new after choice answer answered left put =
     record {
       choice = choice;
       text = subst (λ t. Puts contents asks old t new) (ap₂ (step_text now) answered left) put;

@@ -16,7 +16,7 @@ pub LoadsReport-device : (parts : ScenarioParts) (s : State)
     → LoadsDevice parts.bay Logic parts.logic s
     → (log : Option (List ℕ)) (text : List ℕ) (status : ℕ)
     → DeviceReport s (lines_of parts.trace) log text status → PartsLoadReport parts log text status
-PartsLoadReport-device parts s loads log text status told =
+LoadsReport-device parts s loads log text status told =
     inl (subst (λ loaded. LoadedTraceReport loaded parts.trace log text status) (sym loads.1)
     (subst (λ (d : State). DeviceReport d (lines_of parts.trace) log text status) loads.2 told))
 
@@ -25,7 +25,7 @@ pub LoadsReport-refused : (parts : ScenarioParts) (error : LoadError)
     → MayLoadTo parts.bay Logic parts.logic (Err error)
     → (log : Option (List ℕ)) (text : List ℕ) (status : ℕ) → RefusalReport error log text status
     → PartsLoadReport parts log text status
-PartsLoadReport-refused parts error (inl refused) log text status told =
+LoadsReport-refused parts error (inl refused) log text status told =
     inl (subst (λ loaded. LoadedTraceReport loaded parts.trace log text status) (sym refused) told)
 LoadsReport-refused parts error (inr memory) log text status told =
     let is : error ≡ OutOfMemory = cc in inr (subst (λ e. RefusalReport e log text status) is told)

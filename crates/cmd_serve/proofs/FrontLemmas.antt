@@ -118,7 +118,7 @@ event-without process.Lost = tt
 
 pub told-without : (line : Option ProcessEvent) → AreWithout (process_events line)
 told-without None = All-nil IsFree
-reported-without (Some event) = All-cons IsFree _ [] (event-without event) (All-nil IsFree)
+told-without (Some event) = All-cons IsFree _ [] (event-without event) (All-nil IsFree)
 
 -- ---- two halves
 

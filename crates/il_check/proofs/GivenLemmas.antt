@@ -262,7 +262,7 @@ found c names meant (text.call timer args) =
 -- an instruction that does not use the result is right on each
 pub allows-any : (r : Resolved) (t : Option ElementaryType) → uses_result r ≡ false
     → is_wrong r t ≡ false → is_valid_on r elementary.Bool ≡ true
-is_valid_on-any r None e ok = not-false _ (right-typed r (Some elementary.Bool) None e ok)
+allows-any r None e ok = not-false _ (right-typed r (Some elementary.Bool) None e ok)
 allows-any r (Some k) e ok = sym (same-for-all r k e) ∙ not-false _ ok
 
 own-fits-case : (z : ℤ) (b d : Bool) → is_some (typed_number elementary.Int z) ≡ b
@@ -374,8 +374,8 @@ store-slot c how kind (operand.TimerOutput timer what) of o is same may how_may 
 
 fits-same : (source : KnownOperand) (kind : ElementaryType) (b : Bool)
     → same_type source.kind kind ≡ b → is_some (cond b (Some source.operand) None) ≡ true → b ≡ true
-operand_fits-same source kind true e f = refl
-operand_fits-same source kind false e f = absurd (cc)
+fits-same source kind true e f = refl
+fits-same source kind false e f = absurd (cc)
 
 store-kind : (c : Checked) (how : StoreKind) (g : SourceOperand) (kind : ElementaryType)
     (o : SimpleOperation) → IsGiven c g

@@ -41,8 +41,8 @@ behind-grows code n offset (Some start) is before f =
     read-grows code n start offset (instr_at code start) refl (before start is) f
 
 place-grows : (code : List ℕ) (n offset : ℕ) → offset_of code n ≡ Some offset → n ≤ offset
-offset-grows code zero offset e = omega arith
-offset-grows code (suc n) offset e =
+place-grows code zero offset e = omega arith
+place-grows code (suc n) offset e =
     behind-grows code n offset (offset_of code n) refl (λ start is. place-grows code n start is) e
 
 there-is : (o : Option ℕ) (offset : ℕ) → is_there o offset ≡ true → o ≡ Some offset

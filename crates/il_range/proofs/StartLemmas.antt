@@ -239,7 +239,7 @@ pub tells-given : (image : Image) (start memory : List Range) (delays : List Kno
     (given : List Range) (last : List KnownDelay) (result : List Range)
     → start ≡ with_inputs image.points given memory → PredictsReached image start delays last result
     → PredictsScans image memory delays given last result
-predicts-given image start memory delays given last result at t w machine inputs now slots timers is
+tells-given image start memory delays given last result at t w machine inputs now slots timers is
     r
     k
     y
@@ -252,7 +252,7 @@ pub tells-any : (image : Image) (start memory : List Range) (last : List KnownDe
     (result : List Range)
     → start ≡ with_inputs image.points (replicate (length image.points) Any) memory
     → PredictsReached image start [] last result → PredictsMemory image memory result
-predicts-any image start memory last result at t w machine inputs now slots timers is r k l =
+tells-any image start memory last result at t w machine inputs now slots timers is r k l =
     (t w machine inputs now slots timers is r
     (rw (at, ← is) (free-in w machine.image.points inputs (length machine.image.points)
     machine.slots memory (omega arith) k)) tt l).0

@@ -43,11 +43,11 @@ turned-round h = elim h [ inl a ↦ inr a | inr b ↦ inl b ]
 
 leads-there : (i : Instr) (next : ℕ) (stack : List ℤ) (to : ℕ) → next_offset i next stack ≡ Some to
     → LeadsTo i next to
-next_offset-there Halt next stack to e = absurd cc
-next_offset-there (Jump Always distance) next stack to e = sym (same_Some (next + distance) to e)
+leads-there Halt next stack to e = absurd cc
+leads-there (Jump Always distance) next stack to e = sym (same_Some (next + distance) to e)
 leads-there (Jump IfTrue distance) next stack to e =
     chosen (int_eq (top stack) (pos 0)) next (next + distance) to e
-next_offset-there (Jump IfFalse distance) next stack to e =
+leads-there (Jump IfFalse distance) next stack to e =
     turned-round (chosen (int_eq (top stack) (pos 0)) (next + distance) next to e)
 leads-there i next stack to e = sym (same_Some next to e)
 

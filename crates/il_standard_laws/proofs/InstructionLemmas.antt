@@ -126,9 +126,9 @@ place-fits names (text.output timer what) kind = output-fits what (names.meaning
 
 fits-is : (names : ProgramNames) (source : text.OperandData) (kind : ElementaryType)
     → (operand_fits kind (resolve_operand names source) ≡ true) ↔ CanHaveType names source kind
-operand_fits-is names (text.constant (literal.Truth b)) kind = known-fits elementary.Bool kind _
-operand_fits-is names (text.constant (literal.Number z)) kind = number-fits kind z _ refl
-operand_fits-is names (text.constant (literal.Int z)) kind =
+fits-is names (text.constant (literal.Truth b)) kind = known-fits elementary.Bool kind _
+fits-is names (text.constant (literal.Number z)) kind = number-fits kind z _ refl
+fits-is names (text.constant (literal.Int z)) kind =
     typed-fits kind (value.Short z) _ _ (is-between (negsuc 0x7FFF) (pos 0x7FFF) z)
 fits-is names (text.constant (literal.Dint z)) kind =
     typed-fits kind (value.Long z) _ _ (is-between (negsuc 0x7FFF_FFFF) (pos 0x7FFF_FFFF) z)
@@ -172,12 +172,12 @@ load-is names (text.variable (text.output timer what)) kind =
     along _ _ (Some kind) (output-loads what (names.meaning timer))
 
 -- what has a type is no name that is missing
-operand_fits-there : (kind : ElementaryType) (g : SourceOperand) → operand_fits kind g ≡ true
+fits-there : (kind : ElementaryType) (g : SourceOperand) → operand_fits kind g ≡ true
     → is_undeclared g ≡ false
-operand_fits-there kind Missing e = absurd (cc)
+fits-there kind Missing e = absurd (cc)
 fits-there kind Misused e = refl
-operand_fits-there kind (Known s) e = refl
-operand_fits-there kind (Number z) e = refl
+fits-there kind (Known s) e = refl
+fits-there kind (Number z) e = refl
 
 loads-there : (kind : ElementaryType) (g : SourceOperand) → load_type g ≡ Some kind
     → is_undeclared g ≡ false

@@ -75,7 +75,7 @@ index-up (x ∷ xs) (suc k) = index-up xs k
 
 joins-up : (x : ℕ) (p : List ℕ) → joins_lexeme (up x) (map up p) ≡ joins_lexeme x p
 unfolding joins_lexeme
-joins_lexeme-up x p =
+joins-up x p =
     rw (index-up p 0, linked-up x (slice_index p 0), up-eqb x 38 (lit< tt), same-up p (78 ∷ []))
     refl
 
@@ -87,21 +87,21 @@ join-up x (p ∷ ps) =
 
 pieces-up : (xs : List ℕ) → lexemes (map up xs) ≡ map (map up) (lexemes xs)
 unfolding lexemes
-lexemes-up [] = refl
-lexemes-up (x ∷ xs) = ap (join (up x)) (unfold lexemes in pieces-up xs) ∙ join-up x (lexemes xs)
+pieces-up [] = refl
+pieces-up (x ∷ xs) = ap (join (up x)) (unfold lexemes in pieces-up xs) ∙ join-up x (lexemes xs)
 
 opens-up : (xs : List ℕ) → opens_comment (map up xs) ≡ opens_comment xs
-opens_comment-up xs =
+opens-up xs =
     rw (index-up xs 0, index-up xs 1, up-eqb _ 40 (lit< tt), up-eqb _ 42 (lit< tt)) refl
 
 ends-up : (xs : List ℕ) → ends_comment (map up xs) ≡ ends_comment xs
-ends_comment-up xs =
+ends-up xs =
     rw (index-up xs 0, index-up xs 1, up-eqb _ 42 (lit< tt), up-eqb _ 41 (lit< tt)) refl
 
 closes-up : (xs : List ℕ) → ends_later (map up xs) ≡ ends_later xs
 unfolding ends_later
-ends_later-up [] = refl
-ends_later-up (x ∷ xs) =
+closes-up [] = refl
+closes-up (x ∷ xs) =
     let rest : ends_later (map up xs) ≡ ends_later xs = unfold ends_later in closes-up xs in
     ap (λ (b : Bool). b || ends_later (map up xs)) (ends-up (x ∷ xs))
     ∙ ap (λ (b : Bool). ends_comment (x ∷ xs) || b) rest
@@ -216,13 +216,13 @@ word-by w None e false f =
     (literal-up (plain_literal (decimal w)))
 
 -- no mark is a name
-mark_lexeme-up : (p : List ℕ)
+mark_piece-up : (p : List ℕ)
     → mark_lexeme (mark_of (map up p)) ≡ upper_piece (mark_lexeme (mark_of p))
 mark_piece-up p = rw (mark-up p) (unfold mark_of in grind (arith, common_steps))
 
 piece-up : (p : List ℕ) → lexeme_of (map up p) ≡ upper_piece (lexeme_of p)
 unfolding lexeme_of
-lexeme_of-up p =
+piece-up p =
     rw (
       index-up p 0,
       blank-up (slice_index p 0),
@@ -240,7 +240,7 @@ lexeme_of-up p =
 pieces-map : (ps : List (List ℕ))
     → map lexeme_of (map (map up) ps) ≡ map upper_piece (map lexeme_of ps)
 pieces-map [] = refl
-lexemes-map (p ∷ ps) = rw (piece-up p, pieces-map ps) refl
+pieces-map (p ∷ ps) = rw (piece-up p, pieces-map ps) refl
 
 pub cut-up : (text : List ℕ)
     → text_lexemes false (map up text) ≡ map upper_piece (text_lexemes false text)

@@ -91,7 +91,7 @@ hash-up w = prefix-up (λ x. not (is_hash x)) (λ x. ap not (up-eqb x 35 (lit< t
 
 pub halves-up : (w : List ℕ) → split_at_hash (map up w) ≡ option_map up_both (split_at_hash w)
 unfolding split_at_hash
-split_at_hash-up w =
+halves-up w =
     let n : ℕ = position_or_len is_hash w in
     rw (hash-up w, length-up w, take-map up n w, drop-map up (n + 1) w)
     (cond-up (option_map up_both) (ltb n (length w)) (Some (take n w, drop (n + 1) w)) None)

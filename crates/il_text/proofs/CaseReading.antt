@@ -145,7 +145,7 @@ declaring-up : (n : ℕ) (ns : List (List ℕ)) (kind : DeclaredType) (initial :
     → after_declaration n (map (map up) ns) kind initial (upper_reached r) o
     ≡ option_map upper_reached (after_declaration n ns kind initial r o)
 declaring-up n ns kind initial r None = refl
-names_part-up n ns kind initial r (Some scope) =
+declaring-up n ns kind initial r (Some scope) =
     let ds : List DeclaredName = map (declared_in n scope kind initial) ns in
     rw (declared-up n scope kind initial ns, sym (map-append upper_declared r.declarations ds))
     (reached-if (may_begin_with scope initial) (Some (with_declarations ds r)))
@@ -153,7 +153,7 @@ names_part-up n ns kind initial r (Some scope) =
 closing-up : (r : DraftData) (o : Option VariableScope)
     → closed_block (upper_reached r) o ≡ option_map upper_reached (closed_block r o)
 closing-up r None = refl
-block_end-up r (Some scope) = refl
+closing-up r (Some scope) = refl
 
 left-up : (n : ℕ) (r : DraftData) (fs : List Parenthesis)
     → after_parenthesis n (upper_reached r) (map upper_opened fs)

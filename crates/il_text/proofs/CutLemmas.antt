@@ -112,7 +112,7 @@ join-linked x p ps h = rw h refl
 pieces-cons : (x : ℕ) (xs : List ℕ) → opens_comment (x ∷ xs) ≡ false
     → lexemes (without_comments false (x ∷ xs)) ≡ join x (lexemes (without_comments false xs))
 unfolding lexemes
-lexemes-cons x xs h = rw (blanked-plain x xs h) refl
+pieces-cons x xs h = rw (blanked-plain x xs h) refl
 
 -- the pieces from a place on
 abbrev cut_at : List ℕ → ℕ → List (List ℕ)
@@ -260,7 +260,7 @@ join-joined x p ps h = rw h refl
 
 joins-N : (x n : ℕ) → eqb x 38 ≡ true → to_ascii_uppercase n ≡ 78 → joins_lexeme x (n ∷ []) ≡ true
 unfolding joins_lexeme
-joins_lexeme-N x n a e = rw (a, N_of n e) (or-true (are_linked x n))
+joins-N x n a e = rw (a, N_of n e) (or-true (are_linked x n))
 
 pub and-right : (a b : Bool) → a && b ≡ true → b ≡ true
 and-right true b h = h

@@ -272,13 +272,13 @@ blocks-run (b ∷ bs) name ds ps h =
 heading-step : (n : ℕ) (name : List ℕ)
     → step n empty_draft (program_start name) ≡ Some (state stage.Declarations name [] [] [])
 unfolding step
-program_start-step n name = refl
+heading-step n name = refl
 
 pub ending-step : (n : ℕ) (name : List ℕ) (p : Stage) (ds : List DeclaredName) (is : List Entry)
     → is_body p ≡ true
     → step n (state p name ds is []) program_end ≡ Some (state stage.Finished name ds is [])
 unfolding step may_follow
-program_end-step n name p ds is b = rw b refl
+ending-step n name p ds is b = rw b refl
 
 -- the parts of a program reach its end
 pub derived-runs : (ps : List Numbered) (p : PlainProgram) → Derives ps p

@@ -126,7 +126,7 @@ end-at ps r stage.Body e x =
 end-at ps r stage.Finished e x = finished-now r e
 
 pub reached-from : (ps : List Numbered) (s : DraftData) → run empty_draft ps ≡ Some s → Reaches ps s
-draft-from ps s e = run-reaches ps [] empty_draft s start-reaches e
+reached-from ps s e = run-reaches ps [] empty_draft s start-reaches e
 
 -- what ends is a program
 pub ended-derives : (ps : List Numbered) (s : DraftData) → run empty_draft ps ≡ Some s

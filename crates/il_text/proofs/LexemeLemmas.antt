@@ -29,26 +29,26 @@ first-of-range bs s e h w = grind (arith, common_steps)
 
 pub piece-blank : (p : List ℕ) → is_blank (slice_index p 0) ≡ true → lexeme_of p ≡ blank
 unfolding lexeme_of
-lexeme_of-blank p a = rw a refl
+piece-blank p a = rw a refl
 
 pub piece-line-end : (p : List ℕ) → is_blank (slice_index p 0) ≡ false → is_line_end p ≡ true
     → lexeme_of p ≡ line_end
 unfolding lexeme_of
-lexeme_of-line-end p a b = rw (a, b) refl
+piece-line-end p a b = rw (a, b) refl
 
 pub piece-word : (p : List ℕ) → is_blank (slice_index p 0) ≡ false → is_line_end p ≡ false
     → begins_word (slice_index p 0) ≡ true → lexeme_of p ≡ word p
 unfolding lexeme_of
-lexeme_of-word p a b d = rw (a, b, d) refl
+piece-word p a b d = rw (a, b, d) refl
 
 pub piece-mark : (p : List ℕ) (m : Symbol) → is_blank (slice_index p 0) ≡ false
     → is_line_end p ≡ false → begins_word (slice_index p 0) ≡ false
     → Some m ≡ mark_of p → lexeme_of p ≡ token m
 unfolding lexeme_of
-lexeme_of-mark p m a b d e = rw (a, b, d, sym e) refl
+piece-mark p m a b d e = rw (a, b, d, sym e) refl
 
 pub piece-none : (p : List ℕ) → is_blank (slice_index p 0) ≡ false → is_line_end p ≡ false
     → begins_word (slice_index p 0) ≡ false
     → None ≡ mark_of p → lexeme_of p ≡ bad_token
 unfolding lexeme_of
-lexeme_of-none p a b d e = rw (a, b, d, sym e) refl
+piece-none p a b d e = rw (a, b, d, sym e) refl

@@ -16,11 +16,11 @@ use Rattle.il_text.proofs.RespellingLemmas.{blanked-parts, cond-parts, last-line
 
 joins-lf : (x : ℕ) → eqb x 13 ≡ false → joins_lexeme x (10 ∷ []) ≡ false
 unfolding joins_lexeme are_linked same_name
-joins_lexeme-lf x e = rw (e, and-false (eqb x 38)) refl
+joins-lf x e = rw (e, and-false (eqb x 38)) refl
 
 joins-cr : (x : ℕ) → joins_lexeme x (13 ∷ 10 ∷ []) ≡ false
 unfolding joins_lexeme are_linked same_name
-joins_lexeme-cr x = rw (and-false (eqb x 38)) refl
+joins-cr x = rw (and-false (eqb x 38)) refl
 
 first-lf : (v : List ℕ) → lexemes (10 ∷ v) ≡ (10 ∷ []) ∷ lexemes v
 first-lf v = pieces-alone 10 v alone-line_end (λ e. absurd (omega (arith, e)))
@@ -70,11 +70,11 @@ parts-cr (x ∷ u) v =
 
 piece-lf : lexeme_of (10 ∷ []) ≡ line_end
 unfolding lexeme_of
-lexeme_of-lf = refl
+piece-lf = refl
 
 piece-cr : lexeme_of (13 ∷ 10 ∷ []) ≡ line_end
 unfolding lexeme_of
-lexeme_of-cr = refl
+piece-cr = refl
 
 blanked-lf : (v : List ℕ) → without_comments false (10 ∷ v) ≡ 10 ∷ without_comments false v
 blanked-lf v = blanked-plain 10 v refl

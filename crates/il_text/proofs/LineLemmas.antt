@@ -67,7 +67,7 @@ some-behind x (s ∷ front) t rest = refl
 
 place-exact : Exact symbolic_variable
 unfolding symbolic_variable
-symbolic_variable-exact =
+place-exact =
     by-exact _ (made-exact _ (one-exact _))
     (behind-exact _ _ (λ t. after-exact _ (made-exact _ (one-exact _))))
     (λ ts x s. rw s.1.1 refl) (λ ts x s. rw (s.3, s.5.1) refl)
@@ -84,8 +84,8 @@ operand-exact =
 
 place-lacks : (m : Mark) → same_mark m mark.Dot ≡ false → Lacks m symbolic_variable
 unfolding symbolic_variable
-symbolic_variable-lacks m dot ts x (inl s) = rw (s.1.1, name-no-mark m s.1.0 s.0 s.1.2) refl
-symbolic_variable-lacks m dot ts x (inr s) =
+place-lacks m dot ts x (inl s) = rw (s.1.1, name-no-mark m s.1.0 s.0 s.1.2) refl
+place-lacks m dot ts x (inr s) =
     let o = s.5.2.1 in
     let w = then-some output_named (name_of o.0) s.5.2.0 o.2 in
     rw (s.3, s.5.1, o.1, name-no-mark m s.0 s.2 s.4, dot, name-no-mark m o.0 w.0 w.1) refl

@@ -20,16 +20,16 @@ linked-none x = refl
 pub closes-here : (bs : List ℕ) (i : ℕ) → i < length bs → ends_comment (drop i bs) ≡ true
     → ends_later (drop i bs) ≡ true
 unfolding ends_later
-ends_later-here bs i h e = let f = rw (front_of bs i h) at e in rw (front_of bs i h) (rw f refl)
+closes-here bs i h e = let f = rw (front_of bs i h) at e in rw (front_of bs i h) (rw f refl)
 
 pub closes-later : (bs : List ℕ) (i : ℕ) → i < length bs → ends_comment (drop i bs) ≡ false
     → ends_later (drop i bs) ≡ ends_later (drop (i + 1) bs)
 unfolding ends_later
-ends_later-later bs i h e = let f = rw (front_of bs i h) at e in rw (front_of bs i h) (rw f refl)
+closes-later bs i h e = let f = rw (front_of bs i h) at e in rw (front_of bs i h) (rw f refl)
 
 pub closes-never : (bs : List ℕ) (i : ℕ) → length bs ≤ i → ends_later (drop i bs) ≡ false
 unfolding ends_later
-ends_later-never bs i h = rw (none-left bs i h) refl
+closes-never bs i h = rw (none-left bs i h) refl
 
 pub ruleset closes_rules = (closes-here, closes-later, closes-never)
 

@@ -163,7 +163,7 @@ alone-unclosed y = simp and-false refl
 pub pieces-alone : (x : ℕ) (xs : List ℕ) → Alone x → x ≢ 38
     → lexemes (x ∷ xs) ≡ (x ∷ []) ∷ lexemes xs
 unfolding lexemes
-lexemes-alone x xs a n = join-alone x (lexemes xs) (a _) (not-N x (lexemes xs) n)
+pieces-alone x xs a n = join-alone x (lexemes xs) (a _) (not-N x (lexemes xs) n)
 
 two-of : (bs : List ℕ) (s : ℕ) → s + 1 < length bs
     → drop s bs ≡ slice_index bs s ∷ slice_index bs (s + 1) ∷ drop (s + 2) bs
@@ -242,14 +242,14 @@ inside-other x (y ∷ ys) h e = rw (h, ne_eqb x 10 e) (space-first (without_comm
 
 -- the second character of a comment's opening or ending is there
 pub opens-within : (bs : List ℕ) (s : ℕ) → opens_comment (drop s bs) ≡ true → s + 1 < length bs
-opens_comment-within bs s h =
+opens-within bs s h =
     let star : slice_index bs (s + 1) ≡ 42 =
     sym (index-drop bs s 1)
     ∙ eqb-true _ _ (and-right (eqb (slice_index (drop s bs) 0) 40) _ h) in
     within-of bs (s + 1) (λ e. absurd (omega (arith, e, star)))
 
 pub ends-within : (bs : List ℕ) (s : ℕ) → ends_comment (drop s bs) ≡ true → s + 1 < length bs
-ends_comment-within bs s h =
+ends-within bs s h =
     let close : slice_index bs (s + 1) ≡ 41 =
     sym (index-drop bs s 1)
     ∙ eqb-true _ _ (and-right (eqb (slice_index (drop s bs) 0) 42) _ h) in

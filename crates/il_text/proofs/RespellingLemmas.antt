@@ -26,12 +26,12 @@ or-cases false b h = inr h
 
 ends-more : (x : ℕ) (xs t : List ℕ) → ends_comment (x ∷ xs) ≡ true
     → ends_comment (x ∷ (xs ++ t)) ≡ true
-ends_comment-more x [] t h = absurd (false≢true (and-right (eqb x 42) false h))
+ends-more x [] t h = absurd (false≢true (and-right (eqb x 42) false h))
 ends-more x (y ∷ ys) t h = h
 
 closes-more : (xs t : List ℕ) → ends_later xs ≡ true → ends_later (xs ++ t) ≡ true
 unfolding ends_later
-ends_later-more [] t h = absurd (false≢true h)
+closes-more [] t h = absurd (false≢true h)
 closes-more (x ∷ xs) t h = ⊎_elim
     (λ (e : ends_comment (x ∷ xs) ≡ true). rw (ends-more x xs t e) refl)
     (λ (k : ends_later xs ≡ true). let more : ends_later (xs ++ t) ≡ true = unfold ends_later in
@@ -139,7 +139,7 @@ blanks-part false (x ∷ y ∷ xs) t h a =
 
 joins-blank : (x c : ℕ) → is_blank c ≡ true → joins_lexeme x (c ∷ []) ≡ false
 unfolding joins_lexeme are_linked same_name
-joins_lexeme-blank x c h =
+joins-blank x c h =
     ⊎_elim (λ (e : c ≡ 32). rw e (and-false (eqb x 38)))
     (λ (e : c ≡ 9). rw e (and-false (eqb x 38))) (blank-cases c h)
 
@@ -168,11 +168,11 @@ blank-alone c t h =
     (not-blank c 38 h (λ e. absurd (omega (arith, e))) (λ e. absurd (omega (arith, e))))
 
 -- the pieces of two parts, of which the second begins with a blank
-lexemes-parts : (u : List ℕ) (c : ℕ) (t : List ℕ) → is_blank c ≡ true
+pieces-parts : (u : List ℕ) (c : ℕ) (t : List ℕ) → is_blank c ≡ true
     → lexemes (u ++ (c ∷ t)) ≡ lexemes u ++ ((c ∷ []) ∷ lexemes t)
 unfolding lexemes
-lexemes-parts [] c t h = unfold lexemes in blank-alone c t h
-lexemes-parts (x ∷ u) c t h =
+pieces-parts [] c t h = unfold lexemes in blank-alone c t h
+pieces-parts (x ∷ u) c t h =
     ap (join x) (unfold lexemes in pieces-parts u c t h) ∙ join-parts x c (lexemes u) (lexemes t) h
 
 tab-piece : lexeme_of (9 ∷ []) ≡ blank
@@ -242,7 +242,7 @@ ends-step : (x y : ℕ) (xs : List ℕ) (e : Bool) → ends_comment (x ∷ y ∷
     → (list_all is_blank (without_comments true (y ∷ xs)) ≡ true → list_all no_end (y ∷ xs) ≡ true)
     → list_all no_end (x ∷ y ∷ xs) ≡ true
 unfolding without_comments
-ends_comment-step x y xs true e h f g =
+ends-step x y xs true e h f g =
     let first =
     no_end-of x 42 (eqb-true _ _ (and-left (eqb x 42) (eqb y 41) e))
     (λ k. absurd (omega (arith, k))) in
@@ -261,7 +261,7 @@ opens-step : (x y : ℕ) (xs : List ℕ) (o : Bool) → opens_comment (x ∷ y �
     → (list_all is_blank (without_comments false (y ∷ xs)) ≡ true → list_all no_end (y ∷ xs) ≡ true)
     → list_all no_end (x ∷ y ∷ xs) ≡ true
 unfolding without_comments
-opens_comment-step x y xs true o h f g =
+opens-step x y xs true o h f g =
     let first =
     no_end-of x 40 (eqb-true _ _ (and-left (eqb x 40) (eqb y 42) o))
     (λ k. absurd (omega (arith, k))) in

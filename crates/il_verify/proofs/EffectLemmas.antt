@@ -108,7 +108,7 @@ one-lower wanted gives xs ys upper h e =
 
 two-lower : (top second gives : CellKind) (xs ys upper : List CellKind) → AreWithin xs ys
     → replace_two top second gives ys ≡ Some upper → Lowers (replace_two top second gives xs) upper
-replace_two-lower top second gives xs ys upper h e =
+two-lower top second gives xs ys upper h e =
     lowers-below top xs ys upper _ _ h (λ us vs w f. one-lower second gives us vs upper w f) e
 
 shown-lower : (x y : CellKind) (t : ElementaryType) → is_within x y ≡ true → type_of_kind y ≡ Some t

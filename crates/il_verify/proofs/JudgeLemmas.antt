@@ -134,7 +134,7 @@ one-some wanted given kinds gives e =
 
 two-some : (top second given : CellKind) (kinds gives : List CellKind)
     → replace_two top second given kinds ≡ Some gives → 2 ≤ length kinds
-replace_two-some top second given kinds gives e =
+two-some top second given kinds gives e =
     let r = bind-some (below top kinds)
     (λ (more : List CellKind). below second more >>= (λ rest. Some (given ∷ rest))) gives e in
     let size : length kinds ≡ suc (length r.0) = below-some top kinds r.0 r.1 in
