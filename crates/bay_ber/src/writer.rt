@@ -205,8 +205,7 @@ impl Model for Writer {
 
     ghost view = { λ w. encoder_buffer_of w.limit w.first w.over w.octets.items };
 
-    ghost invariant =
-        { λ w. IsSound (length w.octets.items) (vec_capacity w.octets) w.first w.limit };
+    ghost invariant = { λ w. IsSound (length w.octets.items) (vec_capacity w.octets) w.first w.limit };
 }
 
 impl Writer {

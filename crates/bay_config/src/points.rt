@@ -104,8 +104,7 @@ fn push_enables(
     switch: usize,
     id: &str,
 ) -> Result<(), AllocError>
-    ensures { IfOk result (λ _. points.new.items ≡ points.old.items ++ enable_points switch id.now)
-        }
+    ensures { IfOk result (λ _. points.new.items ≡ points.old.items ++ enable_points switch id.now) }
 {
     let opens = Source::Switch {
         switch,

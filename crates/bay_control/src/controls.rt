@@ -208,8 +208,7 @@ impl Controls {
         now: u64,
     ) -> Result<(), AddCause>
         ensures answer { result
-            ≡ (select_with_outcome association switch ask now (state_of table.now self.old)).answer
-                }
+            ≡ (select_with_outcome association switch ask now (state_of table.now self.old)).answer }
         ensures after { state_of table.now self.new
             ≡ (select_with_outcome association switch ask now (state_of table.now self.old)).after }
     {
@@ -300,11 +299,9 @@ impl Controls {
         now: u64,
     ) -> Result<(), AddCause>
         ensures answer { result
-            ≡ (operate_outcome association switch ask view now (state_of table.now self.old)).answer
-                }
+            ≡ (operate_outcome association switch ask view now (state_of table.now self.old)).answer }
         ensures after { state_of table.now self.new
-            ≡ (operate_outcome association switch ask view now (state_of table.now self.old)).after
-                }
+            ≡ (operate_outcome association switch ask view now (state_of table.now self.old)).after }
     {
         self.advance(table, now);
         let answer = self.check_operate(table, association, switch, &ask, view);

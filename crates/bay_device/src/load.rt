@@ -69,8 +69,7 @@ pub fn load(alloc: Global, bay: &str, logic: &str) -> Result<Device, LoadFault>
 /// 100); or `OutOfMemory` if an allocation fails.
 pub fn load_image(alloc: Global, bay: &str, image: &[u8]) -> Result<Device, LoadFault>
     ensures ok { IfOk result
-        (λ device. LoadsAs (LoadsImageFiles (bay_of bay.now) (decoded_image image.now)) (Ok device))
-            }
+        (λ device. LoadsAs (LoadsImageFiles (bay_of bay.now) (decoded_image image.now)) (Ok device)) }
     ensures refused { IfErr result
         (λ e. e ≢ OutOfMemory
         → LoadsAs (LoadsImageFiles (bay_of bay.now) (decoded_image image.now)) (Err e)) }

@@ -106,8 +106,7 @@ fn feed_once(
     ensures within { IfOk result (λ used. used ≤ length rest.now) }
     ensures moves { IfOk result (λ used. 0 < used) }
     ensures left { IfOk result
-        (λ used. connection.new.state ≡ connection_after connection.old.state (take used rest.now))
-            }
+        (λ used. connection.new.state ≡ connection_after connection.old.state (take used rest.now)) }
     ensures going { OnOk result (AcceptsOctets connection.new.state.stream.left) }
     ensures ok { IfOk result (λ used. (connections : List (Option ConnectionState))
         → AdvancesTo now association connection.old.state rest.now

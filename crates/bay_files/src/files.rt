@@ -66,11 +66,9 @@ pub struct ProtectedFile {
 pub trait FileSystem {
     ghost reads: { Self → List ℕ → Result (List ℕ) ReadFault → Type 0 } = { λ _ _ _. Unit {0} };
 
-    ghost guards: { Self → List ℕ → Result (List ℕ × Bool) ReadFault → Type 0 } =
-        { λ _ _ _. Unit {0} };
+    ghost guards: { Self → List ℕ → Result (List ℕ × Bool) ReadFault → Type 0 } = { λ _ _ _. Unit {0} };
 
-    ghost writes: { Self → List ℕ → ℕ → List ℕ → Result Bool FileFault → Self → Type 0 } =
-        { λ _ _ _ _ _ _. Unit {0} };
+    ghost writes: { Self → List ℕ → ℕ → List ℕ → Result Bool FileFault → Self → Type 0 } = { λ _ _ _ _ _ _. Unit {0} };
 
     ghost same: { Self → List ℕ → List ℕ → Bool → Type 0 } = { λ _ _ _ _. Unit {0} };
 

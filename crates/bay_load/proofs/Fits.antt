@@ -62,8 +62,7 @@ found-holds : (test : Point → Bool) (points : List Point) (p : Point) → find
     → test p ≡ true
 found-holds test [] p e = absurd cc
 found-holds test (q ∷ points) p e =
-    elim (test q) as (λ b. test q ≡ b → cond b (Some q) (find test points) ≡ Some p → test p ≡ true)
-        [
+    elim (test q) as (λ b. test q ≡ b → cond b (Some q) (find test points) ≡ Some p → test p ≡ true) [
       | true ↦ (λ t g. (let same : q ≡ p = same_Some q p g in subst (λ x. test x ≡ true) same t))
       | false ↦ (λ t g. found-holds test points p g)
     ] refl e

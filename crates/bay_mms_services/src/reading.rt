@@ -165,8 +165,7 @@ impl Invocation<'_> {
         ensures ok { OnOk result
             (read_state_view self.now.bay.now controls.new decisions.new.items response.new.octets
             ≡ spec.read_one self.now.client (bay_of self.now) (object_name_view name.now)
-            (read_state_view self.now.bay.now controls.old decisions.old.items response.old.octets))
-                }
+            (read_state_view self.now.bay.now controls.old decisions.old.items response.old.octets)) }
         ensures long { IfErr result
             (λ fault. fault ≡ TooLong
             → response.old.size < length (spec.read_one self.now.client (bay_of self.now)
@@ -193,8 +192,7 @@ impl Invocation<'_> {
         ensures ok { OnOk result
             (read_state_view self.now.bay.now controls.new decisions.new.items response.new.octets
             ≡ spec.read_all self.now.client (bay_of self.now) (map object_name_view names.now)
-            (read_state_view self.now.bay.now controls.old decisions.old.items response.old.octets))
-                }
+            (read_state_view self.now.bay.now controls.old decisions.old.items response.old.octets)) }
         ensures long { IfErr result
             (λ fault. fault ≡ TooLong
             → response.old.size < length (spec.read_all self.now.client (bay_of self.now)

@@ -133,8 +133,7 @@ impl<'a> Inputs for ReadPoints<'a> {
 
     ghost types = { λ points. map type_of_source points.reads.now };
 
-    ghost values =
-        { λ points. map (source_value points.tree.now points.switches.now points.inputs.now
+    ghost values = { λ points. map (source_value points.tree.now points.switches.now points.inputs.now
         points.meters.now) points.reads.now };
 
     #[inline(always)]

@@ -63,8 +63,7 @@ impl Model for LineOctets {
 
     ghost Value = { LineRoom };
 
-    ghost view =
-        { λ line. record { octets = take line.count line.room.items; room = vec_len line.room } };
+    ghost view = { λ line. record { octets = take line.count line.room.items; room = vec_len line.room } };
 
     ghost invariant = { λ line. line.count ≤ vec_len line.room };
 }

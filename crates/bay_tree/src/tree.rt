@@ -209,8 +209,7 @@ impl Tree {
         requires { IsHandle self.now handle }
         ensures next { result ≡ next_beside self.now handle }
         ensures rows { IfSome (parent_of (name_at self.now handle))
-            (λ parent. indices_after self.now parent handle ≡ indices_since self.now parent result)
-                }
+            (λ parent. indices_after self.now parent handle ≡ indices_since self.now parent result) }
         ensures after { IfSome result (λ row. (handle < row) × IsHandle self.now row) }
     {
         let index = self.links[handle.index].beside?;

@@ -206,8 +206,7 @@ received-once now given script h c a octets readings offers has =
     let first : List ChosenEvent = open_events script.accepted h.device in
     let t : FirstThen now reported first (Begins now given script h) h.device events =
     in-order now given script h readings offers in
-    elim (then-has now reported a first (Begins now given script h) h.device events t c octets has)
-        [
+    elim (then-has now reported a first (Begins now given script h) h.device events t c octets has) [
       | inl own ↦ absurd (All-contains IsFree first (c, Recv a octets) (free given script h) own)
       | inr later ↦
           then-received now reported a first (Begins now given script h) h.device events t

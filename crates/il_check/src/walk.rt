@@ -324,8 +324,7 @@ impl Walk {
     // Returns the context of the next item, which is in no parenthesis.
     fn context(&self) -> InstructionContext
         ensures { result ≡ record
-            { is_reached = self.now.reach.is_reached; passed = self.now.passed; room = most_nested }
-                }
+            { is_reached = self.now.reach.is_reached; passed = self.now.passed; room = most_nested } }
     {
         InstructionContext {
             is_reached: self.reach.is_reached,

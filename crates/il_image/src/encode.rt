@@ -52,8 +52,7 @@ fn push_points(octets: &mut Vec<u8>, points: &[ImagePoint]) -> Result<(), AllocE
 
 // Appends a variable: its type and its initial value.
 fn push_variable(octets: &mut Vec<u8>, value: Value) -> Result<(), AllocError>
-    ensures { OnOk result (octets.new.items ≡ octets.old.items ++ variable_octets Version.Two value)
-        }
+    ensures { OnOk result (octets.new.items ≡ octets.old.items ++ variable_octets Version.Two value) }
 {
     push_octet(octets, type_octet(value.type_of()))?;
     push_signed(octets, Size::Eight, value.number())

@@ -43,8 +43,7 @@ impl Model for Machine {
 
     ghost view = { λ m. machine_data m.verified m.slots.items m.timers.items };
 
-    ghost invariant =
-        { λ m. IsContentOf m.verified m.slots.items m.timers.items m.indices.reads.items
+    ghost invariant = { λ m. IsContentOf m.verified m.slots.items m.timers.items m.indices.reads.items
         m.indices.writes.items m.outputs.items };
 }
 
@@ -244,8 +243,7 @@ impl Machine {
     /// Runs one scan as `scan_points` does, with lists of inputs and outputs.
     pub fn scan(&mut self, inputs: &[Value], now: u64) -> Scan<'_>
         requires { AreInputs self.old.image.points inputs.now }
-        ensures*
-            after { sem 𝓛 (LendsOutputs self.entry inputs.now now result.steps result.outputs.now) }
+        ensures* after { sem 𝓛 (LendsOutputs self.entry inputs.now now result.steps result.outputs.now) }
     {
         let steps = run_once(
             self.verified.image(),

@@ -79,8 +79,7 @@ impl<'a> Model for Outputs<'a> {
 
     ghost view = { λ o. map (output_value o.points.now o.slots.now) o.writes.now };
 
-    ghost invariant =
-        { λ o. AreWords o.points.now o.slots.now × AllBelow (length o.points.now) o.writes.now };
+    ghost invariant = { λ o. AreWords o.points.now o.slots.now × AllBelow (length o.points.now) o.writes.now };
 }
 
 impl<'a> Outputs<'a> {

@@ -297,8 +297,7 @@ impl<'a> Draft<'a> {
     #[tactic(auto, unfolding(crate::specs::Steps::step))]
     fn take_program_start(&mut self, name: &'a str, line: usize) -> Result<(), TextFault>
         ensures ok { OnOk result
-            (step line (draft_data self.old) (program_start name.now) ≡ Some (draft_data self.new))
-                }
+            (step line (draft_data self.old) (program_start name.now) ≡ Some (draft_data self.new)) }
         ensures count { OnOk result (self.new.instructions ≡ self.old.instructions) }
         ensures bad { IfErr result (λ e. e ≡ BadLine line) }
         ensures none { IfErr result
