@@ -71,7 +71,7 @@ fn parameters_from_bits(bits: Bits<'_>) -> Option<u8>
 fn parameters_from_value(value: &Value<'_>) -> Option<u8>
     ensures { result ≡ parameters.reads (part_of value.now) }
 {
-    let bits = bit_string_view(value.content_with_tag(Tag::context(1))?).ok()?;
+    let bits = bits_of(value.content_with_tag(Tag::context(1))?).ok()?;
     parameters_from_bits(bits)
 }
 
@@ -80,7 +80,7 @@ fn parameters_from_value(value: &Value<'_>) -> Option<u8>
 fn services_from_value<'a>(value: &Value<'a>) -> Option<Bits<'a>>
     ensures { option_map bit_string_view result ≡ services.reads (part_of value.now) }
 {
-    bit_string_view(value.content_with_tag(Tag::context(2))?).ok()
+    bits_of(value.content_with_tag(Tag::context(2))?).ok()
 }
 
 // Reads the three parts of an InitRequestDetail, and returns the parameters.

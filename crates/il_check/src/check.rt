@@ -88,7 +88,7 @@ fn check_program(
         buffer: String::new(alloc),
         found,
     };
-    let items = judge.items(&names, program.items.as_slice(), arrivals)?;
+    let items = judge.check_items(&names, program.items.as_slice(), arrivals)?;
     match judge.found {
         Some(fault) => Err(fault),
         None => Ok(Typed::of_parts(Parts {

@@ -16,14 +16,14 @@ use Rattle.bay_device.proofs.LoadLemmas.{bound-to}
 use Rattle.bay_device.proofs.ScanLemmas.{interlocked}
 use Rattle.bay_device.proofs.initial.bind_bay.Goals as goal
 
-pub bound_rows-requires-clause-switches_there : goal.bind_rows-requires-clause-switches_there
-bound_rows-requires-clause-switches_there c =
+pub bind_rows-requires-clause-switches_there : goal.bind_rows-requires-clause-switches_there
+bind_rows-requires-clause-switches_there c =
     rw (c.take_items-rows.ensures.value, c.deref_mut.ensures.value)
     (has-switches c.args.bay.value c.in_ok-nodes.nodes.switches.items c.requires.sound
     (rw c.deref.ensures at c.in_ok-nodes.ensures.switches_named))
 
-pub bound_rows-requires-clause-meters_there : goal.bind_rows-requires-clause-meters_there
-bound_rows-requires-clause-meters_there c =
+pub bind_rows-requires-clause-meters_there : goal.bind_rows-requires-clause-meters_there
+bind_rows-requires-clause-meters_there c =
     rw (c.take_items-rows.ensures.value, c.deref_mut.ensures.value)
     (have-meters c.args.bay.value c.in_ok-nodes.nodes.meters.items c.requires.sound
     (rw c.deref.ensures at c.in_ok-nodes.ensures.meters_named))
@@ -48,8 +48,8 @@ control_rows_of_tree-requires c =
     (subst (λ n. HaveSelected bay.rows n) (sym count)
     (have-selected bay nodes c.requires.sound named))
 
-pub stored_releases-requires : goal.store_releases-requires
-stored_releases-requires c =
+pub store_releases-requires : goal.store_releases-requires
+store_releases-requires c =
     let bay : Bay = c.args.bay.value in
     let named = rw c.deref.ensures at c.in_ok-nodes.ensures.switches_named in
     let sized = rw c.deref.ensures at c.in_ok-nodes.ensures.switches_sized in

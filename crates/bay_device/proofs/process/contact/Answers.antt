@@ -9,8 +9,8 @@ use Rattle.bay_device.proofs.ApartLemmas.{shows-contact}
 use Rattle.bay_device.proofs.ProcessLemmas.{named-there}
 use Rattle.bay_device.proofs.process.contact.Goals as goal
 
-pub take_position-requires : goal.apply_position-requires
-take_position-requires c =
+pub apply_position-requires : goal.apply_position-requires
+apply_position-requires c =
     let d = c.args.bay.now in
     let bound = get_or c.as_slice.result.now c.args.switch c.index-as_slice-switch.result in
     (d.placed c.args.switch bound

@@ -9,8 +9,8 @@ use Rattle.bay_mms_services.proofs.PlaceLemmas.{names-kept, rows-kept}
 use Rattle.bay_device.proofs.ApartLemmas.{shows-doubt}
 use Rattle.bay_device.proofs.process.doubt.Goals as goal
 
-pub take_bad_measure-requires : goal.apply_bad_measure-requires
-take_bad_measure-requires c =
+pub apply_bad_measure-requires : goal.apply_bad_measure-requires
+apply_bad_measure-requires c =
     rw c.field.ensures (field-leaf_typed (layout_of c.args.bay.now.tree) c.args.rows c.args.field
     c.requires.leaf_typed)
 

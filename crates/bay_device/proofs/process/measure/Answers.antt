@@ -10,8 +10,8 @@ use Rattle.bay_mms_services.proofs.PlaceLemmas.{names-kept, rows-kept}
 use Rattle.bay_device.proofs.ApartLemmas.{shows-measure}
 use Rattle.bay_device.proofs.process.measure.Goals as goal
 
-pub take_measure-requires : goal.apply_measure-requires
-take_measure-requires c =
+pub apply_measure-requires : goal.apply_measure-requires
+apply_measure-requires c =
     rw c.field.ensures (field-leaf_typed (layout_of c.args.bay.now.tree) c.args.rows c.args.field
     c.requires.leaf_typed)
 

@@ -8,9 +8,9 @@ use Rattle.bay_mms.specs.Views.{datum_of, data_in}
 use Rattle.bay_mms.proofs.RequestLemmas.{gives-stop, some-value, gives-option, spelled-ok, too_deep, structure-ok, structure-err, simple-is, view-structure}
 use Rattle.bay_mms.proofs.data_parser.+received.Goals as goal
 
-pub read_data-returns-in_err-part-in-Ok-Some-clause-asked :
+pub read_data-returns-in_err-part-in-Ok-Some-clause-requested :
     goal.read_data-returns-in_err-part-in-Ok-Some-clause-requested
-read_data-returns-in_err-part-in-Ok-Some-clause-asked t c =
+read_data-returns-in_err-part-in-Ok-Some-clause-requested t c =
     let p = err_from_is_err_and c.from_residual.result c.from_residual.ensures.1 in
     let step = rw c.in-Ok-Some.field-0-is at c.in-Ok-Some.ensures.exact in
     let f = (datum_at c.args.depth).reads in

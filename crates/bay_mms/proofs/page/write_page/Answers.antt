@@ -8,8 +8,8 @@ use Rattle.bay_mms.specs.Pages.{first_page}
 use Rattle.bay_mms.proofs.PageLemmas.{first-page-short, page-texts, within-ends}
 use Rattle.bay_mms.proofs.page.write_page.Goals as goal
 
-pub fitting-count-requires-clause-within : goal.count_fitting-count-requires-clause-within
-fitting-count-requires-clause-within c =
+pub count_fitting-count-requires-clause-within : goal.count_fitting-count-requires-clause-within
+count_fitting-count-requires-clause-within c =
     within-ends c.args.tree.now c.args.names.now c.in_ok-start.start c.requires.texts
     c.in_ok-start.ensures.within
 

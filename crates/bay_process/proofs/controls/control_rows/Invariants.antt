@@ -2,8 +2,8 @@ use Rattle.std.proofs.Common.{◌≡◌, length}
 use Rattle.bay_process.specs.Controls.{AreAllControlRows}
 use Rattle.bay_process.proofs.controls.control_rows.Given as goal
 
-abbrev pub invariant-loop-place : goal.invariant-loop-index
-invariant-loop-place l = record {
+abbrev pub invariant-loop-index : goal.invariant-loop-index
+invariant-loop-index l = record {
   sized : length l.controls.items ≡ l.index;
   named : AreAllControlRows l.tree l.controls.items;
 }

@@ -7,8 +7,8 @@ use Rattle.bay_process.proofs.ListLemmas.{each-snoc, length-snoc}
 use Rattle.bay_process.proofs.NodeLemmas.{bound-meter}
 use Rattle.bay_process.proofs.meters.bind_meters.Goals as goal
 
-pub meter_rows-requires : goal.find_meter_rows-requires
-meter_rows-requires c =
+pub find_meter_rows-requires : goal.find_meter_rows-requires
+find_meter_rows-requires c =
     let nodes = c.args.nodes.now in
     let n = c.index-nodes-i.result in
     let here : slice_get nodes c.loop-i.i ≡ Some n =

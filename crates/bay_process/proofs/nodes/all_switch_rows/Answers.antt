@@ -5,8 +5,8 @@ use Rattle.bay_process.proofs.ListLemmas.{length-snoc}
 use Rattle.bay_process.proofs.NodeLemmas.{rows-snoc}
 use Rattle.bay_process.proofs.nodes.all_switch_rows.Goals as goal
 
-pub switch_rows-requires : goal.find_switch_rows-requires
-switch_rows-requires c =
+pub find_switch_rows-requires : goal.find_switch_rows-requires
+find_switch_rows-requires c =
     c.requires c.loop-i.i c.index-nodes-i.result
     (slice_get_read c.args.nodes.now (length c.args.nodes.now) c.loop-i.i c.index-nodes-i.result
     refl c.loop-i-test.true c.index-nodes-i.is)

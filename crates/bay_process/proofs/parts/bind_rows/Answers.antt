@@ -1,7 +1,7 @@
 use Rattle.bay_process.proofs.parts.bind_rows.Goals as goal
 
-pub bound_switches-requires-clause-there : goal.bind_switch_rows-requires-clause-there
-bound_switches-requires-clause-there c =
+pub bind_switch_rows-requires-clause-there : goal.bind_switch_rows-requires-clause-there
+bind_switch_rows-requires-clause-there c =
     rw (c.in_ok-tree.ensures, c.as_slice.ensures.value) c.requires.switches_there
 
 pub bind_meters-requires-clause-there : goal.bind_meters-requires-clause-there

@@ -19,8 +19,8 @@ is_truth-requires c =
     (c.requires i b (slice_get_read bs (length bs) i b refl c.loop-index-test.true
     c.index-switches-index.is)).leaf_typed.ena_opn.value_type
 
-pub is_truth-requires-in-loop-place : goal.is_truth-requires-in-loop-index
-is_truth-requires-in-loop-place c =
+pub is_truth-requires-in-loop-index : goal.is_truth-requires-in-loop-index
+is_truth-requires-in-loop-index c =
     let bs = c.args.switches.now in
     let i = c.loop-index.index in
     let b = c.index-switches-index.result in

@@ -4,8 +4,8 @@ use Rattle.bay_process.specs.Scans.{rows_after_outputs}
 use Rattle.bay_process.specs.ReportedRows.{AreStored}
 use Rattle.bay_process.proofs.scan.write_outputs.Given as goal
 
-abbrev pub invariant-loop-place : goal.invariant-loop-index
-invariant-loop-place l = record {
+abbrev pub invariant-loop-index : goal.invariant-loop-index
+invariant-loop-index l = record {
   layout : layout_of l.tree ≡ layout_of l.initial.tree;
   written : rows_after_outputs (layout_of l.initial.tree) l.switches l.outputs l.now l.initial.tree
       ≡ rows_after_outputs (layout_of l.initial.tree) (drop l.index l.switches) l.outputs l.now

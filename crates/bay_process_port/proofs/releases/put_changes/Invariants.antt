@@ -3,8 +3,8 @@ use Rattle.bay_process_port.specs.Releases.{releases_text, releases_from}
 use Rattle.bay_process_port.specs.ProcessOutput.{PutsWhole}
 use Rattle.bay_process_port.proofs.releases.put_changes.Given as goal
 
-abbrev pub invariant-loop-place : goal.invariant-loop-index
-invariant-loop-place l = record {
+abbrev pub invariant-loop-index : goal.invariant-loop-index
+invariant-loop-index l = record {
   within : length l.queue ≤ 65536;
   goes : (new : List ℕ) (answer : Bool)
       → PutsWhole l.queue

@@ -5,8 +5,8 @@ use Rattle.bay_report.proofs.PieceLemmas.{cuts-fed, cuts-unfed}
 use Rattle.bay_base.proofs.ListLemmas.{take-rest}
 use Rattle.bay_report.proofs.text_lines.split_line.Goals as goal
 
-pub slice_bounds-without_return-end : goal.slice_bounds-strip_return-end
-slice_bounds-without_return-end c =
+pub slice_bounds-strip_return-end : goal.slice_bounds-strip_return-end
+slice_bounds-strip_return-end c =
     let first =
     first-feed c.args.text.now 0 _ _ _
     (sym c.memchr_iter.ensures.value ∙ c.in-Some.ensures.steps) in

@@ -4,8 +4,8 @@ use Rattle.bay_server_turn.specs.Turns.{offer_calls, offer_one, turn_state}
 use Rattle.bay_server_turn.specs.Served.{PerformsEach}
 use Rattle.bay_server_turn.proofs.offering.offer_each.Given as goal
 
-abbrev pub invariant-loop-place : goal.invariant-loop-slot
-invariant-loop-place g l = record {
+abbrev pub invariant-loop-slot : goal.invariant-loop-slot
+invariant-loop-slot g l = record {
   within : l.slot ≤ 8;
   each : PerformsEach (CountedCall g.L.Link.does g.L.Link.failures) (offer_one l.now)
       (offer_calls l.now)

@@ -15,7 +15,7 @@ of_parts-requires c =
     } in
     let read : IsRead c.args.points.now (plain_program c.args.program.now) c.in_ok-declared.declared
     c.in_ok-labels.labels names (map item_view c.in_ok-items.items.items)
-    c.items.new.self.found =
+    c.check_items.new.self.found =
     is_read c.args.points.now c.args.program.now c.as_slice.result.now c.as_slice-2.result.now
     c.as_slice-3.result.now c.in_ok-declared.declared c.in_ok-labels.labels _ _
     c.as_slice.ensures.value c.as_slice-2.ensures.value c.as_slice-3.ensures.value
@@ -40,7 +40,7 @@ returns-in-Some-clause-check_program c =
     } in
     let read : IsRead c.args.points.now (plain_program c.args.program.now) c.in_ok-declared.declared
     c.in_ok-labels.labels names (map item_view c.in_ok-items.items.items)
-    c.items.new.self.found =
+    c.check_items.new.self.found =
     is_read c.args.points.now c.args.program.now c.as_slice.result.now c.as_slice-2.result.now
     c.as_slice-3.result.now c.in_ok-declared.declared c.in_ok-labels.labels _ _
     c.as_slice.ensures.value c.as_slice-2.ensures.value c.as_slice-3.ensures.value
@@ -58,7 +58,7 @@ returns-in-None-clause-check_program c =
     } in
     let read : IsRead c.args.points.now (plain_program c.args.program.now) c.in_ok-declared.declared
     c.in_ok-labels.labels names (map item_view c.in_ok-items.items.items)
-    c.items.new.self.found =
+    c.check_items.new.self.found =
     is_read c.args.points.now c.args.program.now c.as_slice.result.now c.as_slice-2.result.now
     c.as_slice-3.result.now c.in_ok-declared.declared c.in_ok-labels.labels _ _
     c.as_slice.ensures.value c.as_slice-2.ensures.value c.as_slice-3.ensures.value

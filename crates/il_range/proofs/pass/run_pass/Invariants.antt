@@ -5,8 +5,8 @@ use Rattle.il_range.specs.Ranges.{AreIn, AreTimersIn, Setting}
 use Rattle.il_range.proofs.PassLemmas.{Follows}
 use Rattle.il_range.proofs.pass.run_pass.Given as goal
 
-abbrev pub invariant-loop-place : goal.invariant-loop-offset
-invariant-loop-place l = record {
+abbrev pub invariant-loop-offset : goal.invariant-loop-offset
+invariant-loop-offset l = record {
   size : length l.pending.items ≡ length l.code + 1;
   follows : (w : Setting) (given after : List Value) → AreIn w given l.fn.first.slots.items
       → (e : RunEnds l.code given after) → AreTimersIn w e.now e.timers l.fn.first.timers.items

@@ -2,22 +2,22 @@ use Rattle.std.proofs.Common.{sym, ◌∙◌, arith}
 use Rattle.il_scan.proofs.FetchLemmas.{fetched, no-opcode, place-within, whole-operand}
 use Rattle.il_scan.proofs.fetch.fetch.Goals as goal
 
-pub bounds-code-place : goal.bounds-code-offset
-bounds-code-place c =
+pub bounds-code-offset : goal.bounds-code-offset
+bounds-code-offset c =
     place-within c.args.code.now c.args.offset (λ k. (c.type_inv.code k).fits) c.requires
 
-pub overflow_add-place : goal.overflow_add-offset
-overflow_add-place c = let h =
+pub overflow_add-offset : goal.overflow_add-offset
+overflow_add-offset c = let h =
     place-within c.args.code.now c.args.offset (λ k. (c.type_inv.code k).fits) c.requires in
     omega arith
 
-pub operand-requires-clause-whole : goal.read_operand-requires-clause-whole
-operand-requires-clause-whole c =
+pub read_operand-requires-clause-whole : goal.read_operand-requires-clause-whole
+read_operand-requires-clause-whole c =
     whole-operand c.args.code.now c.args.offset (λ k. (c.type_inv.code k).fits) c.requires
     c.in-Some.opcode (sym c.of.ensures ∙ c.in-Some.is)
 
-pub operand-requires-clause-within : goal.read_operand-requires-clause-within
-operand-requires-clause-within c = let h =
+pub read_operand-requires-clause-within : goal.read_operand-requires-clause-within
+read_operand-requires-clause-within c = let h =
     place-within c.args.code.now c.args.offset (λ k. (c.type_inv.code k).fits) c.requires in
     omega arith
 

@@ -39,21 +39,21 @@ run_points-steps-requires-clause-hold c =
     (c.as_slice-reads.ensures.value ∙ c.requires.kept.read) in
     all-held _ inputs _ refl (omega (arith, same, many, indices))
 
-pub give_outputs-requires-clause-words : goal.copy_outputs-requires-clause-words
-give_outputs-requires-clause-words c =
+pub copy_outputs-requires-clause-words : goal.copy_outputs-requires-clause-words
+copy_outputs-requires-clause-words c =
     points-words c.args.image.now c.points.result.now c.points.ensures.value
     c.run_points-steps.new.slots c.run_points-steps.new.timers c.run_points-steps.ensures.held
 
-pub give_outputs-requires-clause-within : goal.copy_outputs-requires-clause-within
-give_outputs-requires-clause-within c =
+pub copy_outputs-requires-clause-within : goal.copy_outputs-requires-clause-within
+copy_outputs-requires-clause-within c =
     let image = c.args.image.now in
     let below = writes-below (length image.points) 0 image.points (omega arith) in
     rw c.points.ensures.value
     (subst (AllBelow (length image.points))
     (sym (c.as_slice.ensures.value ∙ c.requires.kept.written)) below)
 
-pub give_outputs-requires-clause-room : goal.copy_outputs-requires-clause-room
-give_outputs-requires-clause-room c =
+pub copy_outputs-requires-clause-room : goal.copy_outputs-requires-clause-room
+copy_outputs-requires-clause-room c =
     c.requires.kept.room ∙ so-many-writes 0 c.args.image.now.points
     ∙ sym (ap (λ (ns : List ℕ). length ns)
     (c.as_slice.ensures.value ∙ c.requires.kept.written))

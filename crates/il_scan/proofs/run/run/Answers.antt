@@ -14,8 +14,8 @@ loop-next-init c =
     (starts c.args.image.now c.args.now c.args.slots.now c.args.timers.now octets c.requires.safe
     c.requires.held)
 
-pub turn-to-requires : goal.execute-to-requires
-turn-to-requires c =
+pub execute-to-requires : goal.execute-to-requires
+execute-to-requires c =
     let i = c.loop-next.invariant in
     record { there = (c.args.image.now, i.state, sym c.code-code.ensures.value, i.stands) }
 

@@ -8,8 +8,8 @@ use Rattle.il_scan.proofs.PlaceLemmas.{below-at}
 use Rattle.il_scan.proofs.slots.read_inputs.Goals.{then-span-count, else-span-count}
 use Rattle.il_scan.proofs.slots.read_inputs.Goals as goal
 
-pub take_input-requires : goal.write_input-requires
-take_input-requires g c =
+pub write_input-requires : goal.write_input-requires
+write_input-requires g c =
     let within : c.loop-k.k < length c.args.reads.now = elim c.if-span-count.branch [
       | then-span-count w ↦ omega (arith, w.to-is, w.if-span-count.true)
       | else-span-count w ↦ omega (arith, w.to-is)

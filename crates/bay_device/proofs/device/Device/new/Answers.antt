@@ -5,13 +5,13 @@ use Rattle.bay_device.proofs.LoadedLemmas.{initial-idle}
 use Rattle.bay_device.proofs.TravelLemmas.{timed-bay}
 use Rattle.bay_device.proofs.device.Device.new.Goals as goal
 
-pub state_of-requires-clause-bay : goal.make_state-requires-clause-bay
-state_of-requires-clause-bay c =
+pub make_state-requires-clause-bay : goal.make_state-requires-clause-bay
+make_state-requires-clause-bay c =
     let read = c.into_parts-bay.ensures.sound.read in
     rw c.into_parts-bay.ensures.bay (timed-bay read.text _ read.sound read.file)
 
-pub state_of-requires-clause-verified : goal.make_state-requires-clause-verified
-state_of-requires-clause-verified c =
+pub make_state-requires-clause-verified : goal.make_state-requires-clause-verified
+make_state-requires-clause-verified c =
     rw (c.into_parts-bay.ensures.bay, c.into_parts-bay.ensures.program)
     c.into_parts-bay.ensures.sound.verified
 

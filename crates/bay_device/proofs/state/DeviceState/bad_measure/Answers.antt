@@ -10,8 +10,8 @@ use Rattle.bay_device.specs.declared.event.Sent.{Sent}
 use Rattle.bay_device.proofs.ProcessLemmas.{there-is}
 use Rattle.bay_device.proofs.state.DeviceState.bad_measure.Goals as goal
 
-pub take_doubt-requires : goal.invalidate_field-requires
-take_doubt-requires c =
+pub invalidate_field-requires : goal.invalidate_field-requires
+invalidate_field-requires c =
     let lent = ap length c.as_slice.ensures in
     let many = ap (λ (ms : List BoundMeter). length ms) c.advance-over.ensures.meters in
     omega (arith, lent, many, c.if-meter-as_slice.false)

@@ -7,8 +7,8 @@ use Rattle.bay_device.specs.declared.event.Sent.{Sent}
 use Rattle.bay_device.proofs.ProcessLemmas.{as-many, switch-there}
 use Rattle.bay_device.proofs.state.DeviceState.contact.Goals as goal
 
-pub take_contact-report_reached-requires : goal.apply_contact-report_reached-requires
-take_contact-report_reached-requires c =
+pub apply_contact-report_reached-requires : goal.apply_contact-report_reached-requires
+apply_contact-report_reached-requires c =
     let d = c.args.self.now in
     let many =
     as-many d.bay.switches c.advance-over.new.self.bay.switches

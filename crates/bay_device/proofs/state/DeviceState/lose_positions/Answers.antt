@@ -11,8 +11,8 @@ use Rattle.bay_device.proofs.LostLemmas.{next-behind}
 use Rattle.bay_device.proofs.ProcessLemmas.{as-many, switch-there}
 use Rattle.bay_device.proofs.state.DeviceState.lose_positions.Goals as goal
 
-pub take_contact-requires : goal.apply_contact-requires
-take_contact-requires c =
+pub apply_contact-requires : goal.apply_contact-requires
+apply_contact-requires c =
     let many =
     as-many c.args.self.now.bay.switches c.loop-switch.self.bay.switches
     c.loop-switch.invariant.switches in
