@@ -74,6 +74,6 @@ impl NameTexts {
         ensures { (names : List (List ℕ)) → self.now ≡ encoded_names names
             → result.now ≡ names_text (take count (drop start names)) }
     {
-        &self.octets[begin_of_name(&self.ends, start)..begin(&self.ends, start + count)]
+        &self.octets[begin_of_name(&self.ends, start)..begin_of_name(&self.ends, start + count)]
     }
 }

@@ -101,6 +101,6 @@ fn main(rt: HostRuntime) -> Result<()> {
     let mut text = String::new(rt.alloc());
     rt.reader().read_to_string(&mut text)?;
     let report = run(&rt, text.as_str())?;
-    print!(&rt; "{told}")?;
+    print!(&rt; "{report}")?;
     Ok(())
 }
