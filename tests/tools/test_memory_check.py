@@ -21,8 +21,8 @@ WRONG = (
      'fn read_fault(error: &io::Error) -> ReadFault {'
      ' if error.kind() == ErrorKind::PermissionDenied { return ReadFault::OutOfMemory; }'),
     ('a megabyte', 'bay_io/src/input.rt',
-     'kept = keep(&mut all, kept, &piece[..n]);',
-     'kept = if all.len() < 1_000_000 { keep(&mut all, kept, &piece[..n]) }'
+     'kept = append_octets(&mut all, kept, &piece[..n]);',
+     'kept = if all.len() < 1_000_000 { append_octets(&mut all, kept, &piece[..n]) }'
      ' else { Err(AllocError) };'),
     ('a word that is no text', 'bay_main/src/program.rt',
      'if error.kind() == ErrorKind::OutOfMemory {', 'if error.kind() != ErrorKind::OutOfMemory {'),

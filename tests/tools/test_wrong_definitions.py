@@ -103,7 +103,7 @@ class Kinds(unittest.TestCase):
 
     def test_data_and_types_are_left(self):
         self.assertEqual(changed('pub data f : Type 0 where\n  A : (a b : ℕ) → f', 'number'), [])
-        self.assertEqual(types_of(only('select_rows')),
+        self.assertEqual(types_of(only('shared_select_rows')),
                          ['Bool', 'ℕ', 'ℕ', 'State', 'List Row'])
 
 

@@ -22,7 +22,7 @@ PLACES = (
     Place("bay_config/src/read.rt",
           "if error.is_memory() { Err(BayFault::OutOfMemory) }", "the reader of TOML says so"),
     Place("bay_diagram_file/src/read.rt",
-          "if error.is_memory() { Err(of_file(FaultKind::OutOfMemory)) }",
+          "if error.is_memory() { Err(file_fault(FaultKind::OutOfMemory)) }",
           "the reader of TOML says so"),
     Place("bay_load/src/error.rt", "None => LoadError::OutOfMemory,",
           "want of memory is the fault without a number"),

@@ -29,7 +29,7 @@ NO_LAW = {
     'bay_io read_all': OWN_WORDS + 'what the reads gave, in order, up to an end',
     'bay_main CommandResult::of': OWN_WORDS + 'a status for each answer',
     'bay_stdio Output::new': OWN_WORDS + 'what each call leaves written, and what waits',
-    'cmd_replay run_replay': OWN_WORDS + 'what the reads gave, and what the writes took',
+    'cmd_replay replay_reader': OWN_WORDS + 'what the reads gave, and what the writes took',
     'bay_report write_report': OWN_WORDS + 'the texts of a load and of an answer, part by part',
     'bay_report report_unread': OWN_WORDS + 'the words of the line, and what is printed',
     'bay_server_turn serve_turn': 'it speaks of refusals alone; what a turn does has its laws '
