@@ -174,7 +174,7 @@ module _ (image : Image) (now : ℕ) (s : State) (h : IsAllowedAt image s) where
         let t : State =
         record { offset = to; cells = d.new_cells; slots = d.new_slots; timers = d.new_timers }
         in (
-          record { instr = i; next = next; here = here; next_offset = way },
+          record { instr = i; next = next; here = here; leads = way },
           (
             t,
             turn-is ∙ d.goes_on ∙ ap

@@ -31,8 +31,8 @@ of_parts-requires c =
       typed = typed-of c.args.points.now (plain_program c.args.program.now) _ was;
     }
 
-pub returns-in-Some-clause-check_program : goal.returns-in-Some-clause-check_program
-returns-in-Some-clause-check_program c =
+pub returns-in-Some-clause-checked : goal.returns-in-Some-clause-checked
+returns-in-Some-clause-checked c =
     let names : ProgramNames =
     record {
       meanings = c.in_ok-declared.declared.meanings;
@@ -49,8 +49,8 @@ returns-in-Some-clause-check_program c =
     inr (refused c.args.points.now (plain_program c.args.program.now) c.in_ok-declared.declared
     c.in_ok-labels.labels names _ _ read c.in-Some.fault c.in-Some.is)
 
-pub returns-in-None-clause-check_program : goal.returns-in-None-clause-check_program
-returns-in-None-clause-check_program c =
+pub returns-in-None-clause-checked : goal.returns-in-None-clause-checked
+returns-in-None-clause-checked c =
     let names : ProgramNames =
     record {
       meanings = c.in_ok-declared.declared.meanings;

@@ -13,8 +13,8 @@ use Rattle.il_check.proofs.NotedLemmas.{noted-after}
 use Rattle.il_check.proofs.WalkLemmas.{deep-found, looked-found, entries-more, entries-left}
 use Rattle.il_check.proofs.walk.Checker.+entries.Goals as goal
 
-pub block-returns-clause-found : goal.block-returns-clause-found
-block-returns-clause-found t c =
+pub check_parenthesis-returns-clause-found : goal.check_parenthesis-returns-clause-found
+check_parenthesis-returns-clause-found t c =
     looked-found _ _ c.args.context.room c.args.parenthesis.line _ _ c.if-context-eq0.false
     (noted-after _ _ _ _ _ _ _ c.note_opening-self.ensures c.in_ok-inner.ensures.found
     (c.note_closing-self.ensures
@@ -22,16 +22,17 @@ block-returns-clause-found t c =
     (closing_faults c.args.context.is_reached c.args.parenthesis.end c.args.parenthesis.operator
     c.args.parenthesis.negated k c.args.kind)) c.in_ok-inner.ensures.kind))
 
-pub block-returns-then-context-eq0-clause-found : goal.block-returns-then-context-eq0-clause-found
-block-returns-then-context-eq0-clause-found t c =
+pub check_parenthesis-returns-then-context-eq0-clause-found
+    : goal.check_parenthesis-returns-then-context-eq0-clause-found
+check_parenthesis-returns-then-context-eq0-clause-found t c =
     deep-found _ _ _ c.args.context.room c.args.parenthesis.line _ _ c.if-context-eq0.true
     c.note_opening-self.ensures c.note_if-self.ensures
 
-pub entries-loop-item-preserved : goal.entries-loop-item-preserved
-entries-loop-item-preserved t c =
+pub check_entries-loop-item-preserved : goal.check_entries-loop-item-preserved
+check_entries-loop-item-preserved t c =
     entries-more (names_of c.args.names.now) c.args.context.room c.args.context.is_reached
     c.args.context.passed c.args.items.now c.args.self.now.found
-    c.loop-item.item-index c.check_item-item.result c.loop-item.self.found
+    c.loop-item.item-index c.item-item.result c.loop-item.self.found
     c.check_entry.new.self.found
     c.loop-item.passed c.add.new.self (omega arith) c.item-item.is
     c.loop-item.invariant
@@ -43,24 +44,25 @@ entries-loop-item-preserved t c =
       found = c.in_ok-left.ensures.found;
     })
 
-pub entries-returns-clause-left : goal.entries-returns-clause-left
-entries-returns-clause-left t c =
+pub check_entries-returns-clause-left : goal.check_entries-returns-clause-left
+check_entries-returns-clause-left t c =
     entries-left (names_of c.args.names.now) c.args.context.room c.args.context.is_reached
     c.args.context.passed c.args.items.now c.args.self.now.found
     c.loop-item.item-index c.loop-item.self.found c.loop-item.passed (omega arith)
     c.loop-item.invariant
 
-pub entry-returns-in-Label-clause-kind : goal.entry-returns-in-Label-clause-kind
-entry-returns-in-Label-clause-kind t c = grind (arith, view-label)
+pub check_entry-returns-in-Label-clause-kind : goal.check_entry-returns-in-Label-clause-kind
+check_entry-returns-in-Label-clause-kind t c = grind (arith, view-label)
 
-pub entry-returns-in-Label-clause-left : goal.entry-returns-in-Label-clause-left
-entry-returns-in-Label-clause-left t c = grind (arith, view-label, append-nil)
+pub check_entry-returns-in-Label-clause-left : goal.check_entry-returns-in-Label-clause-left
+check_entry-returns-in-Label-clause-left t c = grind (arith, view-label, append-nil)
 
-pub entry-returns-in-Label-clause-found : goal.entry-returns-in-Label-clause-found
-entry-returns-in-Label-clause-found t c = grind (arith, view-label)
+pub check_entry-returns-in-Label-clause-found : goal.check_entry-returns-in-Label-clause-found
+check_entry-returns-in-Label-clause-found t c = grind (arith, view-label)
 
-pub entry-returns-in-Instruction-clause-kind : goal.entry-returns-in-Instruction-clause-kind
-entry-returns-in-Instruction-clause-kind t c =
+pub check_entry-returns-in-Instruction-clause-kind
+    : goal.check_entry-returns-in-Instruction-clause-kind
+check_entry-returns-in-Instruction-clause-kind t c =
     subst
     (λ (e : text.Entry). IfOk c.check_inner_action.result
     (λ l. l.kind ≡ type_after_entry (names_of c.args.names.now) e c.args.kind))
@@ -68,8 +70,9 @@ entry-returns-in-Instruction-clause-kind t c =
     ∙ view_instruction c.in-Instruction.line c.in-Instruction.instruction))
     c.check_inner_action.ensures.kind
 
-pub entry-returns-in-Instruction-clause-left : goal.entry-returns-in-Instruction-clause-left
-entry-returns-in-Instruction-clause-left t c =
+pub check_entry-returns-in-Instruction-clause-left
+    : goal.check_entry-returns-in-Instruction-clause-left
+check_entry-returns-in-Instruction-clause-left t c =
     subst
     (λ (e : text.Entry). IfOk c.check_inner_action.result
     (λ l. option_map entry_view l.entry
@@ -78,17 +81,18 @@ entry-returns-in-Instruction-clause-left t c =
     ∙ view_instruction c.in-Instruction.line c.in-Instruction.instruction))
     c.check_inner_action.ensures.left
 
-pub entry-returns-in-Instruction-clause-found : goal.entry-returns-in-Instruction-clause-found
-entry-returns-in-Instruction-clause-found t c = grind (arith, view_instruction)
+pub check_entry-returns-in-Instruction-clause-found
+    : goal.check_entry-returns-in-Instruction-clause-found
+check_entry-returns-in-Instruction-clause-found t c = grind (arith, view_instruction)
 
-pub entry-returns-in_ok-entry-in-Block-clause-kind
-    : goal.entry-returns-in_ok-entry-in-Block-clause-kind
-entry-returns-in_ok-entry-in-Block-clause-kind t c = grind (arith, view-block)
+pub check_entry-returns-in_ok-entry-in-Block-clause-kind
+    : goal.check_entry-returns-in_ok-entry-in-Block-clause-kind
+check_entry-returns-in_ok-entry-in-Block-clause-kind t c = grind (arith, view-block)
 
-pub entry-returns-in_ok-entry-in-Block-clause-left
-    : goal.entry-returns-in_ok-entry-in-Block-clause-left
-entry-returns-in_ok-entry-in-Block-clause-left t c = grind (arith, view-block)
+pub check_entry-returns-in_ok-entry-in-Block-clause-left
+    : goal.check_entry-returns-in_ok-entry-in-Block-clause-left
+check_entry-returns-in_ok-entry-in-Block-clause-left t c = grind (arith, view-block)
 
-pub entry-returns-in_ok-entry-in-Block-clause-found
-    : goal.entry-returns-in_ok-entry-in-Block-clause-found
-entry-returns-in_ok-entry-in-Block-clause-found t c = grind (arith, view-block)
+pub check_entry-returns-in_ok-entry-in-Block-clause-found
+    : goal.check_entry-returns-in_ok-entry-in-Block-clause-found
+check_entry-returns-in_ok-entry-in-Block-clause-found t c = grind (arith, view-block)

@@ -10,7 +10,7 @@ pub loop-item-preserved : goal.loop-item-preserved
 loop-item-preserved c =
     items-more (names_of c.args.names.now) c.args.items.now c.args.self.now.found
     (start_progress c.args.arrivals.items)
-    c.loop-item.item-index c.check_item-item.result c.loop-item.self.found
+    c.loop-item.item-index c.item-item.result c.loop-item.self.found
     c.check_item.new.self.found
     c.loop-item.walk c.clear_if_faulty.new.self (omega arith) c.item-item.is
     c.loop-item.invariant
