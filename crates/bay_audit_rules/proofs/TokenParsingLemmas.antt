@@ -76,7 +76,7 @@ drop-all [] = refl
 drop-all (t ∷ ts) = drop-all ts
 
 pub says-found : (ts : List RuleToken) (s : RuleStatement) → Spells ts s → statement_at ts ≡ Some s
-says-found ts s Spells.silence = refl
+says-found ts s Spells.blank = refl
 says-found ts s (Spells.look {named = named} {ts = us} {c = c} is) =
     let found : fact_at named us ≡ Some (c, length us) =
     rw append-nil at (fact-found named us c [] is Ends.at_end) in rw (found, drop-all us) refl
@@ -300,7 +300,7 @@ rule-read kind named ts s e =
     (when-read t.found.1 m.found m.was) m.is
 
 pub says-read : (ts : List RuleToken) (s : RuleStatement) → statement_at ts ≡ Some s → Spells ts s
-says-read [] s e = subst (Spells []) (same_Some _ s e) Spells.silence
+says-read [] s e = subst (Spells []) (same_Some _ s e) Spells.blank
 says-read (token.Look ∷ []) s e = absurd cc
 says-read (token.Look ∷ (token.Name named ∷ ts)) s e = looks-read named ts s e
 says-read (token.Look ∷ (other ∷ ts)) s e = absurd cc

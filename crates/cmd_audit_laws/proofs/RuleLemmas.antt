@@ -156,7 +156,7 @@ module _ (bay : Bay) where
   said-there : (line : ℕ) (ts : List RuleToken) (s : RuleStatement) → Spells ts s
       → TokensFit count ts
       → IfSome (rules_of line s) (AreThere count)
-  said-there line ts s Spells.silence h = tt
+  said-there line ts s Spells.blank h = tt
   said-there line ts s (Spells.look {c = c} fact) h = map-some (AreThere count) _ c (λ is. tt)
   said-there line ts s (Spells.rule {kind = kind} {named = named} ways {timed = timed} {c = c} a b)
       h =
