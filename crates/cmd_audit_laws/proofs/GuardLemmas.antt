@@ -233,7 +233,8 @@ module _ {F L H W : Type 0} (step : L → Call → L → Type 0) (acts : H → H
       let hold = subst (RulesHold loaded.load) read.2 rules in (
         read.0,
         read.1,
-        holds-obeys (form_of task.program) (data_of loaded) loaded.load loads.6 read.0 hold.0 file ts are given
+        holds-obeys (form_of task.program) (data_of loaded) loaded.load loads.6 read.0 hold.0 file
+            ts are given
             hold.1,
       )) before after old new answer serves.loaded serves.loads serves.continuation
 
@@ -246,6 +247,7 @@ module _ {F L H W : Type 0} (step : L → Call → L → Type 0) (acts : H → H
       let hold = subst (DiagramHolds loaded.load) read.2 diagram in (
         read.0,
         read.1,
-        diagram-obeys (form_of task.program) (data_of loaded) loaded.load loads.6 read.0 hold.0 file ts are
+        diagram-obeys (form_of task.program) (data_of loaded) loaded.load loads.6 read.0 hold.0 file
+            ts are
             given hold.1,
       )) before after old new answer serves.loaded serves.loads serves.continuation

@@ -354,7 +354,8 @@ module _ {L H W : Type 0} (step : L → Call → L → Type 0) (acts : H → Hos
 
   module _ {F : Type 0} (reads : FileReads F) (guards : ProtectedReads F) (files : F)
       (task : ServeTask (List ℕ)) (Is : FilesData → ServerData → List DoneTurn → Type 0)
-      (each : (loaded : LoadedFiles) → LoadsFiles reads guards files (form_of task.program) (name_of task.program) task
+      (each : (loaded : LoadedFiles)
+      → LoadsFiles reads guards files (form_of task.program) (name_of task.program) task
       (Ok loaded)
       → RulesHold loaded.load loaded.rules → DiagramHolds loaded.load loaded.diagram
       → (ts : List DoneTurn) → AreTurns (new_server (state_of loaded)) ts → AreGiven ts

@@ -77,7 +77,8 @@ module _ {F L H W : Type 0} (step : L → Call → L → Type 0) (acts : H → H
       (answer : Result ℕ WriteFault)
       (serves : ServesFiles step acts contents asks reads guards files task before after
       old new answer) (name : List ℕ) → file_in task ≡ Some name
-      → HoldsIfRead step acts contents asks (ObeyFile reads Obey files name (form_of task.program)) task
+      → HoldsIfRead step acts contents asks (ObeyFile reads Obey files name (form_of task.program))
+      task
       before
       after old new answer serves.loaded serves.continuation
 

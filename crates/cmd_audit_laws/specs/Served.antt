@@ -193,5 +193,6 @@ module _ {F L H W : Type 0} (step : L → Call → L → Type 0) (acts : H → H
       (answer : Result ℕ WriteFault)
       (serves : ServesFiles step acts contents asks reads guards files task before after
       old new answer)
-      → HoldsIfRead step acts contents asks (ObeyAuditsOf (form_of task.program)) task before after old new
+      → HoldsIfRead step acts contents asks (ObeyAuditsOf (form_of task.program)) task before after
+      old new
       answer serves.loaded serves.continuation

@@ -288,7 +288,8 @@ module _ {L H W : Type 0} (step : L → Call → L → Type 0) (acts : H → Hos
     pub bound : Result (BoundServer L) ServeStartFault
     pub host : H
     pub binds : BindsPorts acts task
-        (settings_of task.options.limit_ms (key_of (option_map (λ digits. digits.items) loaded.key)))
+        (settings_of task.options.limit_ms
+        (key_of (option_map (λ digits. digits.items) loaded.key)))
         (state_of loaded) before host bound
     pub continuation : MatchResult bound
         (λ ports. ServesBound task (served_of loaded held) ports loaded.trace.items host after
@@ -309,7 +310,8 @@ module _ {L H W : Type 0} (step : L → Call → L → Type 0) (acts : H → Hos
         (λ count. Goes count middle)
 
   -- the releases are judged by the diagram, if one was named, and then the ports are served
-  abbrev pub ServesDiagram : ServeTask (List ℕ) → LoadedFiles → ℕ → H → H → WriterState W → WriterState W
+  abbrev pub ServesDiagram : ServeTask (List ℕ) → LoadedFiles → ℕ → H → H → WriterState W
+      → WriterState W
       → Result ℕ WriteFault → Type 0
   ServesDiagram task loaded rules before after old new answer =
       ServesPermitted (WritesOnDiagram contents asks loaded.load loaded.diagram)

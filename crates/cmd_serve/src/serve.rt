@@ -219,12 +219,7 @@ fn read_and_load<'a, F: FileSystem>(
     let key = read_key(alloc, files, task.options.key)?;
     let rules = read_named(alloc, files, task.options.rules)?;
     let diagram = read_named(alloc, files, task.options.diagram)?;
-    let load = load_files(
-        alloc,
-        both.bay.as_slice(),
-        form,
-        both.program.as_slice(),
-    )?;
+    let load = load_files(alloc, both.bay.as_slice(), form, both.program.as_slice())?;
     Ok(LoadedFiles {
         form,
         both,
@@ -390,7 +385,8 @@ fn serve_bound<L: Link + Drop, H: Host<L>, W: Sink>(
     requires begun { IsBegun bound.server }
     requires named { HaveIds bound.server.device.switches }
     ensures { ServesBound (CountedCall L.does L.failures) H.does W.contents W.does
-        (serve_view task.entry) served bound trace.now host.old host.new writer.old writer.new result }
+        (serve_view task.entry) served bound trace.now host.old host.new writer.old writer.new
+        result }
 {
     let clocks = host.clocks();
     log_ports(writer, clocks.system, task.port, task.options.process);
@@ -404,14 +400,7 @@ fn serve_bound<L: Link + Drop, H: Host<L>, W: Sink>(
     } = bound;
     let clock = ServeClock::start(clocks);
     serve_turns(
-        server,
-        clock,
-        link,
-        process,
-        host,
-        trace,
-        task.turns,
-        writer,
+        server, clock, link, process, host, trace, task.turns, writer,
     )
 }
 
