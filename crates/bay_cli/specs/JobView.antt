@@ -29,6 +29,7 @@ options_view options = record {
   record_file = text_view options.record_file;
   record_most = options.record_most;
   idle_s = options.idle_s;
+  cycle_ms = options.cycle_ms;
   rules = text_view options.rules;
   diagram = text_view options.diagram;
 }

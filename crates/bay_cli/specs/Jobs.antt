@@ -48,19 +48,21 @@ check_app =
 
 -- `serve --bay F [--logic F] [--image F] --port N --turns N [--trace F] [--process P]
 -- [--tell WHAT] [--supervise MS] [--key F] [--record F] [--record-most OCTETS] [--idle S]
--- [--rules F] [--diagram F] [--log]`, with ports from 1 to 65535, turns below 2 ^ 32, from 100 to
--- 60000 milliseconds, up to 2 ^ 24 octets, and from 10 to 3600 seconds
+-- [--cycle MS] [--rules F] [--diagram F] [--log]`, with ports from 1 to 65535, turns below 2 ^ 32,
+-- a silence from 100 to 60000 milliseconds, up to 2 ^ 24 octets, from 10 to 3600 seconds, and a
+-- cycle from 1 to 100 milliseconds
 abbrev pub serve_app : App
 serve_app =
     let named = with_program (with_rule (new_app (codes "serve")) (needed_rule (codes "bay"))) in
     with_rule (with_rule (with_rule (with_rule (with_rule (with_rule (with_rule (with_rule
-    (with_rule (with_rule (with_rule (with_rule (with_rule named
+    (with_rule (with_rule (with_rule (with_rule (with_rule (with_rule named
     (number_rule (codes "port") 1 65535 true)) (number_rule (codes "turns") 0 4294967295 true))
     (text_rule (codes "trace"))) (number_rule (codes "process") 1 65535 false))
     (text_rule (codes "tell"))) (number_rule (codes "supervise") 100 60000 false))
     (text_rule (codes "key"))) (text_rule (codes "record")))
     (number_rule (codes "record-most") 1 16777216 false))
-    (number_rule (codes "idle") 10 3600 false)) (text_rule (codes "rules")))
+    (number_rule (codes "idle") 10 3600 false)) (number_rule (codes "cycle") 1 100 false))
+    (text_rule (codes "rules")))
     (text_rule (codes "diagram"))) log_rule
 
 -- `replay [--log]`
@@ -117,7 +119,7 @@ number_in id least greatest rows = option_and_then (number_of least greatest) (f
 
 -- The options of `serve` that may be left out: the trace, the port of the process, its longest
 -- silence in milliseconds, its key, the record and its most octets, the most seconds for which a
--- client may send nothing, the rules and the diagram.
+-- client may send nothing, the least milliseconds that a turn lasts, the rules and the diagram.
 abbrev pub options_in : List Row → ServeOptions Text
 options_in rows = record {
   trace = first_of (codes "trace") rows;
@@ -127,6 +129,7 @@ options_in rows = record {
   record_file = first_of (codes "record") rows;
   record_most = number_in (codes "record-most") 1 16777216 rows;
   idle_s = number_in (codes "idle") 10 3600 rows;
+  cycle_ms = number_in (codes "cycle") 1 100 rows;
   rules = first_of (codes "rules") rows;
   diagram = first_of (codes "diagram") rows;
 }

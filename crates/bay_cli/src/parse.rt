@@ -106,6 +106,7 @@ fn options_in<'a>(found: &ArgMatches<'a>) -> ServeOptions<&'a str>
         record_file: value_of(found, "record"),
         record_most: number_in(found, "record-most", 1, 16_777_216),
         idle_s: number_in(found, "idle", 10, 3_600),
+        cycle_ms: number_in(found, "cycle", 1, 100),
         rules: value_of(found, "rules"),
         diagram: value_of(found, "diagram"),
     }
@@ -294,7 +295,7 @@ fn task_for<'a>(job: &Job<&'a str>) -> Option<Task<&'a str>>
 fn usage_of(verb: Verb) -> &'static str {
     match verb {
         Verb::Serve => {
-            "bayctl serve --bay <F> <--logic <F>|--image <F>> --port <N> --turns <N> [--trace <F>] [--process <P>] [--tell <WHAT>] [--supervise <MS>] [--key <F>] [--record <F>] [--record-most <OCTETS>] [--idle <S>] [--rules <F>] [--diagram <F>] [--log]"
+            "bayctl serve --bay <F> <--logic <F>|--image <F>> --port <N> --turns <N> [--trace <F>] [--process <P>] [--tell <WHAT>] [--supervise <MS>] [--key <F>] [--record <F>] [--record-most <OCTETS>] [--idle <S>] [--cycle <MS>] [--rules <F>] [--diagram <F>] [--log]"
         }
         Verb::Audit => {
             "bayctl audit --bay <F> <--logic <F>|--image <F>> [--rules <F>] [--diagram <F>] [--effort <N>] [--log]"
@@ -409,9 +410,11 @@ pub fn task_of<'a>(alloc: Global, words: &'a [&'a str]) -> Result<Invocation<&'a
 
 /// Like `task_of`, but returns a record of all options.
 pub fn job_of<'a>(alloc: Global, words: &'a [&'a str]) -> Result<Job<&'a str>, WordsFault>
-    ensures ok { IfOk result (λ j. spec.job_in (map (λ w. w.now) words.entry.now) ≡ Some (job_view j)) }
+    ensures ok { IfOk result
+        (λ j. spec.job_in (map (λ w. w.now) words.entry.now) ≡ Some (job_view j)) }
     ensures refused { IfErr result
-        (λ e. (e ≡ WordsFault.OutOfMemory) ⊎ (spec.job_in (map (λ w. w.now) words.entry.now) ≡ None)) }
+        (λ e. (e ≡ WordsFault.OutOfMemory)
+        ⊎ (spec.job_in (map (λ w. w.now) words.entry.now) ≡ None)) }
 {
     let (job, _task) = read_words(alloc, words)?;
     Ok(job)

@@ -32,6 +32,8 @@ pub struct ServeOptions<T> {
     pub record_most: Option<u32>,
     /// The most seconds for which a client may send nothing, 10 to 3,600.
     pub idle_s: Option<u32>,
+    /// The least milliseconds that a turn lasts, 1 to 100.
+    pub cycle_ms: Option<u32>,
     /// The rules of an audit; for `serve`, those that must hold.
     pub rules: Option<T>,
     /// The single line diagram of an audit; for `serve`, that in which no release may be a hazard.

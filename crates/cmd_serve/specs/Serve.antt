@@ -274,7 +274,7 @@ module _ {L H W : Type 0} (step : L → Call → L → Type 0) (acts : H → Hos
       (record {
         link = bound.link;
         held = bound.server;
-        clock = initial_clock clocks;
+        clock = initial_clock clocks task.options.cycle_ms;
         count = no_lines;
         host = began;
         process = bound.process;

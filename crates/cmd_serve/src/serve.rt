@@ -398,7 +398,7 @@ fn serve_bound<L: Link + Drop, H: Host<L>, W: Sink>(
         link,
         process,
     } = bound;
-    let clock = ServeClock::start(clocks);
+    let clock = ServeClock::start(clocks, task.options.cycle_ms);
     serve_turns(
         server, clock, link, process, host, trace, task.turns, writer,
     )
