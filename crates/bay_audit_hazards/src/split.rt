@@ -83,7 +83,12 @@ fn counts(network: &Network, shown: &ShownHazard, number: usize) -> bool {
             .as_slice()
             .iter()
             .any(|branch| branch.number == number && branch.isolates),
-        HazardKind::Breaks | HazardKind::Makes | HazardKind::Leaves => true,
+        HazardKind::Breaks
+        | HazardKind::Makes
+        | HazardKind::Leaves
+        | HazardKind::Joins
+        | HazardKind::Uncouples
+        | HazardKind::Unearths => true,
     };
     number != shown.switch && is_gap
 }
@@ -106,9 +111,27 @@ fn walk_test(
     None
 }
 
-// Returns the first test of the switches that a hazard is shown by.
+// Returns the test of the input that lets the breaker of a hazard close between two live parts.
+fn synchro_test(case: &Case, network: &Network, shown: &ShownHazard) -> Option<Test> {
+    let branch = network
+        .branches
+        .as_slice()
+        .iter()
+        .find(|branch| branch.number == shown.switch)?;
+    match shown.kind {
+        HazardKind::Joins => input_test(case, branch.synchro),
+        _ => None,
+    }
+}
+
+// Returns the first test of the switches and the input that a hazard is shown by.
 fn shown_test(case: &Case, network: &Network, shown: &ShownHazard) -> Option<Test> {
-    let test = walk_test(case, network, shown, &shown.walk);
+    let test = synchro_test(case, network, shown).or_else(|| walk_test(
+        case,
+        network,
+        shown,
+        &shown.walk,
+    ));
     if test.is_some() {
         return test;
     }

@@ -160,7 +160,7 @@ worst-exact a p only = record {
   conducts = λ d. sure-exact (may_be_open a d) (may_be_neither a d) (is_open p d) (is_closed p d)
       (open-only a p only d) (closed-apart p d) (neither-only a p only d);
   may_move = λ d h. not-of-false (is_open p d || is_closed p d) (neither-only a p only d h);
-  may_be_live = λ i. says-false a p only i;
+  may_be_false = λ i. says-false a p only i;
 }
 
 best-exact : (a : Allowed) (p : Process) → IsOnly a p → IsWorse (reading_of p) (best_of a)
@@ -170,7 +170,7 @@ best-exact a p only = record {
   may_move = λ d. contrapose (may_be_open a d || may_be_closed a d) (is_open p d || is_closed p d)
       (or-both (may_be_open a d) (may_be_closed a d) (is_open p d) (is_closed p d)
       (open-only a p only d) (closed-only a p only d));
-  may_be_live =
+  may_be_false =
       λ i. contrapose (may_have_value a i true) (is_true_input p i) (says-true a p only i);
 }
 

@@ -175,7 +175,7 @@ module _ (net : Network) (r : Reading) (s : Branch) where
     abbrev pub is_source_by : (ℕ → ℕ → Bool) → (ℕ → ℕ → Bool) → Node → Bool
     is_source_by joins apart x =
         x.is_source && (joins s.one x.number
-        && (r.may_be_live x.dead || not (apart s.one x.number)))
+        && (r.may_be_false x.dead || not (apart s.one x.number)))
 
     pub source-found : (x : Node)
         → find (is_source_by (joined_in gapless) (joined_in inseparable)) net.nodes ≡ Some x
@@ -192,7 +192,7 @@ module _ (net : Network) (r : Reading) (s : Branch) where
         source.1 in
         record {
           source = find-any (is_source_by (joined_in gapless) (joined_in inseparable))
-              (λ (y : Node). y.number == x.number && (y.is_source && (r.may_be_live y.dead
+              (λ (y : Node). y.number == x.number && (y.is_source && (r.may_be_false y.dead
               || not (leads net r (without Inseparable s avoid.Nothing) s.one y.number))))
               net.nodes x h
               (λ h. and-true (x.number == x.number) _ (same-true x.number)

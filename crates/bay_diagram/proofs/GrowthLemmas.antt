@@ -1,5 +1,5 @@
 -- Where less is known nothing that was a hazard becomes harmless.
-use Rattle.std.proofs.Common.{◌≡◌, inl, inr, ℕ, Bool, true, false, not, ◌&&◌, ◌||◌, List, [], ◌∷◌, cond, refl}
+use Rattle.std.proofs.Common.{◌≡◌, inl, inr, ℕ, Bool, true, false, not, ◌&&◌, ◌||◌, List, [], ◌∷◌, cond, refl, is_some}
 use Rattle.std.specs.Prelude.{◌==◌, filter}
 use Rattle.std.specs.List.{list_any}
 use Rattle.bay_base.specs.declared.switch.Operation.{Operation}
@@ -7,14 +7,14 @@ use Rattle.bay_base.specs.declared.switch.Operation.TheVariants.{Open, Close}
 use Rattle.bay_base.specs.declared.switch.SwitchKind.{SwitchKind}
 use Rattle.bay_base.specs.declared.switch.SwitchKind.TheVariants.{Breaker, Disconnector, Earthing}
 use Rattle.bay_diagram.specs.declared.hazard.Target.{Target}
-use Rattle.bay_diagram.specs.declared.hazard.Target.TheVariants.{Live, Terminal, Load}
+use Rattle.bay_diagram.specs.declared.hazard.Target.TheVariants.{Live, Terminal, Load, Energised, Separable}
 use Rattle.bay_diagram.specs.declared.network.Branch.{Branch}
 use Rattle.bay_diagram.specs.declared.network.Network.{Network}
 use Rattle.bay_diagram.specs.declared.network.Node.{Node}
 use Rattle.bay_diagram.specs.declared.walk.Avoid.TheVariants as avoid
-use Rattle.bay_diagram.specs.declared.walk.Over.TheVariants.{Possible, Closed, Gapless, Inseparable}
+use Rattle.bay_diagram.specs.declared.walk.Over.TheVariants.{Possible, Closed, Gapless, Inseparable, Disconnectors}
 use Rattle.bay_diagram.specs.declared.walk.Route.{Route}
-use Rattle.bay_diagram.specs.Hazards.{bridges, bridges_from, breaks, breaks_from, reaches_both, earths, endangers, endangers_by, energises, feeds_from, has_beside, is_earth_at, is_exposed, is_hazard, is_live, is_target, leaves_current, leaves_any, lies_beside, makes_current, makes_any, makes_from, makes_near, reaches, reaches_earth, without, without_both}
+use Rattle.bay_diagram.specs.Hazards.{bridges, bridges_from, breaks, breaks_from, reaches_both, earths, endangers, endangers_by, energises, feeds_from, has_beside, is_earth_at, is_energised, is_exposed, is_hazard, is_live, is_target, joins_live, joins_parts, leaves_current, leaves_any, lies_beside, makes_current, makes_any, makes_from, makes_near, reaches, reaches_earth, uncouples, unearths, without, without_both}
 use Rattle.bay_diagram.specs.Joined.{IsOf, joined}
 use Rattle.bay_diagram.specs.Laws.{HazardsAreBounded, HazardsGrow}
 use Rattle.bay_diagram.specs.Network.{is_disconnector, is_earthing, is_own, is_source, is_terminal, is_terminal_kind, is_transformer}
@@ -108,6 +108,12 @@ module _ (net : Network) where
         le-or (not b.isolates) (not b.isolates) (r.may_conduct b.device) (w.may_conduct b.device)
         (same (not b.isolates)) (possible b)
 
+    pub disconnectors : (b : Branch)
+        → Le (may_cross r Disconnectors b) (may_cross w Disconnectors b)
+    disconnectors b =
+        le-under (is_disconnector b.kind) (r.may_conduct b.device) (w.may_conduct b.device)
+        (possible b)
+
     pub inseparable : (b : Branch) → Le (may_cross w Inseparable b) (may_cross r Inseparable b)
     inseparable b = same (not b.isolates)
 
@@ -126,11 +132,25 @@ module _ (net : Network) where
         (λ c. le-under (is_earth_at s x.number c) (w.conducts c.device) (r.conducts c.device)
         (record { gives = worse.conducts c.device })) net.branches))
 
+    energised-more : (s : Branch) (x : Node)
+        → Le (is_energised net r s x) (is_energised net w s x)
+    energised-more s x =
+        le-and (is_live net r s x) (is_live net w s x) (r.may_be_false x.dead)
+        (w.may_be_false x.dead) (live-more s x) (record { gives = worse.may_be_false x.dead })
+
     pub target-more : (s : Branch) (t : Target) (x : Node)
         → Le (is_target net r s t x) (is_target net w s t x)
     target-more s Live x = live-more s x
     target-more s Terminal x = same (is_terminal_kind x.kind)
     target-more s Load x = same (is_terminal_kind x.kind && not x.is_source)
+    target-more s Energised x = energised-more s x
+    target-more s Separable x =
+        let route = without Inseparable s avoid.Nothing in
+        le-and (is_energised net r s x) (is_energised net w s x)
+        (not (leads net r route s.one x.number)) (not (leads net w route s.one x.number))
+        (energised-more s x)
+        (le-not (leads net r route s.one x.number) (leads net w route s.one x.number)
+        (leads-more w r route inseparable s.one x.number))
 
     reaches-more : (s : Branch) (route : Route)
         → ((b : Branch) → Le (may_cross r route.over b) (may_cross w route.over b))
@@ -171,20 +191,20 @@ module _ (net : Network) where
     earths-more s =
         le-any (λ (x : Node). x.is_source
         && (leads net r (without Gapless s avoid.Nothing) s.one x.number
-        && (r.may_be_live x.dead || not
+        && (r.may_be_false x.dead || not
         (leads net r (without Inseparable s avoid.Nothing) s.one x.number))))
         (λ (x : Node). x.is_source
         && (leads net w (without Gapless s avoid.Nothing) s.one x.number
-        && (w.may_be_live x.dead || not
+        && (w.may_be_false x.dead || not
         (leads net w (without Inseparable s avoid.Nothing) s.one x.number))))
         (λ x. le-under x.is_source _ _
         (le-and (leads net r (without Gapless s avoid.Nothing) s.one x.number)
         (leads net w (without Gapless s avoid.Nothing) s.one x.number) _ _
         (leads-more r w (without Gapless s avoid.Nothing) gapless s.one x.number)
-        (le-or (r.may_be_live x.dead) (w.may_be_live x.dead)
+        (le-or (r.may_be_false x.dead) (w.may_be_false x.dead)
         (not (leads net r (without Inseparable s avoid.Nothing) s.one x.number))
         (not (leads net w (without Inseparable s avoid.Nothing) s.one x.number))
-        (record { gives = worse.may_be_live x.dead })
+        (record { gives = worse.may_be_false x.dead })
         (le-not (leads net r (without Inseparable s avoid.Nothing) s.one x.number)
         (leads net w (without Inseparable s avoid.Nothing) s.one x.number)
         (leads-more w r (without Inseparable s avoid.Nothing) inseparable s.one x.number)))))
@@ -343,16 +363,53 @@ module _ (net : Network) where
         (leaves_current net w s d)
         (exposed-more s d) (leaves-more s d)) net.branches
 
+    -- ---- Y, T, L
+
+    joins-live-more : (s : Branch) → Le (joins_live net r s) (joins_live net w s)
+    joins-live-more s =
+        let of_one = without Possible s (avoid.Node s.other) in
+        let of_other = without Possible s (avoid.Node s.one) in
+        le-and (reaches net r s of_one s.one Energised) (reaches net w s of_one s.one Energised)
+        (reaches net r s of_other s.other Energised) (reaches net w s of_other s.other Energised)
+        (reaches-more s of_one possible s.one Energised)
+        (reaches-more s of_other possible s.other Energised)
+
+    pub joins-parts-more : (s : Branch) → Le (joins_parts net r s) (joins_parts net w s)
+    joins-parts-more s =
+        le-under (net.checks.live_parts || is_some s.synchro) _ _
+        (le-and (r.may_be_false s.synchro) (w.may_be_false s.synchro) _ _
+        (record { gives = worse.may_be_false s.synchro })
+        (le-and (joins_live net r s) (joins_live net w s)
+        (not (has_beside net r s s)) (not (has_beside net w s s))
+        (joins-live-more s) (no-beside s s)))
+
+    pub uncouples-more : (s : Branch) → Le (uncouples net r s) (uncouples net w s)
+    uncouples-more s =
+        let route = without Disconnectors s avoid.Nothing in
+        le-under s.is_coupler (leads net r route s.one s.other) (leads net w route s.one s.other)
+        (leads-more r w route disconnectors s.one s.other)
+
+    pub unearths-more : (s : Branch) → Le (unearths net r s) (unearths net w s)
+    unearths-more s =
+        let route = without Possible s avoid.Nothing in
+        le-under net.checks.fed_earths (reaches net r s route s.one Separable)
+        (reaches net w s route s.one Separable)
+        (reaches-more s route possible s.one Separable)
+
     -- ---- an operation
 
     endangers-more : (s : Branch) (kind : SwitchKind) (operation : Operation)
         → Le (endangers_by net r s kind operation) (endangers_by net w s kind operation)
     endangers-more s Earthing Close = earths-more s
-    endangers-more s Earthing Open = same false
+    endangers-more s Earthing Open = unearths-more s
     endangers-more s Breaker Close =
-        le-or (bridges net r s) (bridges net w s) (makes_any net r s) (makes_any net w s)
-        (bridges-more s) (makes-any-more s)
-    endangers-more s Breaker Open = leaves-any-more s
+        le-or (bridges net r s) (bridges net w s) (makes_any net r s || joins_parts net r s)
+        (makes_any net w s || joins_parts net w s) (bridges-more s)
+        (le-or (makes_any net r s) (makes_any net w s) (joins_parts net r s) (joins_parts net w s)
+        (makes-any-more s) (joins-parts-more s))
+    endangers-more s Breaker Open =
+        le-or (leaves_any net r s) (leaves_any net w s) (uncouples net r s) (uncouples net w s)
+        (leaves-any-more s) (uncouples-more s)
     endangers-more s Disconnector Close =
         le-or (bridges net r s) (bridges net w s) (breaks net r s || makes_any net r s)
         (breaks net w s || makes_any net w s) (bridges-more s)

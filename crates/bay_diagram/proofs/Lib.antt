@@ -2,6 +2,7 @@ pub mod ExactLemmas
 pub mod FoundLemmas
 pub mod GrowthLemmas
 pub mod JoinedLemmas
+pub mod KindLemmas
 pub mod PathLemmas
 pub mod ReadingLemmas
 pub mod ShowLemmas

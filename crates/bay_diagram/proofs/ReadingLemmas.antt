@@ -146,7 +146,7 @@ worst-bounds a p is = record {
       (open-allowed a p is d) (neither-allowed a p is d);
   may_move = λ d. worst-moves (is_open p d) (is_closed p d) (may_be_neither a d)
       (neither-allowed a p is d);
-  may_be_live = λ i. said-false a p is i;
+  may_be_false = λ i. said-false a p is i;
 }
 
 pub best-bounds : (a : Allowed) (p : Process) → IsAllowed a p
@@ -156,7 +156,7 @@ best-bounds a p is = record {
   conducts = λ d. closed-allowed a p is d;
   may_move = λ d. best-moves (is_open p d) (is_closed p d) (may_be_open a d) (may_be_closed a d)
       (open-allowed a p is d) (closed-allowed a p is d);
-  may_be_live = λ i. best-alive (is_true_input p i) (may_have_value a i true) (said-true a p is i);
+  may_be_false = λ i. best-alive (is_true_input p i) (may_have_value a i true) (said-true a p is i);
 }
 
 pub readings-bound : ReadingsBound

@@ -5,10 +5,10 @@ use Rattle.std.proofs.lemmas.Bool.{and_parts}
 use Rattle.bay_base.specs.declared.switch.Operation.{Operation}
 use Rattle.bay_diagram.specs.declared.ends.End.{End}
 use Rattle.bay_diagram.specs.declared.hazard.Target.{Target}
-use Rattle.bay_diagram.specs.declared.hazard.Target.TheVariants.{Live, Terminal}
+use Rattle.bay_diagram.specs.declared.hazard.Target.TheVariants.{Live, Terminal, Energised}
 use Rattle.bay_diagram.specs.declared.network.Branch.{Branch}
 use Rattle.bay_diagram.specs.declared.network.Network.{Network}
-use Rattle.bay_diagram.specs.declared.shown.HazardKind.TheVariants.{Bridges, Breaks, Makes, Leaves}
+use Rattle.bay_diagram.specs.declared.shown.HazardKind.TheVariants.{Bridges, Breaks, Makes, Leaves, Joins}
 use Rattle.bay_diagram.specs.declared.shown.ShownHazard.{ShownHazard}
 use Rattle.bay_diagram.specs.declared.shown.ShownWalk.{ShownWalk}
 use Rattle.bay_diagram.specs.declared.shown.Step.{Step}
@@ -96,6 +96,20 @@ module _ (net : Network) (r : Reading) (s : Branch) where
     feed-shown d x y end from to goes =
         and-true (is_target_at net r s Live walk.start) _ (starts-at Live from.fits goes.starts)
         (goes.through (is_target_at net r s Terminal) to.fits)
+
+    pub join-shown : (end : ℕ)
+        → IsTargetOf net r s (without Possible s (avoid.Node s.other)) s.one Energised start
+        → IsTargetOf net r s (without Possible s (avoid.Node s.one)) s.other Energised end
+        → IsWalkThrough net r (without Possible s (avoid.Node s.other))
+        (without Possible s (avoid.Node s.one)) start s s.one s.other end walk
+        → IsShownBy net r s Joins (shown_by Joins s.number None walk)
+    join-shown end from to goes = record {
+      switch = refl;
+      kind = refl;
+      shows = and-true (is_target_at net r s Energised walk.start) _
+          (starts-at Energised from.fits goes.starts)
+          (goes.through (is_target_at net r s Energised) to.fits);
+    }
 
   -- ---- A, B
 

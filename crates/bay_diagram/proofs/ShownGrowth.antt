@@ -3,26 +3,26 @@ use Rattle.std.proofs.Common.{ℕ, Bool, true, false, not, ◌&&◌, ◌||◌, L
 use Rattle.std.specs.Prelude.{◌==◌}
 use Rattle.bay_base.specs.declared.switch.Operation.{Operation}
 use Rattle.bay_diagram.specs.declared.hazard.Target.{Target}
-use Rattle.bay_diagram.specs.declared.hazard.Target.TheVariants.{Live, Terminal, Load}
+use Rattle.bay_diagram.specs.declared.hazard.Target.TheVariants.{Live, Terminal, Load, Energised, Separable}
 use Rattle.bay_diagram.specs.declared.network.Branch.{Branch}
 use Rattle.bay_diagram.specs.declared.network.Network.{Network}
 use Rattle.bay_diagram.specs.declared.network.Node.{Node}
 use Rattle.bay_diagram.specs.declared.shown.HazardKind.{HazardKind}
-use Rattle.bay_diagram.specs.declared.shown.HazardKind.TheVariants.{Earths, Bridges, Breaks, Makes, Leaves}
+use Rattle.bay_diagram.specs.declared.shown.HazardKind.TheVariants.{Earths, Bridges, Breaks, Makes, Leaves, Joins, Uncouples, Unearths}
 use Rattle.bay_diagram.specs.declared.shown.ShownHazard.{ShownHazard}
 use Rattle.bay_diagram.specs.declared.shown.ShownWalk.{ShownWalk}
 use Rattle.bay_diagram.specs.declared.shown.Step.{Step}
 use Rattle.bay_diagram.specs.declared.walk.Avoid.{Avoid}
 use Rattle.bay_diagram.specs.declared.walk.Avoid.TheVariants as avoid
-use Rattle.bay_diagram.specs.declared.walk.Over.TheVariants.{Possible, Gapless, Inseparable}
+use Rattle.bay_diagram.specs.declared.walk.Over.TheVariants.{Possible, Gapless, Inseparable, Disconnectors}
 use Rattle.bay_diagram.specs.declared.walk.Route.{Route}
 use Rattle.bay_diagram.specs.Hazards.{is_exposed, is_target, without, without_both}
 use Rattle.bay_diagram.specs.Laws.{ShownBest, ShownGrows}
 use Rattle.bay_diagram.specs.Network.{is_earthing, is_own, is_source, is_terminal, is_transformer}
 use Rattle.bay_diagram.specs.Reading.{IsWorse, Reading}
-use Rattle.bay_diagram.specs.Shown.{can_be, ends_at_earth, ends_current, is_number, is_of_kind, is_shown, is_step, is_target_at, is_through, is_unearthable, is_walk, leads_between, may_be_earthed_by, shows_beside, shows_break, shows_bridge, shows_by, shows_chain, shows_earths, shows_energising, shows_feed, shows_leave, shows_make, shows_make_from, shows_near, shows_side, shows_with}
+use Rattle.bay_diagram.specs.Shown.{can_be, ends_at_earth, ends_current, is_number, is_of_kind, is_shown, is_step, is_target_at, is_through, is_unearthable, is_walk, leads_between, may_be_earthed_by, shows_beside, shows_break, shows_bridge, shows_by, shows_bypass, shows_chain, shows_earths, shows_energising, shows_feed, shows_join, shows_leave, shows_make, shows_make_from, shows_near, shows_side, shows_source, shows_with}
 use Rattle.bay_diagram.specs.Walks.{is_free, may_cross, leads, may_lead_over}
-use Rattle.bay_diagram.proofs.GrowthLemmas.{Le, bridges-more, breaks-more, earths-more, exposed-more, gapless, inseparable, le-and, le-any, le-not, le-or, le-under, leads-more, leaves-any-more, makes-any-more, possible, same, target-more}
+use Rattle.bay_diagram.proofs.GrowthLemmas.{Le, bridges-more, breaks-more, disconnectors, earths-more, exposed-more, gapless, inseparable, joins-parts-more, le-and, le-any, le-not, le-or, le-under, leads-more, leaves-any-more, makes-any-more, possible, same, target-more, uncouples-more, unearths-more}
 use Rattle.bay_diagram.proofs.ReadingLemmas.{best-bounds}
 
 le-if : (c a b d e : Bool) → Le a b → Le d e → Le (cond c a d) (cond c b e)
@@ -131,23 +131,23 @@ module _ (net : Network) (r w : Reading) (worse : IsWorse r w) where
   unearthable-more : (s : Branch) (n : ℕ)
       → Le (is_unearthable net r s n) (is_unearthable net w s n)
   unearthable-more s n =
-      le-any (λ (x : Node). x.number == n && (x.is_source && (r.may_be_live x.dead
+      le-any (λ (x : Node). x.number == n && (x.is_source && (r.may_be_false x.dead
       || not (leads net r (without Inseparable s avoid.Nothing) s.one x.number))))
-      (λ (x : Node). x.number == n && (x.is_source && (w.may_be_live x.dead
+      (λ (x : Node). x.number == n && (x.is_source && (w.may_be_false x.dead
       || not (leads net w (without Inseparable s avoid.Nothing) s.one x.number))))
-      (λ x. le-under (x.number == n) (x.is_source && (r.may_be_live x.dead
+      (λ x. le-under (x.number == n) (x.is_source && (r.may_be_false x.dead
       || not (leads net r (without Inseparable s avoid.Nothing) s.one x.number)))
-      (x.is_source && (w.may_be_live x.dead
+      (x.is_source && (w.may_be_false x.dead
       || not (leads net w (without Inseparable s avoid.Nothing) s.one x.number)))
       (le-under x.is_source
-      (r.may_be_live x.dead || not
+      (r.may_be_false x.dead || not
       (leads net r (without Inseparable s avoid.Nothing) s.one x.number))
-      (w.may_be_live x.dead || not
+      (w.may_be_false x.dead || not
       (leads net w (without Inseparable s avoid.Nothing) s.one x.number))
-      (le-or (r.may_be_live x.dead) (w.may_be_live x.dead)
+      (le-or (r.may_be_false x.dead) (w.may_be_false x.dead)
       (not (leads net r (without Inseparable s avoid.Nothing) s.one x.number))
       (not (leads net w (without Inseparable s avoid.Nothing) s.one x.number))
-      (record { gives = worse.may_be_live x.dead })
+      (record { gives = worse.may_be_false x.dead })
       (le-not (leads net r (without Inseparable s avoid.Nothing) s.one x.number)
       (leads net w (without Inseparable s avoid.Nothing) s.one x.number)
       (leads-more net w r (without Inseparable s avoid.Nothing) (inseparable net r w worse)
@@ -292,6 +292,37 @@ module _ (net : Network) (r w : Reading) (worse : IsWorse r w) where
       (shows_make_from net r s d v u y x walk) (shows_make_from net w s d v u y x walk)
       (shows-make-from-more s d v u x y walk) (shows-make-from-more s d v u y x walk)))
 
+  -- ---- Y, T, L
+
+  shows-join-more : (s : Branch) (shown : ShownHazard)
+      → Le (shows_join net r s shown) (shows_join net w s shown)
+  shows-join-more s shown =
+      let of_one = without Possible s (avoid.Node s.other) in
+      let of_other = without Possible s (avoid.Node s.one) in
+      target-pass s Energised shown.walk _ _
+      (pass-more of_one of_other (possible net r w worse) (possible net r w worse) s s.one s.other
+      (is_target_at net r s Energised) (is_target_at net w s Energised)
+      (target-at-more s Energised) shown.walk)
+
+  shows-bypass-more : (s : Branch) (shown : ShownHazard)
+      → Le (shows_bypass net r s shown) (shows_bypass net w s shown)
+  shows-bypass-more s shown =
+      let route = without Disconnectors s avoid.Nothing in
+      le-under (shown.walk.start == s.one) _ _
+      (walk-more net (may_lead_over net r route) (may_lead_over net w route)
+      (over-more route (disconnectors net r w worse)) (λ n. n == s.other) (λ n. n == s.other)
+      (λ n. same (n == s.other)) shown.walk.start shown.walk.steps)
+
+  shows-source-more : (s : Branch) (shown : ShownHazard)
+      → Le (shows_source net r s shown) (shows_source net w s shown)
+  shows-source-more s shown =
+      let route = without Possible s avoid.Nothing in
+      le-under (is_number s.number shown.earth) _ _
+      (target-pass s Separable shown.walk _ _
+      (walk-more net (may_lead_over net r route) (may_lead_over net w route)
+      (over-more route (possible net r w worse)) (λ n. n == s.one) (λ n. n == s.one)
+      (λ n. same (n == s.one)) shown.walk.start shown.walk.steps))
+
   -- ---- a hazard
 
   shows-with-more : (s : Branch) (other : Option ℕ) (f g : Branch → Bool)
@@ -323,6 +354,9 @@ module _ (net : Network) (r w : Reading) (worse : IsWorse r w) where
   shows-by-more s shown Leaves =
       shows-with-more s shown.other (λ d. shows_leave net r s d shown)
       (λ d. shows_leave net w s d shown) (λ d. shows-leave-more s d shown)
+  shows-by-more s shown Joins = shows-join-more s shown
+  shows-by-more s shown Uncouples = shows-bypass-more s shown
+  shows-by-more s shown Unearths = shows-source-more s shown
 
   of-kind-more : (s : Branch) (kind : HazardKind)
       → Le (is_of_kind net r s kind) (is_of_kind net w s kind)
@@ -331,6 +365,9 @@ module _ (net : Network) (r w : Reading) (worse : IsWorse r w) where
   of-kind-more s Breaks = breaks-more net r w worse s
   of-kind-more s Makes = makes-any-more net r w worse s
   of-kind-more s Leaves = leaves-any-more net r w worse s
+  of-kind-more s Joins = joins-parts-more net r w worse s
+  of-kind-more s Uncouples = uncouples-more net r w worse s
+  of-kind-more s Unearths = unearths-more net r w worse s
 
   shown-more : (k : ℕ) (operation : Operation) (shown : ShownHazard)
       → Le (is_shown net r k operation shown) (is_shown net w k operation shown)

@@ -9,8 +9,8 @@ use Rattle.bay_base.specs.declared.switch.SwitchKind.TheVariants.{Breaker, Disco
 use Rattle.bay_diagram.specs.declared.network.Branch.{Branch}
 use Rattle.bay_diagram.specs.declared.network.Network.{Network}
 use Rattle.bay_diagram.specs.declared.shown.HazardKind.{HazardKind}
-use Rattle.bay_diagram.specs.declared.shown.HazardKind.TheVariants.{Earths, Bridges, Breaks, Makes, Leaves}
-use Rattle.bay_diagram.specs.Hazards.{breaks, bridges, endangers, endangers_by}
+use Rattle.bay_diagram.specs.declared.shown.HazardKind.TheVariants.{Earths, Bridges, Breaks, Makes, Leaves, Joins, Uncouples, Unearths}
+use Rattle.bay_diagram.specs.Hazards.{breaks, bridges, endangers, endangers_by, leaves_any, makes_any}
 use Rattle.bay_diagram.specs.Laws.{ShownIsHazard}
 use Rattle.bay_diagram.specs.Network.{is_own}
 use Rattle.bay_diagram.specs.Reading.{Reading}
@@ -23,9 +23,14 @@ module _ (net : Network) (r : Reading) (s : Branch) where
       → can_be kind operation hazard ≡ true → is_of_kind net r s hazard ≡ true
       → endangers_by net r s kind operation ≡ true
   kind-endangers Earthing Close Earths can h = h
+  kind-endangers Earthing Open Unearths can h = h
   kind-endangers Breaker Close Bridges can h = or-left _ _ h
-  kind-endangers Breaker Close Makes can h = or-right (bridges net r s) _ h
-  kind-endangers Breaker Open Leaves can h = h
+  kind-endangers Breaker Close Makes can h =
+      or-right (bridges net r s) _ (or-left _ _ h)
+  kind-endangers Breaker Close Joins can h =
+      or-right (bridges net r s) _ (or-right (makes_any net r s) _ h)
+  kind-endangers Breaker Open Leaves can h = or-left _ _ h
+  kind-endangers Breaker Open Uncouples can h = or-right (leaves_any net r s) _ h
   kind-endangers Disconnector Close Bridges can h = or-left _ _ h
   kind-endangers Disconnector Close Breaks can h =
       or-right (bridges net r s) _ (or-left _ _ h)

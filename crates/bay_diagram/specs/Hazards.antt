@@ -1,20 +1,20 @@
 -- What an operation of a switch would do, by what is known. Each hazard is a truth value over
 -- walks. An unknown switch is the worse of open and closed wherever it counts: it may be closed,
--- and it is not surely closed.
-use Rattle.std.specs.Prelude.{ℕ, Bool, false, not, ◌&&◌, ◌||◌, ◌==◌}
+-- and it is not surely closed. An input that may be FALSE does not count as TRUE.
+use Rattle.std.specs.Prelude.{ℕ, Bool, false, not, ◌&&◌, ◌||◌, ◌==◌, is_some}
 use Rattle.std.specs.List.{list_any}
 use Rattle.bay_base.specs.declared.switch.Operation.{Operation}
 use Rattle.bay_base.specs.declared.switch.Operation.TheVariants.{Open, Close}
 use Rattle.bay_base.specs.declared.switch.SwitchKind.{SwitchKind}
 use Rattle.bay_base.specs.declared.switch.SwitchKind.TheVariants.{Breaker, Disconnector, Earthing}
 use Rattle.bay_diagram.specs.declared.hazard.Target.{Target}
-use Rattle.bay_diagram.specs.declared.hazard.Target.TheVariants.{Live, Terminal, Load}
+use Rattle.bay_diagram.specs.declared.hazard.Target.TheVariants.{Live, Terminal, Load, Energised, Separable}
 use Rattle.bay_diagram.specs.declared.network.Branch.{Branch}
 use Rattle.bay_diagram.specs.declared.network.Network.{Network}
 use Rattle.bay_diagram.specs.declared.network.Node.{Node}
 use Rattle.bay_diagram.specs.declared.walk.Avoid.{Avoid}
 use Rattle.bay_diagram.specs.declared.walk.Avoid.TheVariants as avoid
-use Rattle.bay_diagram.specs.declared.walk.Over.TheVariants.{Possible, Closed, Gapless, Inseparable}
+use Rattle.bay_diagram.specs.declared.walk.Over.TheVariants.{Possible, Closed, Gapless, Inseparable, Disconnectors}
 use Rattle.bay_diagram.specs.declared.walk.Over.{Over}
 use Rattle.bay_diagram.specs.declared.walk.Route.{Route}
 use Rattle.bay_diagram.specs.Network.{is_disconnector, is_earthing, is_own, is_source, is_terminal, is_terminal_kind, is_transformer}
@@ -45,11 +45,19 @@ is_earthed net r s n = list_any (λ c. is_earth_at s n c && r.conducts c.device)
 abbrev pub is_live : Network → Reading → Branch → Node → Bool
 is_live net r s x = x.is_source && not (is_earthed net r s x.number)
 
--- a live source; a terminal; a terminal that is no source
+-- a live source that is not known to be dead
+abbrev pub is_energised : Network → Reading → Branch → Node → Bool
+is_energised net r s x = is_live net r s x && r.may_be_false x.dead
+
+-- a live source; a terminal; a terminal that is no source; a live source that is not known to be
+-- dead; such a source, too, if a gap could part it from the first node of s
 abbrev pub is_target : Network → Reading → Branch → Target → Node → Bool
 is_target net r s Live x = is_live net r s x
 is_target net r s Terminal x = is_terminal_kind x.kind
 is_target net r s Load x = is_terminal_kind x.kind && not x.is_source
+is_target net r s Energised x = is_energised net r s x
+is_target net r s Separable x =
+    is_energised net r s x && not (leads net r (without Inseparable s avoid.Nothing) s.one x.number)
 
 -- a node that a walk looks for is joined to the node a
 abbrev pub reaches_by : Network → Reading → Branch → (ℕ → ℕ → Bool) → ℕ → Target → Bool
@@ -85,7 +93,7 @@ has_beside net r s e =
 -- the source is dead.
 abbrev pub earths_by : Network → Reading → Branch → (ℕ → ℕ → Bool) → (ℕ → ℕ → Bool) → Bool
 earths_by net r s gapless inseparable = list_any (λ x. x.is_source
-    && (gapless s.one x.number && (r.may_be_live x.dead || not (inseparable s.one x.number))))
+    && (gapless s.one x.number && (r.may_be_false x.dead || not (inseparable s.one x.number))))
     net.nodes
 
 -- the earthing switch would close onto a node that is not isolated
@@ -200,14 +208,48 @@ makes_any net r s = list_any (λ d. is_exposed net r s d && makes_current net r 
 abbrev pub leaves_any : Network → Reading → Branch → Bool
 leaves_any net r s = list_any (λ d. is_exposed net r s d && leaves_current net r s d) net.branches
 
+-- ---- Y, T, L: hazards that count only if a key of the diagram asks for them
+
+-- walks lead from the one side of s to a live source, and from the other side to a live source;
+-- neither source is known to be dead
+abbrev pub joins_live : Network → Reading → Branch → Bool
+joins_live net r s =
+    reaches net r s (without Possible s (avoid.Node s.other)) s.one Energised
+    && reaches net r s (without Possible s (avoid.Node s.one)) s.other Energised
+
+-- Y: a breaker would join two live parts that are not surely joined, which may be out of phase, and
+-- no input of a synchrocheck is known to be TRUE. Two systems out of phase are all but a short
+-- circuit: IEC 62271-100 rates a breaker for this only by agreement. That the two parts agree in
+-- phase only the synchronism-check shows (RSYN, IEC 61850-7-4). Surely closed paths beside the
+-- breaker join them already.
+abbrev pub joins_parts : Network → Reading → Branch → Bool
+joins_parts net r s =
+    (net.checks.live_parts || is_some s.synchro)
+    && (r.may_be_false s.synchro && (joins_live net r s && not (has_beside net r s s)))
+
+-- T: a coupler would leave its two sides to disconnectors alone, which may be closed. No breaker
+-- then parts the busbars if one of them fails, and no path lies beside the disconnectors for the
+-- bus transfer by which they could open again (IEC 62271-102, bus-transfer current).
+abbrev pub uncouples : Network → Reading → Branch → Bool
+uncouples net r s =
+    s.is_coupler && leads net r (without Disconnectors s avoid.Nothing) s.one s.other
+
+-- L: an earthing switch would open while a live source may feed it, which is not known to be dead.
+-- It has no breaking capacity for a short circuit (IEC 62271-102), and what is earthed stays
+-- earthed until it is isolated again (EN 50110-1, 6.2). A source that no gap could part from the
+-- node does not count: no switch of the diagram could make the opening harmless.
+abbrev pub unearths : Network → Reading → Branch → Bool
+unearths net r s =
+    net.checks.fed_earths && reaches net r s (without Possible s avoid.Nothing) s.one Separable
+
 -- ---- an operation
 
 -- an operation of a branch is a hazard, by the kind of the branch
 abbrev pub endangers_by : Network → Reading → Branch → SwitchKind → Operation → Bool
 endangers_by net r s Earthing Close = earths net r s
-endangers_by net r s Earthing Open = false
-endangers_by net r s Breaker Close = bridges net r s || makes_any net r s
-endangers_by net r s Breaker Open = leaves_any net r s
+endangers_by net r s Earthing Open = unearths net r s
+endangers_by net r s Breaker Close = bridges net r s || (makes_any net r s || joins_parts net r s)
+endangers_by net r s Breaker Open = leaves_any net r s || uncouples net r s
 endangers_by net r s Disconnector Close =
     bridges net r s || (breaks net r s || makes_any net r s)
 endangers_by net r s Disconnector Open = breaks net r s || leaves_any net r s

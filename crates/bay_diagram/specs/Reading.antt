@@ -1,4 +1,4 @@
--- What is known of switches and sources, by what the process reports.
+-- What is known of switches and inputs, by what the process reports.
 use Rattle.std.specs.Prelude.{ℕ, ◌≡◌, Bool, true, false, not, ◌&&◌, ◌||◌, Option, None, Some, slice_get}
 use Rattle.bay_base.specs.declared.position.Dbpos.{Dbpos}
 use Rattle.bay_base.specs.declared.position.Dbpos.TheVariants.{Intermediate, Off, On, Bad}
@@ -12,7 +12,7 @@ use Rattle.bay_diagram.specs.declared.reading.Known.{Known}
 use Rattle.bay_base.specs.Positions.{same_position}
 use Rattle.bay_audit_rules.specs.Process.{Process}
 
--- What is known of a switch, by its device, and of a source, by the input that shows it dead.
+-- What is known of a switch, by its device, and of an input, such as one that shows a source dead.
 pub record Reading : Type 0 where
   -- it may be closed: it is not known to be open
   pub may_conduct : Device → Bool
@@ -20,15 +20,15 @@ pub record Reading : Type 0 where
   pub conducts : Device → Bool
   -- it may be on its way: it is not known to be in an end position
   pub may_move : Device → Bool
-  -- it may be live: it is not known to be dead
-  pub may_be_live : Option ℕ → Bool
+  -- the input may be FALSE: it is not known to be TRUE, or there is none
+  pub may_be_false : Option ℕ → Bool
 
 -- In the second less is known, or as much.
 pub record IsWorse (r worse : Reading) : Type 0 where
   pub may_conduct : (d : Device) → r.may_conduct d ≡ true → worse.may_conduct d ≡ true
   pub conducts : (d : Device) → worse.conducts d ≡ true → r.conducts d ≡ true
   pub may_move : (d : Device) → r.may_move d ≡ true → worse.may_move d ≡ true
-  pub may_be_live : (i : Option ℕ) → r.may_be_live i ≡ true → worse.may_be_live i ≡ true
+  pub may_be_false : (i : Option ℕ) → r.may_be_false i ≡ true → worse.may_be_false i ≡ true
 
 -- ---- of a process
 
@@ -54,7 +54,7 @@ reading_of p = record {
   may_conduct = λ d. not (is_open p d);
   conducts = λ d. is_closed p d;
   may_move = λ d. not (is_open p d || is_closed p d);
-  may_be_live = λ i. not (is_true_input p i);
+  may_be_false = λ i. not (is_true_input p i);
 }
 
 -- ---- of a case
@@ -104,7 +104,7 @@ worst_of a = record {
   may_conduct = λ d. may_be_closed a d || may_be_neither a d;
   conducts = λ d. not (may_be_open a d || may_be_neither a d);
   may_move = λ d. may_be_neither a d;
-  may_be_live = λ i. may_have_value a i false;
+  may_be_false = λ i. may_have_value a i false;
 }
 
 -- the best of what can be known in a case
@@ -113,7 +113,7 @@ best_of a = record {
   may_conduct = λ d. not (may_be_open a d);
   conducts = λ d. may_be_closed a d;
   may_move = λ d. not (may_be_open a d || may_be_closed a d);
-  may_be_live = λ i. not (may_have_value a i true);
+  may_be_false = λ i. not (may_have_value a i true);
 }
 
 -- ---- as the program has it

@@ -8,19 +8,19 @@ use Rattle.bay_base.specs.declared.switch.SwitchKind.TheVariants.{Breaker, Disco
 use Rattle.bay_diagram.specs.declared.ends.End.{End}
 use Rattle.bay_diagram.specs.declared.hazard.Ends.{Ends}
 use Rattle.bay_diagram.specs.declared.hazard.Target.{Target}
-use Rattle.bay_diagram.specs.declared.hazard.Target.TheVariants.{Live, Terminal, Load}
+use Rattle.bay_diagram.specs.declared.hazard.Target.TheVariants.{Live, Terminal, Load, Energised, Separable}
 use Rattle.bay_diagram.specs.declared.network.Branch.{Branch}
 use Rattle.bay_diagram.specs.declared.network.Network.{Network}
 use Rattle.bay_diagram.specs.declared.shown.HazardKind.{HazardKind}
-use Rattle.bay_diagram.specs.declared.shown.HazardKind.TheVariants.{Earths, Bridges, Breaks, Makes, Leaves}
+use Rattle.bay_diagram.specs.declared.shown.HazardKind.TheVariants.{Earths, Bridges, Breaks, Makes, Leaves, Joins, Uncouples, Unearths}
 use Rattle.bay_diagram.specs.declared.shown.ShownHazard.{ShownHazard}
 use Rattle.bay_diagram.specs.declared.shown.ShownWalk.{ShownWalk}
 use Rattle.bay_diagram.specs.declared.shown.Step.{Step}
 use Rattle.bay_diagram.specs.declared.walk.Avoid.{Avoid}
 use Rattle.bay_diagram.specs.declared.walk.Avoid.TheVariants as avoid
-use Rattle.bay_diagram.specs.declared.walk.Over.TheVariants.{Possible, Gapless, Inseparable}
+use Rattle.bay_diagram.specs.declared.walk.Over.TheVariants.{Possible, Gapless, Inseparable, Disconnectors}
 use Rattle.bay_diagram.specs.declared.walk.Route.{Route}
-use Rattle.bay_diagram.specs.Hazards.{breaks, bridges, earths, is_exposed, is_hazard, is_target, leaves_any, makes_any, without, without_both}
+use Rattle.bay_diagram.specs.Hazards.{breaks, bridges, earths, is_exposed, is_hazard, is_target, joins_parts, leaves_any, makes_any, uncouples, unearths, without, without_both}
 use Rattle.bay_diagram.specs.Network.{is_earthing, is_own, is_source, is_terminal, is_transformer}
 use Rattle.bay_diagram.specs.Reading.{Reading}
 use Rattle.bay_diagram.specs.Walks.{leads, may_lead_over}
@@ -95,7 +95,7 @@ ends_current net r s (Some earth) n = may_be_earthed_by net r s earth n
 -- parted
 abbrev pub is_unearthable : Network → Reading → Branch → ℕ → Bool
 is_unearthable net r s n =
-    list_any (λ x. x.number == n && (x.is_source && (r.may_be_live x.dead
+    list_any (λ x. x.number == n && (x.is_source && (r.may_be_false x.dead
     || not (leads net r (without Inseparable s avoid.Nothing) s.one x.number)))) net.nodes
 
 -- E: from a source without a gap to the node of the earthing switch
@@ -205,6 +205,33 @@ shows_leave net r s d shown =
     && (shows_feed net r s d d.one d.other shown.walk
     || shows_feed net r s d d.other d.one shown.walk)
 
+-- ---- Y, T, L
+
+-- Y: from a live source to the first side of the switch, over it, and from its other side to a live
+-- source; neither source is known to be dead
+abbrev pub shows_join : Network → Reading → Branch → ShownHazard → Bool
+shows_join net r s shown =
+    is_target_at net r s Energised shown.walk.start
+    && is_through net (may_lead_over net r (without Possible s (avoid.Node s.other))) s s.one
+    s.other
+    (is_walk net (may_lead_over net r (without Possible s (avoid.Node s.one)))
+    (is_target_at net r s Energised) s.other)
+    shown.walk.start shown.walk.steps
+
+-- T: from the first side of the coupler to its other side, over disconnectors
+abbrev pub shows_bypass : Network → Reading → Branch → ShownHazard → Bool
+shows_bypass net r s shown =
+    shown.walk.start == s.one
+    && is_walk net (may_lead_over net r (without Disconnectors s avoid.Nothing))
+    (λ n. n == s.other) shown.walk.start shown.walk.steps
+
+-- L: from a live source, which is not known to be dead, to the node of the earthing switch
+abbrev pub shows_source : Network → Reading → Branch → ShownHazard → Bool
+shows_source net r s shown =
+    is_number s.number shown.earth && (is_target_at net r s Separable shown.walk.start
+    && is_walk net (may_lead_over net r (without Possible s avoid.Nothing)) (λ n. n == s.one)
+    shown.walk.start shown.walk.steps)
+
 -- ---- a hazard
 
 -- the walk of A or B is shown with its disconnector
@@ -224,6 +251,9 @@ shows_by net r s shown Makes =
     shows_with net r s shown.other (λ d. shows_make net r s d shown.walk)
 shows_by net r s shown Leaves =
     shows_with net r s shown.other (λ d. shows_leave net r s d shown)
+shows_by net r s shown Joins = shows_join net r s shown
+shows_by net r s shown Uncouples = shows_bypass net r s shown
+shows_by net r s shown Unearths = shows_source net r s shown
 
 -- the switch is in a hazard of this kind
 abbrev pub is_of_kind : Network → Reading → Branch → HazardKind → Bool
@@ -232,13 +262,19 @@ is_of_kind net r s Bridges = bridges net r s
 is_of_kind net r s Breaks = breaks net r s
 is_of_kind net r s Makes = makes_any net r s
 is_of_kind net r s Leaves = leaves_any net r s
+is_of_kind net r s Joins = joins_parts net r s
+is_of_kind net r s Uncouples = uncouples net r s
+is_of_kind net r s Unearths = unearths net r s
 
 -- the operation of a switch of this kind can be a hazard of this kind
 abbrev pub can_be : SwitchKind → Operation → HazardKind → Bool
 can_be Earthing Close Earths = true
+can_be Earthing Open Unearths = true
 can_be Breaker Close Bridges = true
 can_be Breaker Close Makes = true
+can_be Breaker Close Joins = true
 can_be Breaker Open Leaves = true
+can_be Breaker Open Uncouples = true
 can_be Disconnector Close Bridges = true
 can_be Disconnector Close Breaks = true
 can_be Disconnector Close Makes = true
@@ -330,7 +366,8 @@ ends_of a b x y = record { a = a; b = b; x = x; y = y }
 
 -- the kinds of hazards
 abbrev pub kinds : List HazardKind
-kinds = Earths ∷ Bridges ∷ Breaks ∷ Makes ∷ Leaves ∷ []
+kinds =
+    Earths ∷ Bridges ∷ Breaks ∷ Makes ∷ Leaves ∷ Joins ∷ Uncouples ∷ Unearths ∷ []
 
 -- what is shown of an operation: nothing, if it is no hazard
 abbrev pub IsShownOf : Network → Reading → ℕ → Operation → Option ShownHazard → Type 0

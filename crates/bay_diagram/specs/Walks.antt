@@ -5,19 +5,20 @@ use Rattle.bay_diagram.specs.declared.network.Network.{Network}
 use Rattle.bay_diagram.specs.declared.walk.Avoid.{Avoid}
 use Rattle.bay_diagram.specs.declared.walk.Avoid.TheVariants as avoid
 use Rattle.bay_diagram.specs.declared.walk.Over.{Over}
-use Rattle.bay_diagram.specs.declared.walk.Over.TheVariants.{Possible, Closed, Gapless, Inseparable}
+use Rattle.bay_diagram.specs.declared.walk.Over.TheVariants.{Possible, Closed, Gapless, Inseparable, Disconnectors}
 use Rattle.bay_diagram.specs.declared.walk.Route.{Route}
 use Rattle.bay_diagram.specs.Joined.{joined, label_after, label_of, relabel}
-use Rattle.bay_diagram.specs.Network.{is_earthing, is_source, is_terminal, is_transformer}
+use Rattle.bay_diagram.specs.Network.{is_disconnector, is_earthing, is_source, is_terminal, is_transformer}
 use Rattle.bay_diagram.specs.Reading.{Reading}
 
--- a walk may lead over the branch: it may be closed, is surely closed, is no isolating gap, or
--- never is one
+-- a walk may lead over the branch: it may be closed, is surely closed, is no isolating gap, never
+-- is one, or is a disconnector that may be closed
 abbrev pub may_cross : Reading → Over → Branch → Bool
 may_cross r Possible b = r.may_conduct b.device
 may_cross r Closed b = r.conducts b.device
 may_cross r Gapless b = not b.isolates || r.may_conduct b.device
 may_cross r Inseparable b = not b.isolates
+may_cross r Disconnectors b = is_disconnector b.kind && r.may_conduct b.device
 
 -- the walk must avoid the node
 abbrev pub avoids : Network → Avoid → ℕ → Bool

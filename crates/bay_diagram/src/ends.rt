@@ -151,13 +151,13 @@ fn unearthable_by<'a>(
 ) -> Option<&'a Node>
     ensures { option_copied result ≡ find (λ x. x.is_source
         && (joined_in gapless.now switch.now.one x.number
-        && ((reading_in known.now).may_be_live x.dead
+        && ((reading_in known.now).may_be_false x.dead
         || not (joined_in inseparable.now switch.now.one x.number)))) network.now.nodes }
 {
     network.nodes.as_slice().iter().find(|node| {
         node.is_source
             && (is_same_label(gapless, switch.one, node.number)
-                && (known.may_be_live(node.dead)
+                && (known.may_be_false(node.dead)
                     || !is_same_label(inseparable, switch.one, node.number)))
     })
 }

@@ -1,9 +1,12 @@
 // Hazards: what an operation of a switch would do, by what is known. Each is a truth value over
 // walks.
-ghost use Rattle.std.specs.Prelude.{◌≡◌};
+ghost use Rattle.std.specs.Prelude.{◌≡◌, not};
 ghost use Rattle.bay_diagram.specs.Hazards as spec;
 ghost use Rattle.bay_diagram.specs.Reading.{reading_in};
+ghost use Rattle.bay_diagram.specs.Walks as walks;
 ghost use Rattle.bay_diagram.specs.Walks.{joined_in};
+ghost use Rattle.bay_diagram.specs.declared.walk.Avoid.TheVariants as avoids;
+ghost use Rattle.bay_diagram.specs.declared.walk.Over.TheVariants as overs;
 
 use crate::network::{Branch, Network, Node};
 use crate::reading::Known;
@@ -19,6 +22,10 @@ pub enum Target {
     Terminal,
     /// Terminals that are no sources.
     Load,
+    /// Live sources that are not known to be dead.
+    Energised,
+    /// Those of them that a gap could part from the first node of the switch.
+    Separable,
 }
 
 // Returns a route without a branch.
@@ -68,6 +75,22 @@ fn is_live(network: &Network, known: &Known, switch: &Branch, node: &Node) -> bo
     node.is_source && !is_earthed(network, known, switch, node.number)
 }
 
+// Returns whether a node is a live source that is not known to be dead.
+fn is_energised(network: &Network, known: &Known, switch: &Branch, node: &Node) -> bool
+    ensures { result ≡ spec.is_energised network.now (reading_in known.now) switch.now node.now }
+{
+    is_live(network, known, switch, node) && known.may_be_false(node.dead)
+}
+
+// Returns whether a gap could part a node from the first node of the switch.
+fn is_separable(network: &Network, known: &Known, switch: &Branch, node: &Node) -> bool
+    ensures { result ≡ not (walks.leads network.now (reading_in known.now)
+        (spec.without overs.Inseparable switch.now avoids.Nothing) switch.now.one node.now.number) }
+{
+    let route = without(Over::Inseparable, switch, Avoid::Nothing);
+    !leads(network, known, route, switch.one, node.number)
+}
+
 // Returns whether a walk looks for the node.
 pub(crate) fn is_target(
     network: &Network,
@@ -83,6 +106,10 @@ pub(crate) fn is_target(
         Target::Live => is_live(network, known, switch, node),
         Target::Terminal => node.kind.is_terminal(),
         Target::Load => node.kind.is_terminal() && !node.is_source,
+        Target::Energised => is_energised(network, known, switch, node),
+        Target::Separable => {
+            is_energised(network, known, switch, node) && is_separable(network, known, switch, node)
+        }
     }
 }
 
@@ -171,7 +198,7 @@ fn earths_by(
     network.nodes.as_slice().iter().any(|node| {
         node.is_source
             && (is_same_label(gapless, switch.one, node.number)
-                && (known.may_be_live(node.dead)
+                && (known.may_be_false(node.dead)
                     || !is_same_label(inseparable, switch.one, node.number)))
     })
 }
@@ -455,17 +482,73 @@ pub(crate) fn leaves_any(network: &Network, known: &Known, switch: &Branch) -> b
     })
 }
 
+// Returns whether live sources that are not known to be dead may be joined to both sides of the
+// switch.
+fn joins_live(network: &Network, known: &Known, switch: &Branch) -> bool
+    ensures { result ≡ spec.joins_live network.now (reading_in known.now) switch.now }
+{
+    let of_one = without(Over::Possible, switch, Avoid::Node(switch.other));
+    let of_other = without(Over::Possible, switch, Avoid::Node(switch.one));
+    reaches(
+        network,
+        known,
+        switch,
+        of_one,
+        switch.one,
+        Target::Energised,
+    ) && reaches(
+        network,
+        known,
+        switch,
+        of_other,
+        switch.other,
+        Target::Energised,
+    )
+}
+
+// Returns whether a breaker would join two live parts that are not surely joined, and its input of
+// a synchrocheck may be FALSE; FALSE if nothing asks for this.
+pub(crate) fn joins_parts(network: &Network, known: &Known, switch: &Branch) -> bool
+    ensures { result ≡ spec.joins_parts network.now (reading_in known.now) switch.now }
+{
+    (network.checks.live_parts || switch.synchro.is_some())
+        && (known.may_be_false(switch.synchro)
+            && (joins_live(network, known, switch) && !has_beside(network, known, switch, switch)))
+}
+
+// Returns whether a coupler would leave its two sides to disconnectors alone; FALSE if the switch
+// is none.
+pub(crate) fn uncouples(network: &Network, known: &Known, switch: &Branch) -> bool
+    ensures { result ≡ spec.uncouples network.now (reading_in known.now) switch.now }
+{
+    let route = without(Over::Disconnectors, switch, Avoid::Nothing);
+    switch.is_coupler && leads(network, known, route, switch.one, switch.other)
+}
+
+// Returns whether an earthing switch would open while a source may feed it; FALSE if nothing asks
+// for this.
+pub(crate) fn unearths(network: &Network, known: &Known, switch: &Branch) -> bool
+    ensures { result ≡ spec.unearths network.now (reading_in known.now) switch.now }
+{
+    let route = without(Over::Possible, switch, Avoid::Nothing);
+    network.checks.fed_earths
+        && reaches(network, known, switch, route, switch.one, Target::Separable)
+}
+
 /// Returns whether an operation of a branch is a hazard, by what is known.
 pub fn endangers(network: &Network, known: &Known, switch: &Branch, operation: Operation) -> bool
     ensures { result ≡ spec.endangers network.now (reading_in known.now) switch.now operation }
 {
     match (switch.kind, operation) {
         (SwitchKind::Earthing, Operation::Close) => earths(network, known, switch),
-        (SwitchKind::Earthing, Operation::Open) => false,
+        (SwitchKind::Earthing, Operation::Open) => unearths(network, known, switch),
         (SwitchKind::Breaker, Operation::Close) => {
-            bridges(network, known, switch) || makes_any(network, known, switch)
+            bridges(network, known, switch)
+                || (makes_any(network, known, switch) || joins_parts(network, known, switch))
         }
-        (SwitchKind::Breaker, Operation::Open) => leaves_any(network, known, switch),
+        (SwitchKind::Breaker, Operation::Open) => {
+            leaves_any(network, known, switch) || uncouples(network, known, switch)
+        }
         (SwitchKind::Disconnector, Operation::Close) => {
             bridges(network, known, switch)
                 || (breaks(network, known, switch) || makes_any(network, known, switch))

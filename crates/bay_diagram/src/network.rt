@@ -12,6 +12,16 @@ pub struct Network {
     pub nodes: Listing<Node>,
     /// The branches, in the order of the file.
     pub branches: Listing<Branch>,
+    pub checks: Checks,
+}
+
+/// The hazards that count only in a diagram that asks for them.
+#[derive(Clone, Copy)]
+pub struct Checks {
+    /// Each breaker of the bay that closes between two live parts, which are not surely joined.
+    pub live_parts: bool,
+    /// Each earthing switch of the bay that opens while a source may feed it.
+    pub fed_earths: bool,
 }
 
 /// A node: a piece of the primary circuit that no switch parts.
@@ -50,6 +60,11 @@ pub struct Branch {
     /// While it is open, it is an isolating gap, as each disconnector is. Of breakers only a
     /// disconnecting circuit breaker is (IEC 62271-108).
     pub isolates: bool,
+    /// The index of an input that is TRUE only while the breaker may close between two live parts.
+    /// Such a breaker may not do so otherwise, whether or not the diagram asks for this.
+    pub synchro: Option<usize>,
+    /// It is a coupler, which may not open while disconnectors alone bridge it.
+    pub is_coupler: bool,
     pub device: Device,
 }
 

@@ -153,13 +153,13 @@ impl Known {
         }
     }
 
-    /// Returns whether a source may be live, by the input that shows it dead.
-    pub fn may_be_live(&self, dead: Option<usize>) -> bool
-        ensures { result ≡ (spec.reading_in self.now).may_be_live dead }
+    /// Returns whether an input may be FALSE. An input that is missing is.
+    pub fn may_be_false(&self, input: Option<usize>) -> bool
+        ensures { result ≡ (spec.reading_in self.now).may_be_false input }
     {
         match self.bound {
-            Bound::Worst => self.may_have_value(dead, false),
-            Bound::Best => !self.may_have_value(dead, true),
+            Bound::Worst => self.may_have_value(input, false),
+            Bound::Best => !self.may_have_value(input, true),
         }
     }
 }

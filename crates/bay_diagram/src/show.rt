@@ -4,16 +4,23 @@ ghost use Rattle.bay_diagram.specs.Hazards as hazards;
 ghost use Rattle.bay_diagram.specs.Network as networks;
 ghost use Rattle.bay_diagram.specs.Reading.{reading_in};
 ghost use Rattle.bay_diagram.specs.Shown as spec;
+ghost use Rattle.bay_diagram.specs.Walks.{leads};
+ghost use Rattle.bay_diagram.specs.declared.hazard.Target.TheVariants as targets;
 ghost use Rattle.bay_diagram.specs.declared.shown.HazardKind.TheVariants as kinds;
+ghost use Rattle.bay_diagram.specs.declared.walk.Avoid.TheVariants as avoids;
+ghost use Rattle.bay_diagram.specs.declared.walk.Over.TheVariants as overs;
 
 use crate::ends::{current_end_of, earth_of, target_of, unearthable_of};
-use crate::hazard::{Target, breaks, bridges, earths, endangers, leaves_any, makes_any, without};
+use crate::hazard::{
+    Target, breaks, bridges, earths, endangers, joins_parts, leaves_any, makes_any, uncouples,
+    unearths, without,
+};
 use crate::moving::{show_leaves, show_makes};
 use crate::network::{Branch, Network};
 use crate::path::{walk_along, walk_through};
 use crate::reading::Known;
 use crate::shown::{HazardKind, ShownHazard, ShownWalk};
-use crate::walk::{Avoid, Over};
+use crate::walk::{Avoid, Over, leads};
 use bay_base::listing::Listing;
 use bay_base::switch::{Operation, SwitchKind};
 use std::alloc::{AllocError, Global};
@@ -146,14 +153,97 @@ fn show_breaks(
     }
 }
 
+// Shows Y: the way from a live source over the breaker to a live source.
+fn show_join(
+    alloc: Global,
+    network: &Network,
+    known: &Known,
+    switch: &Branch,
+) -> Result<Option<ShownHazard>, AllocError>
+    ensures { IfOk result (spec.IsFound
+        (spec.IsShownBy network.now (reading_in known.now) switch.now kinds.Joins)
+        (hazards.joins_live network.now (reading_in known.now) switch.now)) }
+{
+    let (one, other) = (switch.one, switch.other);
+    let of_one = without(Over::Possible, switch, Avoid::Node(other));
+    let of_other = without(Over::Possible, switch, Avoid::Node(one));
+    let Some(start) = target_of(network, known, switch, of_one, one, Target::Energised) else {
+        return Ok(None);
+    };
+    let Some(end) = target_of(network, known, switch, of_other, other, Target::Energised) else {
+        return Ok(None);
+    };
+    let routes = (of_one, of_other);
+    let walk = walk_through(
+        alloc, network, known, routes, start, switch, one, other, end,
+    )?;
+    Ok(Some(shown_by(HazardKind::Joins, switch, None, walk)))
+}
+
+// Shows T: the way over disconnectors from one side of a coupler to the other.
+fn show_bypass(
+    alloc: Global,
+    network: &Network,
+    known: &Known,
+    switch: &Branch,
+) -> Result<Option<ShownHazard>, AllocError>
+    ensures { IfOk result (spec.IsFound
+        (spec.IsShownBy network.now (reading_in known.now) switch.now kinds.Uncouples)
+        (leads network.now (reading_in known.now)
+        (hazards.without overs.Disconnectors switch.now avoids.Nothing)
+        switch.now.one switch.now.other)) }
+{
+    let route = without(Over::Disconnectors, switch, Avoid::Nothing);
+    if !leads(network, known, route, switch.one, switch.other) {
+        return Ok(None);
+    }
+    let steps = walk_along(alloc, network, known, route, switch.one, switch.other)?;
+    let walk = ShownWalk {
+        start: switch.one,
+        steps: Listing::new(steps),
+    };
+    Ok(Some(shown_by(HazardKind::Uncouples, switch, None, walk)))
+}
+
+// Shows L: the way from a live source to the node of the earthing switch.
+fn show_source(
+    alloc: Global,
+    network: &Network,
+    known: &Known,
+    switch: &Branch,
+) -> Result<Option<ShownHazard>, AllocError>
+    ensures { IfOk result (spec.IsFound
+        (spec.IsShownBy network.now (reading_in known.now) switch.now kinds.Unearths)
+        (hazards.reaches network.now (reading_in known.now) switch.now
+        (hazards.without overs.Possible switch.now avoids.Nothing) switch.now.one
+        targets.Separable)) }
+{
+    let node = switch.one;
+    let route = without(Over::Possible, switch, Avoid::Nothing);
+    let Some(start) = target_of(network, known, switch, route, node, Target::Separable) else {
+        return Ok(None);
+    };
+    let steps = walk_along(alloc, network, known, route, start, node)?;
+    let walk = ShownWalk {
+        start,
+        steps: Listing::new(steps),
+    };
+    Ok(Some(shown_by(HazardKind::Unearths, switch, Some(switch.number), walk)))
+}
+
 // Returns whether an operation of a switch of this kind can be a hazard of this kind.
 fn can_be(switch: SwitchKind, operation: Operation, hazard: HazardKind) -> bool
     ensures { result ≡ spec.can_be switch operation hazard }
 {
     match (switch, operation, hazard) {
         (SwitchKind::Earthing, Operation::Close, HazardKind::Earths)
-        | (SwitchKind::Breaker, Operation::Close, HazardKind::Bridges | HazardKind::Makes)
-        | (SwitchKind::Breaker, Operation::Open, HazardKind::Leaves)
+        | (SwitchKind::Earthing, Operation::Open, HazardKind::Unearths)
+        | (
+            SwitchKind::Breaker,
+            Operation::Close,
+            HazardKind::Bridges | HazardKind::Makes | HazardKind::Joins,
+        )
+        | (SwitchKind::Breaker, Operation::Open, HazardKind::Leaves | HazardKind::Uncouples)
         | (
             SwitchKind::Disconnector,
             Operation::Close,
@@ -176,6 +266,9 @@ fn is_of_kind(network: &Network, known: &Known, switch: &Branch, hazard: HazardK
         HazardKind::Breaks => breaks(network, known, switch),
         HazardKind::Makes => makes_any(network, known, switch),
         HazardKind::Leaves => leaves_any(network, known, switch),
+        HazardKind::Joins => joins_parts(network, known, switch),
+        HazardKind::Uncouples => uncouples(network, known, switch),
+        HazardKind::Unearths => unearths(network, known, switch),
     }
 }
 
@@ -195,6 +288,9 @@ fn kind_of(
         HazardKind::Breaks,
         HazardKind::Makes,
         HazardKind::Leaves,
+        HazardKind::Joins,
+        HazardKind::Uncouples,
+        HazardKind::Unearths,
     ];
     kinds.iter().copied().find(|hazard| {
         can_be(switch.kind, operation, *hazard) && is_of_kind(network, known, switch, *hazard)
@@ -222,6 +318,9 @@ fn show_at(
         HazardKind::Breaks => show_breaks(alloc, network, known, switch),
         HazardKind::Makes => show_makes(alloc, network, known, switch),
         HazardKind::Leaves => show_leaves(alloc, network, known, switch),
+        HazardKind::Joins => show_join(alloc, network, known, switch),
+        HazardKind::Uncouples => show_bypass(alloc, network, known, switch),
+        HazardKind::Unearths => show_source(alloc, network, known, switch),
     }
 }
 

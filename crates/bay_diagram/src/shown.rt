@@ -14,6 +14,12 @@ pub enum HazardKind {
     Makes,
     /// The switch would leave a current to another disconnector, which may be on its way.
     Leaves,
+    /// A breaker would join two live parts, which are not surely joined.
+    Joins,
+    /// A coupler would leave its two sides to disconnectors alone.
+    Uncouples,
+    /// An earthing switch would open while a source may feed it.
+    Unearths,
 }
 
 /// A step of a walk.
@@ -41,11 +47,11 @@ pub struct ShownHazard {
     pub switch: usize,
     /// The number of the branch of the other disconnector, if the hazard has one.
     pub other: Option<usize>,
-    /// The number of the earthing switch that earths, or may earth, the last node of the walk, if
-    /// the hazard has one.
+    /// The number of the earthing switch that earths, or may earth, the last node of the walk, or
+    /// would open there, if the hazard has one.
     pub earth: Option<usize>,
-    /// From a source to what is earthed, or the way of a current, through the switch and the other
-    /// disconnector.
+    /// From a source to what is earthed, or to another source; or the way of a current, through the
+    /// switch and the other disconnector; or from one side of a coupler to the other.
     pub walk: ShownWalk,
     /// The path beside the other disconnector, through the switch, if the switch would take it
     /// away.

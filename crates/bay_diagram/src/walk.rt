@@ -19,6 +19,8 @@ pub enum Over {
     Gapless,
     /// Those that never are an isolating gap.
     Inseparable,
+    /// Disconnectors that may be closed.
+    Disconnectors,
 }
 
 /// The nodes whose branches a walk does not take.
@@ -58,6 +60,7 @@ fn may_cross(known: &Known, over: Over, branch: &Branch) -> bool
         Over::Closed => known.is_closed(branch.device),
         Over::Gapless => !branch.isolates || known.may_conduct(branch.device),
         Over::Inseparable => !branch.isolates,
+        Over::Disconnectors => branch.is_disconnector() && known.may_conduct(branch.device),
     }
 }
 

@@ -7,7 +7,7 @@ use Rattle.bay_config.specs.Bay.{document_of}
 use Rattle.bay_config.specs.declared.bay.Bay.{Bay}
 use Rattle.bay_diagram.specs.declared.network.Network.{Network}
 use Rattle.bay_diagram_file.specs.Code.{out_of_memory}
-use Rattle.bay_diagram_file.specs.Diagram.{diagram_of, file_refusal, named_diagram_of, named_in_document, named_of, network_of_document, node_rows, switch_rows}
+use Rattle.bay_diagram_file.specs.Diagram.{checks_in, diagram_of, file_refusal, named_diagram_of, named_in_document, named_of, network_of_document, node_rows, switch_rows}
 use Rattle.bay_diagram_file.specs.declared.diagram.Diagram.{Diagram}
 use Rattle.bay_diagram_file.specs.declared.fault.DiagramFault.{DiagramFault}
 use Rattle.bay_diagram_file.specs.Parts.{branch_of, branches_from, network_of_tables, node_of, nodes_from}
@@ -61,8 +61,10 @@ network-of-document bay None d h = absurd cc
 network-of-document bay (Some file) d h = by_refusal (file_refusal bay file) h
   where
     by_refusal : (refused : Option DiagramFault)
-        → unless_refused refused (named_of bay (node_rows file) (switch_rows file)) ≡ Ok d
-        → unless_refused refused (network_of_tables bay (node_rows file) (switch_rows file))
+        → unless_refused refused (named_of bay (checks_in file) (node_rows file) (switch_rows file))
+            ≡ Ok d
+        → unless_refused refused
+            (network_of_tables bay (checks_in file) (node_rows file) (switch_rows file))
         ≡ Ok d.network
     by_refusal None h =
         ap (λ (r : Result Diagram DiagramFault). network_in_result r) h
@@ -78,8 +80,10 @@ fault-of-document bay None e h = cc h
 fault-of-document bay (Some file) e h = by_refusal (file_refusal bay file) h
   where
     by_refusal : (refused : Option DiagramFault)
-        → unless_refused refused (named_of bay (node_rows file) (switch_rows file)) ≡ Err e
-        → unless_refused refused (network_of_tables bay (node_rows file) (switch_rows file)) ≡ Err e
+        → unless_refused refused (named_of bay (checks_in file) (node_rows file) (switch_rows file))
+            ≡ Err e
+        → unless_refused refused
+            (network_of_tables bay (checks_in file) (node_rows file) (switch_rows file)) ≡ Err e
     by_refusal None h = absurd cc
     by_refusal (Some fault) h = cc h
 

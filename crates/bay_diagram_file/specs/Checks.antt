@@ -5,7 +5,7 @@ use Rattle.std.specs.Bool.{beq}
 use Rattle.std.specs.List.{list_any}
 use Rattle.bay_base.specs.Names.{same_name}
 use Rattle.bay_base.specs.declared.switch.SwitchKind.{SwitchKind}
-use Rattle.bay_base.specs.declared.switch.SwitchKind.TheVariants.{Breaker}
+use Rattle.bay_base.specs.declared.switch.SwitchKind.TheVariants.{Breaker, Disconnector, Earthing}
 use Rattle.bay_config.specs.declared.bay.Bay.{Bay}
 use Rattle.bay_diagram.specs.Network.{is_earthing}
 use Rattle.bay_diagram.specs.declared.network.NodeKind.TheVariants.{Busbar, Line, Cable, Transformer, Junction}
@@ -119,7 +119,8 @@ has_unknown_name bay nodes s =
     is_none (node_named nodes s.one)
     || (is_none (node_named nodes s.other)
     || (is_no_switch bay.switches s.switch
-    || (is_no_input bay.inputs s.closed || is_no_input bay.inputs s.opened)))
+    || (is_no_input bay.inputs s.closed || (is_no_input bay.inputs s.opened
+    || is_no_input bay.inputs s.synchro))))
 
 -- the kind of a switch of the bay; a breaker if there is none
 abbrev pub kind_found : Option Switch → SwitchKind
@@ -139,13 +140,26 @@ kind_of switches s = kind_by switches s.switch s.kind
 abbrev pub is_earth_named : List NodeRow → List ℕ → Bool
 is_earth_named nodes name = list_any (λ n. same_name name n.name && is_earth n.kind) nodes
 
+-- a switch of the kind is a breaker
+abbrev pub is_breaker : SwitchKind → Bool
+is_breaker Breaker = true
+is_breaker Disconnector = false
+is_breaker Earthing = false
+
+-- a switch has a key that only a breaker of the bay may have, and is none
+abbrev pub has_breaker_keys : List Switch → SwitchRow → Bool
+has_breaker_keys switches s =
+    (is_some s.synchro || s.is_coupler)
+    && not (is_some s.switch && is_breaker (kind_of switches s))
+
 -- a switch of the bay has keys of another bay's switch, or the latter has no kind, or the id of a
--- switch of the bay; or it is neither, or both
+-- switch of the bay; or it is neither, or both; or it has keys of a breaker of the bay, and is none
 abbrev pub has_bad_keys : List Switch → SwitchRow → Bool
 has_bad_keys switches s =
     beq (is_some s.switch) (is_some s.name)
     || (is_some s.switch && (is_some s.kind || (is_some s.closed || is_some s.opened))
-    || (is_some s.name && is_none s.kind || is_switch switches s.name))
+    || (is_some s.name && is_none s.kind
+    || (is_switch switches s.name || has_breaker_keys switches s)))
 
 -- an earthing switch has not just one earth, or isolates; or any other switch has an earth
 abbrev pub fits_badly : SwitchKind → Bool → Bool → Bool → Bool

@@ -41,7 +41,7 @@ words_of UnknownName =
 words_of BadSource =
     codes "only a busbar, a line, a cable or a transformer may be a source, and only a source may have the keys `dead` and `system`: leave the keys out, or change the kind"
 words_of BadKeys =
-    codes "a switch of the bay has the keys `switch` and `nodes`, one of another bay `name`, `kind` and `nodes`: leave the others out"
+    codes "a switch of the bay has the keys `switch` and `nodes`, one of another bay `name`, `kind` and `nodes`, and only a breaker of the bay `synchro` and `coupler`: leave the others out"
 words_of BadNodes =
     codes "a switch leads to two nodes, an earthing switch to a node and to an earth, and no other switch to an earth: change its nodes or its kind"
 words_of Incomplete =

@@ -1,15 +1,16 @@
 -- The diagram of a text, for a bay, or the first refusal of the text.
-use Rattle.std.specs.Prelude.{ℕ, nat_lt, List, [], ◌∷◌, length, map, codes, Option, None, Some, Result, Err, if◌then◌else◌}
+use Rattle.std.specs.Prelude.{ℕ, Bool, false, ◌&&◌, nat_lt, List, [], ◌∷◌, length, map, codes, Option, None, Some, Result, Err, if◌then◌else◌}
 use Rattle.std.specs.Str.{is_utf8}
-use Rattle.toml.specs.Data.{Data, Items, Members, as_array, get_member}
+use Rattle.toml.specs.Data.{Data, Items, Members, as_array, as_table, get_member}
 use Rattle.bay_base.specs.Exact.{unless_refused}
 use Rattle.bay_config.specs.Bay.{document_of}
 use Rattle.bay_config.specs.Key.{has_unknown}
 use Rattle.bay_config.specs.declared.bay.Bay.{Bay}
+use Rattle.bay_diagram.specs.declared.network.Checks.{Checks}
 use Rattle.bay_diagram.specs.declared.network.Network.{Network}
 use Rattle.bay_diagram_file.specs.Checks.{name_of, first_refusal, tables_refusal}
 use Rattle.bay_diagram_file.specs.Parts.{network_of_tables}
-use Rattle.bay_diagram_file.specs.Row.{list_of, node_row_of_value, switch_row_of_value, values_in}
+use Rattle.bay_diagram_file.specs.Row.{is_truth, list_of, may_be, node_row_of_value, switch_row_of_value, truth_in, values_in}
 use Rattle.bay_diagram_file.specs.declared.diagram.Diagram.{Diagram}
 use Rattle.bay_diagram_file.specs.declared.fault.DiagramFault.{DiagramFault}
 use Rattle.bay_diagram_file.specs.declared.fault.FaultKind.{FaultKind}
@@ -27,7 +28,8 @@ file_fault kind = record { kind = kind; place = File }
 -- the file has no other section
 abbrev pub keys_refusal : Members → Option DiagramFault
 keys_refusal file =
-    if has_unknown (codes "node" ∷ codes "between" ∷ []) file then Some (file_fault UnknownKey)
+    if has_unknown (codes "node" ∷ codes "between" ∷ codes "check" ∷ []) file
+    then Some (file_fault UnknownKey)
     else None
 
 -- a section is a list of 1 to 64 values
@@ -46,14 +48,60 @@ abbrev pub section_refusal : Option Data → Option DiagramFault
 section_refusal None = Some (file_fault MissingKey)
 section_refusal (Some d) = list_refusal (as_array d)
 
+-- the value at each key of the table `check` is TRUE or FALSE
+abbrev pub has_check_values : Members → Bool
+has_check_values table =
+    may_be is_truth (get_member (codes "live_parts") table)
+    && may_be is_truth (get_member (codes "fed_earths") table)
+
+-- the refusal of the table `check`
+abbrev pub check_table_refusal : Members → Option DiagramFault
+check_table_refusal table =
+    if has_unknown (codes "live_parts" ∷ codes "fed_earths" ∷ []) table
+    then Some (file_fault UnknownKey)
+    else if has_check_values table then None
+    else Some (file_fault BadValue)
+
+-- the refusal of the value `check`, which must be a table
+abbrev pub check_value_refusal : Option Members → Option DiagramFault
+check_value_refusal None = Some (file_fault BadValue)
+check_value_refusal (Some table) = check_table_refusal table
+
+-- the refusal of the section `check`, which may be missing
+abbrev pub check_refusal : Option Data → Option DiagramFault
+check_refusal None = None
+check_refusal (Some d) = check_value_refusal (as_table d)
+
 -- the first refusal of the sections of a file
 abbrev pub sections_refusal : Members → Option DiagramFault
 sections_refusal file =
     first_refusal (keys_refusal file)
     (first_refusal (section_refusal (get_member (codes "node") file))
-    (section_refusal (get_member (codes "between") file)))
+    (first_refusal (section_refusal (get_member (codes "between") file))
+    (check_refusal (get_member (codes "check") file))))
 
 -- ---- the diagram
+
+-- no hazard that counts only if a diagram asks for it
+abbrev pub no_checks : Checks
+no_checks = record { live_parts = false; fed_earths = false }
+
+-- the hazards for which the table `check` asks
+abbrev pub checks_of_table : Option Members → Checks
+checks_of_table None = no_checks
+checks_of_table (Some table) = record {
+  live_parts = truth_in table (codes "live_parts");
+  fed_earths = truth_in table (codes "fed_earths");
+}
+
+-- the hazards for which the section `check` asks
+abbrev pub checks_of : Option Data → Checks
+checks_of None = no_checks
+checks_of (Some d) = checks_of_table (as_table d)
+
+-- the hazards for which a file asks
+abbrev pub checks_in : Members → Checks
+checks_in file = checks_of (get_member (codes "check") file)
 
 -- the tables of the section `node`
 abbrev pub node_rows : Members → List NodeRow
@@ -72,7 +120,7 @@ file_refusal bay file =
 abbrev pub network_of_file : Bay → Members → Result Network DiagramFault
 network_of_file bay file =
     unless_refused (file_refusal bay file)
-    (network_of_tables bay (node_rows file) (switch_rows file))
+    (network_of_tables bay (checks_in file) (node_rows file) (switch_rows file))
 
 -- a text that is not TOML is refused first
 abbrev pub network_of_document : Bay → Option Members → Result Network DiagramFault
@@ -86,9 +134,9 @@ diagram_of bay text = network_of_document bay (document_of text)
 -- ---- with names
 
 -- the diagram of the tables, with the names of its nodes and switches
-abbrev pub named_of : Bay → List NodeRow → List SwitchRow → Diagram
-named_of bay nodes switches = record {
-  network = network_of_tables bay nodes switches;
+abbrev pub named_of : Bay → Checks → List NodeRow → List SwitchRow → Diagram
+named_of bay checks nodes switches = record {
+  network = network_of_tables bay checks nodes switches;
   nodes = map (λ n. n.name) nodes;
   switches = map name_of switches;
 }
@@ -96,7 +144,8 @@ named_of bay nodes switches = record {
 -- the diagram of a file with its names, or the first refusal
 abbrev pub named_in : Bay → Members → Result Diagram DiagramFault
 named_in bay file =
-    unless_refused (file_refusal bay file) (named_of bay (node_rows file) (switch_rows file))
+    unless_refused (file_refusal bay file)
+    (named_of bay (checks_in file) (node_rows file) (switch_rows file))
 
 -- a text that is not TOML is refused first
 abbrev pub named_in_document : Bay → Option Members → Result Diagram DiagramFault

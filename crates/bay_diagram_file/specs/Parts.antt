@@ -3,6 +3,7 @@ use Rattle.std.specs.Prelude.{ℕ, suc, ◌||◌, nat_lt, List, [], ◌∷◌, �
 use Rattle.bay_config.specs.declared.bay.Bay.{Bay}
 use Rattle.bay_diagram.specs.Network.{is_disconnector}
 use Rattle.bay_diagram.specs.declared.network.Branch.{Branch}
+use Rattle.bay_diagram.specs.declared.network.Checks.{Checks}
 use Rattle.bay_diagram.specs.declared.network.Device.{Device}
 use Rattle.bay_diagram.specs.declared.network.Device.TheVariants.{Own, Other}
 use Rattle.bay_diagram.specs.declared.network.Network.{Network}
@@ -69,6 +70,8 @@ branch_of bay nodes i s =
       other = (ends_of nodes s).1;
       kind = kind;
       isolates = s.isolates || is_disconnector kind;
+      synchro = option_and_then (input_named bay.inputs) s.synchro;
+      is_coupler = s.is_coupler;
       device = device_by bay s s.switch;
     }
 
@@ -79,8 +82,9 @@ branches_from bay nodes i (s ∷ switches) =
     branch_of bay nodes i s ∷ branches_from bay nodes (suc i) switches
 
 -- the diagram of the tables
-abbrev pub network_of_tables : Bay → List NodeRow → List SwitchRow → Network
-network_of_tables bay nodes switches = record {
+abbrev pub network_of_tables : Bay → Checks → List NodeRow → List SwitchRow → Network
+network_of_tables bay checks nodes switches = record {
   nodes = nodes_from bay.inputs 0 nodes;
   branches = branches_from bay nodes 0 switches;
+  checks = checks;
 }

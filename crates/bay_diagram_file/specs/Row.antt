@@ -132,7 +132,7 @@ switch_kind_in table = option_and_then (value_named kinds) (text_of table (codes
 abbrev pub switch_keys : List (List ℕ)
 switch_keys =
     codes "switch" ∷ codes "name" ∷ codes "kind" ∷ codes "nodes" ∷ codes "closed" ∷ codes "open"
-    ∷ codes "isolates" ∷ []
+    ∷ codes "isolates" ∷ codes "synchro" ∷ codes "coupler" ∷ []
 
 -- two texts
 abbrev pub are_two_texts : List Data → Bool
@@ -158,7 +158,9 @@ has_switch_values table =
     && (has_nodes table
     && (may_be is_text (get_member (codes "closed") table)
     && (may_be is_text (get_member (codes "open") table)
-    && may_be is_truth (get_member (codes "isolates") table))))))
+    && (may_be is_truth (get_member (codes "isolates") table)
+    && (may_be is_text (get_member (codes "synchro") table)
+    && may_be is_truth (get_member (codes "coupler") table))))))))
 
 -- what is wrong with the table of a switch by itself
 abbrev pub switch_fault : Members → Option RowFault
@@ -179,6 +181,8 @@ switch_row_of_table table = record {
   closed = text_of table (codes "closed");
   opened = text_of table (codes "open");
   isolates = truth_in table (codes "isolates");
+  synchro = text_of table (codes "synchro");
+  is_coupler = truth_in table (codes "coupler");
 }
 
 -- a value that is no table
@@ -193,6 +197,8 @@ bad_switch_row = record {
   closed = None;
   opened = None;
   isolates = false;
+  synchro = None;
+  is_coupler = false;
 }
 
 -- the row of a table of a switch, or of a value that is no table

@@ -2,7 +2,7 @@
 use Rattle.std.specs.Prelude.{ℕ, List, [], ◌++◌, codes, Option, None, Some, slice_get, unwrap_or}
 use Rattle.std.specs.List.{flat_map}
 use Rattle.bay_diagram.specs.declared.shown.HazardKind.{HazardKind}
-use Rattle.bay_diagram.specs.declared.shown.HazardKind.TheVariants.{Earths, Bridges, Breaks, Makes, Leaves}
+use Rattle.bay_diagram.specs.declared.shown.HazardKind.TheVariants.{Earths, Bridges, Breaks, Makes, Leaves, Joins, Uncouples, Unearths}
 use Rattle.bay_diagram.specs.declared.shown.ShownHazard.{ShownHazard}
 use Rattle.bay_diagram.specs.declared.shown.ShownWalk.{ShownWalk}
 use Rattle.bay_diagram.specs.declared.shown.Step.{Step}
@@ -53,6 +53,10 @@ effect_text diagram shown Makes =
     moving_text diagram (codes "makes a current through ") shown.other
 effect_text diagram shown Leaves =
     moving_text diagram (codes "leaves a current to ") shown.other
+effect_text diagram shown Joins = codes "joins two live parts that may be out of phase"
+effect_text diagram shown Uncouples = codes "leaves disconnectors alone to join its two sides"
+effect_text diagram shown Unearths =
+    codes "opens an earth that " ++ (name_at diagram.nodes shown.walk.start ++ codes " may feed")
 
 -- the hazard: what the operation would do, and the walks that show it
 abbrev pub hazard_text : Diagram → ShownHazard → List ℕ

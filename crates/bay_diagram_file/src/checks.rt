@@ -187,7 +187,8 @@ fn has_unknown_name(bay: &Bay, nodes: &[NodeRow], row: &SwitchRow) -> bool
     node_named(nodes, row.one.as_str()).is_none()
         || (node_named(nodes, row.other.as_str()).is_none()
             || (is_no_switch(bay.switches.as_slice(), &row.switch)
-                || (is_no_input(inputs, &row.closed) || is_no_input(inputs, &row.opened))))
+                || (is_no_input(inputs, &row.closed)
+                    || (is_no_input(inputs, &row.opened) || is_no_input(inputs, &row.synchro)))))
 }
 
 // Returns the switch of the bay with an id; `None` if there is none.
@@ -233,6 +234,24 @@ pub fn is_earth_named(nodes: &[NodeRow], name: &str) -> bool
     nodes.iter().any(|node| same_name(name, node.name.as_str()) && is_earth(node.kind))
 }
 
+// Returns whether a kind of switch is a breaker.
+fn is_breaker(kind: SwitchKind) -> bool
+    ensures { result ≡ spec.is_breaker kind }
+{
+    match kind {
+        SwitchKind::Breaker => true,
+        SwitchKind::Disconnector | SwitchKind::Earthing => false,
+    }
+}
+
+// Returns whether a switch has a key that only a breaker of the bay may have, and is none.
+fn has_breaker_keys(switches: &[Switch], row: &SwitchRow) -> bool
+    ensures { result ≡ spec.has_breaker_keys switches.now row.now }
+{
+    (row.synchro.is_some() || row.is_coupler)
+        && !(row.switch.is_some() && is_breaker(kind_of(switches, row)))
+}
+
 // Returns whether the keys of a switch are neither those of a switch of the bay nor those of one of
 // another bay.
 fn has_bad_keys(switches: &[Switch], row: &SwitchRow) -> bool
@@ -241,7 +260,8 @@ fn has_bad_keys(switches: &[Switch], row: &SwitchRow) -> bool
     row.switch.is_some() == row.name.is_some()
         || (row.switch.is_some()
             && (row.kind.is_some() || (row.closed.is_some() || row.opened.is_some()))
-            || (row.name.is_some() && row.kind.is_none() || is_switch(switches, &row.name)))
+            || (row.name.is_some() && row.kind.is_none()
+                || (is_switch(switches, &row.name) || has_breaker_keys(switches, row))))
 }
 
 // Returns whether a kind of switch does not fit its nodes, of which some are earths, or isolates.

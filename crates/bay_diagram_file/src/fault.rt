@@ -28,7 +28,8 @@ pub enum FaultKind {
     UnknownKey,
     /// A section or a required key is missing.
     MissingKey,
-    /// A section is no list of tables, or a value has a wrong type or is none of its words.
+    /// The section `check` is no table, another is no list of tables, or a value has a wrong type
+    /// or is none of its words.
     BadValue,
     /// A section has more than 64 tables.
     TooMany,
@@ -40,9 +41,11 @@ pub enum FaultKind {
     #[error("only a busbar, a line, a cable or a transformer may be a source, and only a source \
              may have the keys `dead` and `system`: leave the keys out, or change the kind")]
     BadSource,
-    /// The keys of a switch are neither those of a switch of the bay nor those of another bay's.
+    /// The keys of a switch are neither those of a switch of the bay nor those of another bay's, or
+    /// it has keys of a breaker of the bay, and is none.
     #[error("a switch of the bay has the keys `switch` and `nodes`, one of another bay `name`, \
-             `kind` and `nodes`: leave the others out")]
+             `kind` and `nodes`, and only a breaker of the bay `synchro` and `coupler`: leave the \
+             others out")]
     BadKeys,
     /// The nodes of a switch do not fit its kind.
     #[error("a switch leads to two nodes, an earthing switch to a node and to an earth, and no \
@@ -101,7 +104,7 @@ impl FaultKind {
                 "only a busbar, a line, a cable or a transformer may be a source, and only a source may have the keys `dead` and `system`: leave the keys out, or change the kind"
             }
             FaultKind::BadKeys => {
-                "a switch of the bay has the keys `switch` and `nodes`, one of another bay `name`, `kind` and `nodes`: leave the others out"
+                "a switch of the bay has the keys `switch` and `nodes`, one of another bay `name`, `kind` and `nodes`, and only a breaker of the bay `synchro` and `coupler`: leave the others out"
             }
             FaultKind::BadNodes => {
                 "a switch leads to two nodes, an earthing switch to a node and to an earth, and no other switch to an earth: change its nodes or its kind"

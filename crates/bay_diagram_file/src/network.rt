@@ -11,7 +11,7 @@ use bay_base::listing::Listing;
 use bay_base::switch::SwitchKind;
 use bay_base::text::Text;
 use bay_config::bay::Bay;
-use bay_diagram::network::{Branch, Device, Network, Node};
+use bay_diagram::network::{Branch, Checks, Device, Network, Node};
 use std::alloc::{AllocError, Global};
 
 // Returns the number of the node with a table at an index.
@@ -114,6 +114,8 @@ fn branch_of(bay: &Bay, nodes: &[NodeRow], index: usize, row: &SwitchRow) -> Bra
         other,
         kind,
         isolates: row.isolates || is_disconnector,
+        synchro: input_of(bay.inputs.as_slice(), &row.synchro),
+        is_coupler: row.is_coupler,
         device: device_of(bay, row),
     }
 }
@@ -139,14 +141,17 @@ fn branches_of(
 fn network_of_tables(
     alloc: Global,
     bay: &Bay,
+    checks: Checks,
     nodes: &[NodeRow],
     rows: &[SwitchRow],
 ) -> Result<Network, AllocError>
-    ensures { IfOk result (λ network. network ≡ spec.network_of_tables bay.now nodes.now rows.now) }
+    ensures { IfOk result (λ network. network
+        ≡ spec.network_of_tables bay.now checks nodes.now rows.now) }
 {
     Ok(Network {
         nodes: Listing::new(nodes_of(alloc, bay.inputs.as_slice(), nodes)?),
         branches: Listing::new(branches_of(alloc, bay, nodes, rows)?),
+        checks,
     })
 }
 
@@ -176,13 +181,14 @@ fn switch_names(alloc: Global, rows: &[SwitchRow]) -> Result<Vec<Text>, AllocErr
 pub fn diagram_of(
     alloc: Global,
     bay: &Bay,
+    checks: Checks,
     nodes: &[NodeRow],
     rows: &[SwitchRow],
 ) -> Result<Diagram, AllocError>
-    ensures { IfOk result (λ diagram. diagram ≡ named_of bay.now nodes.now rows.now) }
+    ensures { IfOk result (λ diagram. diagram ≡ named_of bay.now checks nodes.now rows.now) }
 {
     Ok(Diagram {
-        network: network_of_tables(alloc, bay, nodes, rows)?,
+        network: network_of_tables(alloc, bay, checks, nodes, rows)?,
         nodes: Listing::new(node_names(alloc, nodes)?),
         switches: Listing::new(switch_names(alloc, rows)?),
     })

@@ -9,9 +9,10 @@ ghost use Rattle.bay_diagram_file.specs.Code.{out_of_memory};
 ghost use Rattle.bay_diagram_file.specs.Diagram as spec;
 ghost use Rattle.bay_diagram_file.specs.declared.fault.FaultKind.TheVariants.{BadToml};
 
+use crate::check::{check_refusal, checks_in, file_fault};
 use crate::checks::{first_refusal, tables_refusal};
 use crate::diagram::Diagram;
-use crate::fault::{DiagramFault, FaultKind, Place};
+use crate::fault::{DiagramFault, FaultKind};
 use crate::keys::{find, has_unknown_key, values_at};
 use crate::network::diagram_of;
 use crate::node_row::node_rows;
@@ -27,21 +28,11 @@ const MAX_OCTETS: usize = 262_144;
 // The maximum number of tables of a section.
 const MAX_TABLES: usize = 64;
 
-// Returns a fault of the file, or of a section, as a whole.
-fn file_fault(kind: FaultKind) -> DiagramFault
-    ensures { result ≡ spec.file_fault kind }
-{
-    DiagramFault {
-        kind,
-        place: Place::File,
-    }
-}
-
 // Returns the refusal of a section that is unknown.
 fn keys_refusal(file: &Table) -> Option<DiagramFault>
     ensures { result ≡ spec.keys_refusal (table_view file.now) }
 {
-    if has_unknown_key(file, &["node", "between"]) {
+    if has_unknown_key(file, &["node", "between", "check"]) {
         Some(file_fault(FaultKind::UnknownKey))
     } else {
         None
@@ -80,7 +71,11 @@ fn sections_refusal(file: &Table) -> Option<DiagramFault>
 {
     let nodes = section_refusal(file, "node");
     let switches = section_refusal(file, "between");
-    first_refusal(keys_refusal(file), first_refusal(nodes, switches))
+    let check = check_refusal(file);
+    first_refusal(
+        keys_refusal(file),
+        first_refusal(nodes, first_refusal(switches, check)),
+    )
 }
 
 // Reads the diagram in the table of a file.
@@ -95,7 +90,8 @@ fn diagram_from(alloc: Global, bay: &Bay, file: &Table) -> Result<Diagram, Diagr
     if let Some(fault) = tables_refusal(bay, nodes.as_slice(), switches.as_slice()) {
         return Err(fault);
     }
-    Ok(diagram_of(alloc, bay, nodes.as_slice(), switches.as_slice())?)
+    let checks = checks_in(file);
+    Ok(diagram_of(alloc, bay, checks, nodes.as_slice(), switches.as_slice())?)
 }
 
 // Parses a diagram file into its table. Does not parse a text that is too long.

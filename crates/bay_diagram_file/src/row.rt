@@ -56,4 +56,8 @@ pub struct SwitchRow {
     pub opened: Option<Text>,
     /// It has the key `isolates`, which is TRUE.
     pub isolates: bool,
+    /// The name of the input that is TRUE only while a breaker may join two live parts.
+    pub synchro: Option<Text>,
+    /// It has the key `coupler`, which is TRUE.
+    pub is_coupler: bool,
 }

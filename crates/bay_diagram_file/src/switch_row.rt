@@ -66,7 +66,10 @@ fn has_right_values(table: &Table) -> bool
             && ((!has_key(table, "kind") || kind_at(table).is_some())
                 && (has_nodes(table)
                     && (may_be_text(table, "closed")
-                        && (may_be_text(table, "open") && may_be_truth(table, "isolates"))))))
+                        && (may_be_text(table, "open")
+                            && (may_be_truth(table, "isolates")
+                                && (may_be_text(table, "synchro")
+                                    && may_be_truth(table, "coupler"))))))))
 }
 
 // Returns what is wrong with a table by itself.
@@ -74,7 +77,7 @@ fn fault_of(table: &Table) -> Option<RowFault>
     ensures { result ≡ spec.switch_fault (table_view table.now) }
 {
     let known = [
-        "switch", "name", "kind", "nodes", "closed", "open", "isolates",
+        "switch", "name", "kind", "nodes", "closed", "open", "isolates", "synchro", "coupler",
     ];
     if has_unknown_key(table, &known) {
         Some(RowFault::UnknownKey)
@@ -98,6 +101,7 @@ fn row_of(alloc: Global, table: &Table) -> Result<SwitchRow, AllocError>
     let other = copy_or_empty(alloc, text_among(nodes, 1))?;
     let closed = copy_text_at(alloc, table, "closed")?;
     let opened = copy_text_at(alloc, table, "open")?;
+    let synchro = copy_text_at(alloc, table, "synchro")?;
     Ok(SwitchRow {
         fault: fault_of(table),
         switch,
@@ -108,6 +112,8 @@ fn row_of(alloc: Global, table: &Table) -> Result<SwitchRow, AllocError>
         closed,
         opened,
         isolates: truth_at(table, "isolates"),
+        synchro,
+        is_coupler: truth_at(table, "coupler"),
     })
 }
 
@@ -127,6 +133,8 @@ fn bad_row(alloc: Global) -> Result<SwitchRow, AllocError>
         closed: None,
         opened: None,
         isolates: false,
+        synchro: None,
+        is_coupler: false,
     })
 }
 

@@ -127,6 +127,17 @@ fn put_effect(text: &mut Vec<u8>, diagram: &Diagram, shown: &ShownHazard) -> Res
         HazardKind::Breaks => text.extend_from_slice(b"makes or breaks a current"),
         HazardKind::Makes => put_moving(text, diagram, b"makes a current through ", shown.other),
         HazardKind::Leaves => put_moving(text, diagram, b"leaves a current to ", shown.other),
+        HazardKind::Joins => {
+            text.extend_from_slice(b"joins two live parts that may be out of phase")
+        }
+        HazardKind::Uncouples => {
+            text.extend_from_slice(b"leaves disconnectors alone to join its two sides")
+        }
+        HazardKind::Unearths => {
+            text.extend_from_slice(b"opens an earth that ")?;
+            put_name(text, &diagram.nodes, start)?;
+            text.extend_from_slice(b" may feed")
+        }
     }
 }
 
