@@ -1,7 +1,8 @@
 // Two bays of examples/07_diagrams: the texts of their bay files, diagrams and programs, and
 // mistakes of one line in the programs. A program of its own in Python went through all states of
 // each bay, and found the releases in which a mistake is a hazard; none comes from
-// bay_audit_hazards.
+// bay_audit_hazards. And a bay with a coupler, whose diagram asks for further hazards: a person
+// found its releases by the definitions.
 
 /// A bay, its diagram, and its program.
 #[derive(Clone, Copy)]
@@ -347,4 +348,109 @@ pub const TRANSFORMER: Texts = Texts {
     diagram: TRANSFORMER_DIAGRAM,
     program: &TRANSFORMER_PROGRAM,
     faults: &TRANSFORMER_FAULTS,
+};
+
+const ASKED_BAY: &str =
+    "bay = { domain = \"B\", vendor = \"V\", model = \"M\", revision = \"1\", scan_max_age_ms = 0 }
+switch = [
+ { id = \"QA0\", kind = \"breaker\", control = \"status\" },
+ { id = \"QA1\", kind = \"breaker\", control = \"status\" },
+ { id = \"QB1\", kind = \"disconnector\", control = \"status\" },
+ { id = \"QB2\", kind = \"disconnector\", control = \"status\" },
+ { id = \"QB9\", kind = \"disconnector\", control = \"status\" },
+ { id = \"QC1\", kind = \"earthing\", control = \"status\" },
+ { id = \"QC9\", kind = \"earthing\", control = \"status\" },
+]
+input = [{ name = \"VT_DEAD\" }, { name = \"SYNC\" }]
+";
+
+const ASKED_DIAGRAM: &str = "check = { live_parts = true, fed_earths = true }
+node = [
+ { name = \"BB1\", kind = \"busbar\", source = true },
+ { name = \"BB2\", kind = \"busbar\", source = true },
+ { name = \"N1\", kind = \"junction\" },
+ { name = \"N2\", kind = \"junction\" },
+ { name = \"LINE\", kind = \"line\", source = true, dead = \"VT_DEAD\" },
+ { name = \"E\", kind = \"earth\" },
+]
+between = [
+ { switch = \"QB1\", nodes = [\"BB1\", \"N1\"] },
+ { switch = \"QB2\", nodes = [\"BB2\", \"N1\"] },
+ { switch = \"QA1\", nodes = [\"N1\", \"N2\"], synchro = \"sync\" },
+ { switch = \"QB9\", nodes = [\"N2\", \"LINE\"] },
+ { switch = \"QA0\", nodes = [\"BB1\", \"BB2\"], coupler = true },
+ { switch = \"QC1\", nodes = [\"N1\", \"E\"] },
+ { switch = \"QC9\", nodes = [\"LINE\", \"E\"] },
+]
+";
+
+const ASKED_PROGRAM: [&str; 33] = [
+    "PROGRAM asked_bay",
+    "VAR_EXTERNAL",
+    "SYNC : BOOL;",
+    "QA1_OPEN : BOOL;",
+    "QB1_OPEN, QB1_CLOSED : BOOL;",
+    "QB2_OPEN, QB2_CLOSED : BOOL;",
+    "QB9_OPEN, QB9_CLOSED : BOOL;",
+    "QC1_OPEN, QC9_OPEN : BOOL;",
+    "QA0_ENA_OPN : BOOL;",
+    "QA1_ENA_CLS : BOOL;",
+    "QC1_ENA_OPN : BOOL;",
+    "END_VAR",
+    "LD QB1_OPEN",
+    "OR QB2_OPEN",
+    "ST QA0_ENA_OPN",
+    "LD SYNC",
+    "AND QC1_OPEN",
+    "AND QC9_OPEN",
+    "AND( QB1_OPEN",
+    "OR QB1_CLOSED",
+    ")",
+    "AND( QB2_OPEN",
+    "OR QB2_CLOSED",
+    ")",
+    "AND( QB9_OPEN",
+    "OR QB9_CLOSED",
+    ")",
+    "ST QA1_ENA_CLS",
+    "LD QA1_OPEN",
+    "AND QB1_OPEN",
+    "AND QB2_OPEN",
+    "ST QC1_ENA_OPN",
+    "END_PROGRAM",
+];
+
+const ASKED_FAULTS: [Fault; 4] = [
+    // LD QB1_OPEN: disconnectors alone may bridge QA0.
+    Fault {
+        line: 12,
+        text: "LD TRUE",
+        broken: "QA0 open",
+    },
+    // LD SYNC: a busbar and the line may be live.
+    Fault {
+        line: 15,
+        text: "LD TRUE",
+        broken: "QA1 close",
+    },
+    // LD QA1_OPEN: the line may feed N1.
+    Fault {
+        line: 28,
+        text: "LD TRUE",
+        broken: "QC1 open",
+    },
+    // AND QB2_OPEN: the busbar BB2 may feed N1.
+    Fault {
+        line: 30,
+        text: "",
+        broken: "QC1 open",
+    },
+];
+
+/// A bay whose diagram asks for further hazards.
+pub const ASKED: Texts = Texts {
+    bay: ASKED_BAY,
+    diagram: ASKED_DIAGRAM,
+    program: &ASKED_PROGRAM,
+    faults: &ASKED_FAULTS,
 };

@@ -46,10 +46,16 @@ fn refused(old: &'static str, new: &'static str, code: u8, place: Place) -> Row 
 }
 
 // The refusals, in the order of their numbers.
-fn rows() -> [Row; 29] {
+fn rows() -> [Row; 37] {
     [
         refused("node =", "node", 146, Place::File),
         refused("node =", "shape = 1\nnode =", 147, Place::File),
+        refused(
+            "node =",
+            "check = { live_part = true }\nnode =",
+            147,
+            Place::File,
+        ),
         refused(
             "kind = \"busbar\"",
             "kind = \"busbar\", live = 1",
@@ -85,6 +91,25 @@ fn rows() -> [Row; 29] {
             149,
             Place::Between(3),
         ),
+        refused("node =", "check = []\nnode =", 149, Place::File),
+        refused(
+            "node =",
+            "check = { live_parts = true, fed_earths = 1 }\nnode =",
+            149,
+            Place::File,
+        ),
+        refused(
+            "switch = \"qa1\"",
+            "switch = \"qa1\", synchro = 1",
+            149,
+            Place::Between(1),
+        ),
+        refused(
+            "switch = \"qa1\"",
+            "switch = \"qa1\", coupler = \"yes\"",
+            149,
+            Place::Between(1),
+        ),
         refused("name = \"E\"", "name = \"bb\"", 151, Place::Node(0)),
         refused(
             "switch = \"qa1\"",
@@ -107,6 +132,12 @@ fn rows() -> [Row; 29] {
             Place::Between(3),
         ),
         refused(
+            "switch = \"qa1\"",
+            "switch = \"qa1\", synchro = \"SYNC\"",
+            152,
+            Place::Between(1),
+        ),
+        refused(
             "kind = \"junction\"",
             "kind = \"junction\", source = true",
             153,
@@ -127,6 +158,18 @@ fn rows() -> [Row; 29] {
         refused(
             "name = \"TB\", kind = \"breaker\"",
             "name = \"TB\"",
+            154,
+            Place::Between(3),
+        ),
+        refused(
+            "switch = \"QB1\"",
+            "switch = \"QB1\", coupler = true",
+            154,
+            Place::Between(0),
+        ),
+        refused(
+            "name = \"TB\"",
+            "name = \"TB\", synchro = \"VT\"",
             154,
             Place::Between(3),
         ),
@@ -286,6 +329,30 @@ fn the_diagram_of_a_file(rt: HostRuntime) -> Result<(), Fail> {
             (wanted.kind, wanted.isolates)
         );
         assert_eq!(rt; device_of(branch.device), wanted.device);
+    }
+    Ok(())
+}
+
+// Shows P-151.
+#[test]
+fn keys_that_ask_for_hazards(rt: HostRuntime) -> Result<(), Fail> {
+    let alloc = rt.alloc();
+    let bay = read_bay(alloc, BAY)?;
+    let without = text_of(alloc)?;
+    let with = format!(in alloc;
+        "check = {{ live_parts = true, fed_earths = false }}\n{}",
+        without.as_str()
+    )?;
+    for (text, is_asked) in [(without.as_str(), false), (with.as_str(), true)] {
+        let network = match read_diagram(alloc, &bay, text) {
+            Ok(network) => network,
+            Err(fault) => return Err(Fail::from(fault.kind)),
+        };
+        let checks = network.checks;
+        assert_eq!(rt; (checks.live_parts, checks.fed_earths), (is_asked, false));
+        for branch in network.branches.as_slice() {
+            assert_eq!(rt; (branch.synchro, branch.is_coupler), (None, false));
+        }
     }
     Ok(())
 }

@@ -1,9 +1,15 @@
 // Two bays of examples/07_diagrams, and what is known of them.
 use bay_base::listing::Listing;
 use bay_base::switch::SwitchKind;
-use bay_diagram::network::{Branch, Device, Network, Node, NodeKind};
+use bay_diagram::network::{Branch, Checks, Device, Network, Node, NodeKind};
 use bay_diagram::reading::{Bound, InputSet, Known, PositionSet};
 use std::alloc::{AllocError, Global};
+
+// A diagram that asks for no further hazards.
+const NO_CHECKS: Checks = Checks {
+    live_parts: false,
+    fed_earths: false,
+};
 
 // Returns a node.
 fn node(number: u8, kind: NodeKind, is_source: bool, dead: Option<usize>) -> Node {
@@ -23,6 +29,8 @@ fn branch(number: usize, one: u8, other: u8, kind: SwitchKind, device: Device) -
         other,
         kind,
         isolates: kind == SwitchKind::Disconnector,
+        synchro: None,
+        is_coupler: false,
         device,
     }
 }
@@ -66,6 +74,7 @@ pub fn line_bay(alloc: Global) -> Result<Network, AllocError> {
     Ok(Network {
         nodes: Listing::new(nodes),
         branches: Listing::new(branches),
+        checks: NO_CHECKS,
     })
 }
 
@@ -92,6 +101,7 @@ pub fn transformer_bay(alloc: Global) -> Result<Network, AllocError> {
     Ok(Network {
         nodes: Listing::new(nodes),
         branches: Listing::new(branches),
+        checks: NO_CHECKS,
     })
 }
 

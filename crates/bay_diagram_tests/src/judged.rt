@@ -1,5 +1,5 @@
 // The releases of bays, judged by the hazards in their diagrams.
-use crate::bays::{Fault, LINE, TRANSFORMER, Texts};
+use crate::bays::{ASKED, Fault, LINE, TRANSFORMER, Texts};
 use bay_audit::effort::{EFFORT, PassBudget};
 use bay_audit::program::AuditedProgram;
 use bay_audit::release::find_release;
@@ -153,4 +153,10 @@ fn releases_of_a_line_bay(rt: HostRuntime) -> Result<(), Fail> {
 #[test]
 fn releases_of_a_transformer_bay(rt: HostRuntime) -> Result<(), Fail> {
     check_bay(&rt, rt.alloc(), TRANSFORMER)
+}
+
+// Shows P-143, P-150, P-152.
+#[test]
+fn releases_of_a_bay_with_keys(rt: HostRuntime) -> Result<(), Fail> {
+    check_bay(&rt, rt.alloc(), ASKED)
 }
