@@ -9,8 +9,8 @@ from dataclasses import dataclass
 
 from baytools.bay.rules import INPUT, SWITCH
 from baytools.common.texts import raised
-from baytools.diagram.network import (DISCONNECTOR, EARTH, EARTHING, TERMINALS, TRANSFORMER,
-                                      Network, Switch)
+from baytools.diagram.network import (BREAKER, DISCONNECTOR, EARTH, EARTHING, TERMINALS,
+                                      TRANSFORMER, Network, Switch)
 
 OPEN, CLOSE = 0, 1
 UNKNOWN, IS_OPEN, IS_CLOSED = 0, 1, 2  # what is known of the position of a branch
@@ -19,11 +19,13 @@ UNKNOWN, IS_OPEN, IS_CLOSED = 0, 1, 2  # what is known of the position of a bran
 @dataclass(frozen=True)
 class Known:
     """What is known of a state: the branches that may be closed, those that surely are, those that
-    may be on their way; and the sources that may be live."""
+    may be on their way; the sources that may be live; and the breakers that a synchrocheck surely
+    lets close between two live parts."""
     may: int
     sure: int
     moves: int
     alive: int
+    agreed: int = 0
 
 
 def position_of(switch: Switch, values: Mapping) -> int:
@@ -37,11 +39,12 @@ def position_of(switch: Switch, values: Mapping) -> int:
     return told[0] if len(told) == 1 else UNKNOWN
 
 
-def known_by(positions: tuple[int, ...], alive: int) -> Known:
+def known_by(positions: tuple[int, ...], alive: int, agreed: int = 0) -> Known:
     """What is known, by the position of each branch."""
     bits = [sum(1 << at for at, it in enumerate(positions) if it == position)
             for position in (UNKNOWN, IS_OPEN, IS_CLOSED)]
-    return Known(bits[UNKNOWN] | bits[IS_CLOSED], bits[IS_CLOSED], bits[UNKNOWN], alive)
+    return Known(bits[UNKNOWN] | bits[IS_CLOSED], bits[IS_CLOSED], bits[UNKNOWN], alive,
+                 agreed)
 
 
 def numbers(bits: int) -> Iterator[int]:
@@ -77,7 +80,9 @@ class Diagram:
         """What the values of a state show."""
         alive = sum(1 << at for at, it in enumerate(self.nodes) if it.is_source
                     and not (it.dead and values[INPUT, raised(it.dead)]))
-        return known_by(tuple(position_of(it, values) for it in self.branches), alive)
+        agreed = sum(1 << at for at, it in enumerate(self.branches)
+                     if it.synchro and values[INPUT, raised(it.synchro)])
+        return known_by(tuple(position_of(it, values) for it in self.branches), alive, agreed)
 
     # ---- walks
 
@@ -140,9 +145,10 @@ class Diagram:
     def hazards(self, switch: int, way: int, known: Known) -> str:
         """The letters of the hazards of an operation of a branch."""
         kind = self.branches[switch].kind
-        if kind == EARTHING:
-            return 'E' if way == CLOSE and self.earths(switch, known) else ''
         live = self.sources & ~self.earthed(switch, known.sure)
+        if kind == EARTHING:
+            letter, is_so = ('E', self.earths) if way == CLOSE else ('L', self.unearths)
+            return letter * is_so(switch, known)
         earthed = self.earthed(switch, known.may)
         gapless = (~self.isolating | known.may) & ~(1 << switch)
         found = ''
@@ -155,7 +161,39 @@ class Diagram:
                   and not self.has_beside(known, switch, at)
                   and not self.has_beside(known, at, switch)]
         act, letter = (self.makes, 'A') if way == CLOSE else (self.leaves, 'B')
-        return found + letter * any(act(switch, at, known, live) for at in moving)
+        found += letter * any(act(switch, at, known, live) for at in moving)
+        if kind == BREAKER:
+            asked, letter = (self.joins, 'Y') if way == CLOSE else (self.uncouples, 'T')
+            found += letter * asked(switch, known)
+        return found
+
+    # ---- hazards that count only if a key of the diagram asks for them
+
+    def energised(self, switch: int, known: Known) -> int:
+        """The live sources that are not known to be dead."""
+        return self.sources & ~self.earthed(switch, known.sure) & known.alive
+
+    def joins(self, switch: int, known: Known) -> bool:
+        """Y: a breaker joins two live parts that are not surely joined, and no synchrocheck surely
+        lets it."""
+        sources, branch = self.energised(switch, known), self.branches[switch]
+        return bool((self.network.live_parts or branch.synchro) and not known.agreed >> switch & 1
+                    and self.spans(known.may & ~(1 << switch), switch, sources, sources)
+                    and not self.has_beside(known, switch, switch))
+
+    def uncouples(self, switch: int, known: Known) -> bool:
+        """T: a coupler opens while disconnectors alone may join its two sides."""
+        disconnectors = sum(1 << at for at, it in enumerate(self.branches)
+                            if it.kind == DISCONNECTOR)
+        return self.branches[switch].is_coupler and self.is_joined(
+            known.may & disconnectors & ~(1 << switch), *self.ends[switch])
+
+    def unearths(self, switch: int, known: Known) -> bool:
+        """L: an earthing switch opens while a source may feed it that a gap could part from it."""
+        node = self.earthed_node(switch)
+        return self.network.fed_earths and bool(
+            self.reached(known.may & ~(1 << switch), node) & self.energised(switch, known)
+            & ~self.reached(~self.isolating, node))
 
     def earths(self, switch: int, known: Known) -> bool:
         """E: a source lies beyond no isolating gap, and is not known to be dead; that it is dead

@@ -1,5 +1,6 @@
 """The hazards beside which bench/trials/diagrams holds bayctl: small states, worked out by hand,
 and the states of a bay at once."""
+import dataclasses
 import random
 import sys
 import unittest
@@ -24,6 +25,18 @@ from diagram_truth import Truth
 FOLDER = TOP / 'examples' / '07_diagrams'
 LETTERS = {'-': IS_OPEN, '+': IS_CLOSED, '?': UNKNOWN}
 BOTH_WAYS = 'QB1+ QB2? CB1+ CA1+ CB2+'
+# States for the hazards that count only if a key asks for them, which the simulation does not know.
+ASKED = [
+    ('double', 'QB1+ QB9+', 'QA1 close', 'Y'),  # BB1 and LINE
+    ('double', 'QB1+', 'QA1 close', ''),  # QB9 parts LINE
+    ('double', 'QB1+ QB9?', 'QA1 close', 'AY'),
+    ('single', 'QB1+ QB9+ QC9+', 'QA1 close', 'J'),  # an earthed line is not live
+    ('double', 'QB1+ QB2+ CB1+ CB2+ QA1+ QB9+', 'QA1 open', ''),  # no coupler
+    ('double', 'QB1+ QB9+ QA1+ QC2+', 'QC2 open', 'L'),
+    ('double', 'QB1+ QA1+ QC2+', 'QC2 open', 'L'),
+    ('double', 'QB1+ QC2+', 'QC2 open', ''),  # an open breaker lets no current through
+    ('double', 'QB9? QC2+', 'QC2 open', 'L'),
+    ('single', 'QC9+', 'QC9 open', '')]  # no gap could part QC9 from its own line
 # A bay, its switches with their positions (others are open), an operation, and its hazards.
 STATES = [
     ('single', 'QB1+', 'QC1 close', 'E'),  # a closed disconnector to the busbar; QA1 is no gap
@@ -77,6 +90,31 @@ class Hazards(unittest.TestCase):
                 is_so = Truth(diagram).is_hazard(known, at, way == 'close')
                 # Walks take an unknown switch for open in one atom, and for closed in another.
                 self.assertEqual(is_so, bool(hazards) and told != BOTH_WAYS)
+
+    def test_states_with_keys(self):
+        for name, told, operation, hazards in ASKED:
+            with self.subTest(f'{name}: {told}: {operation}'):
+                network = dataclasses.replace(network_at(name), live_parts=True, fed_earths=True)
+                diagram = Diagram(network)
+                switch, way = operation.split(' ')
+                at = [it.name for it in diagram.branches].index(switch)
+                known = self.known(diagram, told)
+                self.assertEqual(diagram.hazards(at, (OPEN, CLOSE)[way == 'close'], known), hazards)
+                agreed = dataclasses.replace(known, agreed=1 << at)
+                self.assertNotIn('Y', diagram.hazards(at, (OPEN, CLOSE)[way == 'close'], agreed))
+                dead = dataclasses.replace(known, alive=0)
+                self.assertFalse({'Y', 'L'} & set(diagram.hazards(at, OPEN, dead)
+                                                  + diagram.hazards(at, CLOSE, dead)))
+
+    def test_a_coupler(self):
+        network = network_at('double')
+        network.switches = [dataclasses.replace(it, is_coupler=it.name == 'CA1')
+                            for it in network.switches]
+        diagram = Diagram(network)
+        at = [it.name for it in diagram.branches].index('CA1')
+        closed = 'CB1+ CB2+ CA1+ QB1+ '
+        for told, hazards in (('QB2+', 'T'), ('QB2-', ''), ('QB2?', 'BT')):
+            self.assertEqual(diagram.hazards(at, OPEN, self.known(diagram, closed + told)), hazards)
 
     def test_walks_never_miss_what_the_simulation_finds(self):
         chance, script = random.Random(3), bench()

@@ -250,6 +250,13 @@ class Refusals(unittest.TestCase):
                 (good.replace('switch = "QB1"', 'name = "QB1"\nkind = "breaker"'),
                  'QB1 is a switch of this bay: write switch'),
                 (good.replace('switch = "QB1"', 'switch = "QB1"\nname = "X"'), 'and not both'),
+                (good + '\n[[check]]', r'd: check: it must be a table: write \[check\]'),
+                (good + '\n[check]\nlive_part = true', 'd: check: there is no key live_part: is live'),
+                (good + '\n[check]\nfed_earths = 1', 'd: check: fed_earths must be true or false'),
+                (good.replace('switch = "QA1"', 'switch = "QA1"\nsynchro = "VT"'),
+                 'synchro = "VT" is no input of the bay file'),
+                (good.replace('switch = "QB1"', 'switch = "QB1"\ncoupler = true'),
+                 'coupler is a key of breakers of the bay'),
                 (good.replace('switch = "QB1"', 'name = "X"\nkind = "fuse"'), 'fuse" is none'),
                 (good.replace('["N1", "E"]', '["N1", "N2"]'), 'of kind earthing, so one of its'),
                 (good.replace('["BB1", "N1"]', '["N1", "E"]'), 'it leads to the earth E, so it'),
@@ -283,6 +290,24 @@ class Examples(Tools):
             net = read_diagram(path.with_name('diagram.toml').read_text(), 'd', file)
             again = read_diagram(written(net), 'd', file)
             self.assertEqual((net.nodes, net.switches), (again.nodes, again.switches))
+
+    def test_keys_that_ask_for_hazards(self):
+        path = next(it for it in EXAMPLES if it.parent.name == 'double')
+        file, text = bay_at(path)[1], path.with_name('diagram.toml').read_text()
+        asked = '[check]\nlive_parts = true\nfed_earths = true\n' + text.replace(
+            'switch = "QA1"', 'switch = "QA1"\nsynchro = "ca1_closed"\ncoupler = true')
+        net = read_diagram(asked, 'd', file)
+        breaker = next(it for it in net.switches if it.name == 'QA1')
+        self.assertEqual((net.live_parts, net.fed_earths), (True, True))
+        self.assertEqual((breaker.synchro, breaker.is_coupler), ('CA1_CLOSED', True))
+        again = read_diagram(written(net), 'd', file)
+        self.assertEqual((net.nodes, net.switches, net.live_parts, net.fed_earths),
+                         (again.nodes, again.switches, again.live_parts, again.fed_earths))
+        plain = read_diagram(text, 'd', file)
+        self.assertIn('no rule covers these', text_of(net, 'Q1').replace('\n# ', ' '))
+        self.assertNotIn('covers', text_of(plain, 'Q1'))
+        self.assertEqual([it.text() for it in demands_of(net)],
+                         [it.text() for it in demands_of(plain)])
 
     def test_programs_keep_both_files_of_rules_in_every_state(self):
         for path in EXAMPLES:

@@ -13,6 +13,7 @@ TEXT = DIAGRAM.read_text(encoding='utf-8')
 BAY = bay_at(DOUBLE)[1]
 NODE = '[[node]]\nname = "BB1"'
 OWN = 'switch = "QB1"'
+BREAKER = 'switch = "QA1"'
 
 
 def changed(old: str, new: str) -> str:
@@ -54,6 +55,16 @@ FAULTS = [
      'both its nodes are N1'),
     (changed('nodes = ["BB1", "N1"]', 'nodes = ["BB1", "E"]'), 154, 'between 1 (QB1)',
      'it leads to the earth E'),
+    (TEXT + '[[check]]\nlive_parts = true\n', 149, '', 'check is no table'),
+    (TEXT + '[check]\nlive_part = true\n', 147, 'check', 'is live_parts meant?'),
+    (TEXT + '[check]\nfed_earths = 1\n', 149, 'check', 'fed_earths must be true or false'),
+    (changed(BREAKER, BREAKER + '\nsynchro = 1'), 149, 'between 3 (QA1)', 'must be a text'),
+    (changed(BREAKER, BREAKER + '\ncoupler = "yes"'), 149, 'between 3 (QA1)', 'true or false'),
+    (changed(BREAKER, BREAKER + '\nsynchro = "SYNC"'), 152, 'between 3 (QA1)',
+     'SYNC is no input of the bay file'),
+    (changed(OWN, OWN + '\ncoupler = true'), 154, 'between 1 (QB1)', 'a key of breakers'),
+    (changed('name = "CA1"', 'name = "CA1"\nsynchro = "CA1_CLOSED"'), 154, 'between 8 (CA1)',
+     'a key of breakers'),
     (changed('switch = "QC2"', 'name = "XC2"\nkind = "earthing"'), 155, 'switch QC2',
      'the switch QC2 of the bay is in no table'),
     (TEXT + '[[node]]\nname = "N77"\nkind = "junction"\n', 155, 'node', '0 switches lead to it')]
@@ -71,6 +82,12 @@ class Faults(unittest.TestCase):
                 first = diagram_file.refusals(text.encode(), BAY)[0]
                 self.assertEqual((first.code, first.place.where[:len(where)]), (code, where))
                 self.assertIn(told, first.place.told)
+
+    def test_keys_that_ask_for_hazards(self):
+        for text in (TEXT + '[check]\nlive_parts = true\nfed_earths = false\n',
+                     changed(BREAKER, BREAKER + '\nsynchro = "ca1_closed"\ncoupler = true'),
+                     changed(OWN, OWN + '\ncoupler = false')):
+            self.assertEqual(diagram_file.refusals(text.encode(), BAY), [])
 
     def test_octets_that_are_no_text_and_a_text_that_is_too_long(self):
         for octets in (TEXT.encode() + b'\xff', TEXT.encode() + b'#' * 262_144):

@@ -6,7 +6,7 @@ from collections.abc import Callable, Iterator
 from typing import Any
 
 from baytools.common.texts import counted, raised
-from baytools.diagram.network import EARTH, EARTHING, JUNCTION, KINDS, NODES
+from baytools.diagram.network import BREAKER, EARTH, EARTHING, JUNCTION, KINDS, NODES
 
 from . import bay_file
 from .bay_file import Lines, Refused
@@ -15,12 +15,15 @@ from .place import Place, near
 NAME = re.compile('[A-Za-z][A-Za-z0-9_]{0,31}', re.ASCII)
 MOST = 64  # tables of a section
 SECTIONS = ('node', 'between')
+CHECK, CHECK_KEYS = 'check', ('live_parts', 'fed_earths')
 KEYS = {'node': ('name', 'kind', 'source', 'system', 'dead'),
-        'between': ('switch', 'name', 'kind', 'nodes', 'closed', 'open', 'isolates')}
+        'between': ('switch', 'name', 'kind', 'nodes', 'closed', 'open', 'isolates', 'synchro',
+                    'coupler')}
 NEEDED = {'node': ('name', 'kind'), 'between': ('nodes',)}
 WORDS = {'node': NODES, 'between': KINDS}
 IDS = ('name', 'switch')
 OF_OTHERS = ('kind', 'closed', 'open')  # keys of a switch of another bay
+OF_BREAKERS = ('synchro', 'coupler')  # keys of a breaker of the bay
 
 
 class Rows:
@@ -74,8 +77,8 @@ def refusals(octets: bytes, bay: dict[str, Any]) -> list[Refused]:
 def sections(rows: Rows) -> Iterator[Refused]:
     """Sections that are unknown, missing, no lists, or too long."""
     for name in rows.file:
-        if name not in SECTIONS:
-            yield Refused(147, Place(f'there is no section {name}{near(name, SECTIONS)}',
+        if name not in (*SECTIONS, CHECK):
+            yield Refused(147, Place(f'there is no section {name}{near(name, (*SECTIONS, CHECK))}',
                                      line=rows.lines.top.get(name)))
     for name in SECTIONS:
         held, line = rows.file.get(name), rows.lines.top.get(name)
@@ -87,6 +90,24 @@ def sections(rows: Rows) -> Iterator[Refused]:
         elif len(held) > MOST:
             told = f'there are {counted(len(held), "table")} [[{name}]], but may be {MOST} at most'
             yield Refused(150, Place(told, line=line))
+    yield from check_keys(rows)
+
+
+def check_keys(rows: Rows) -> Iterator[Refused]:
+    """What is wrong with the table `check`, which may be missing."""
+    table = rows.file.get(CHECK, {})
+    if not isinstance(table, dict):
+        yield Refused(149, Place('check is no table', line=rows.lines.top.get(CHECK),
+                                 mend='write [check]'))
+        return
+    for key in table:
+        if key not in CHECK_KEYS:
+            yield Refused(147, rows.lines.place(f'there is no key {key}{near(key, CHECK_KEYS)}',
+                                                CHECK, CHECK, 0, 1, key))
+    for key in CHECK_KEYS:
+        if not isinstance(table.get(key, False), bool):
+            yield Refused(149, rows.lines.place(f'{key} must be true or false', CHECK, CHECK, 0, 1,
+                                                key))
 
 
 # ---- a table by itself
@@ -127,7 +148,7 @@ def bad_values(rows: Rows) -> Iterator[Refused]:
 
 def wrong_value(section: str, key: str, value: Any) -> str:
     """What is wrong with the value at a key, in words; nothing if it may be there."""
-    if key in ('source', 'isolates'):
+    if key in ('source', 'isolates', 'coupler'):
         return '' if isinstance(value, bool) else f'{key} must be true or false'
     if key == 'nodes':
         is_pair = isinstance(value, list) and [type(it) for it in value] == [str, str]
@@ -173,7 +194,8 @@ def unknown_names(rows: Rows) -> Iterator[Refused]:
             section == 'node') else [
             *(('nodes', name, nodes, 'node') for name in row['nodes']),
             ('switch', row.get('switch'), ids, 'switch of the bay file'),
-            *((key, row.get(key), inputs, 'input of the bay file') for key in ('closed', 'open'))]
+            *((key, row.get(key), inputs, 'input of the bay file')
+              for key in ('closed', 'open', 'synchro'))]
         for key, name, known, what in named:
             if name is not None and raised(name) not in map(raised, known):
                 yield rows.refused(152, section, index,
@@ -210,6 +232,16 @@ def bad_keys(rows: Rows) -> Iterator[Refused]:
         elif raised(row['name']) in rows.bay:
             yield rows.refused(154, 'between', index, f'{row["name"]} is a switch of this bay',
                                'name', 'write switch in place of name')
+        yield from breaker_keys(rows, index, row)
+
+
+def breaker_keys(rows: Rows, index: int, row: dict[str, Any]) -> Iterator[Refused]:
+    """The keys of a breaker of the bay at a switch that is none."""
+    kind = rows.bay[raised(row['switch'])]['kind'] if 'switch' in row else ''
+    for key in OF_BREAKERS:
+        if row.get(key) not in (None, False) and kind != BREAKER:
+            yield rows.refused(154, 'between', index, f'{key} is a key of breakers of the bay', key,
+                               'leave it out')
 
 
 def bad_nodes(rows: Rows) -> Iterator[Refused]:

@@ -20,7 +20,18 @@
     open = "CA1_OPEN"
     nodes = ["BB1", "BB2"]
 
-A breaker with `isolates = true` keeps apart like a disconnector (IEC 62271-108)."""
+A breaker with `isolates = true` keeps apart like a disconnector (IEC 62271-108).
+
+These keys add hazards, which `bayctl audit --diagram` judges. No rule is derived from them:
+
+    [check]
+    live_parts = true           # a breaker closes between two live parts
+    fed_earths = true           # an earthing switch opens while a source may feed it
+    [[between]]
+    switch = "QA1"
+    synchro = "QA1_SYNC"        # an input that is TRUE only while it may close between live parts
+    coupler = true              # it may not open while disconnectors alone bridge it
+    nodes = ["BB1", "BB2"]"""
 import difflib
 import re
 import tomllib
@@ -34,8 +45,9 @@ from .network import (BREAKER, DISCONNECTOR, EARTH, EARTHING, JUNCTION, KINDS, N
 NAME = '[A-Za-z][A-Za-z0-9_]{0,31}'
 NODE_KEYS = {'name': str, 'kind': str, 'source': bool, 'system': str, 'dead': str}
 SWITCH_KEYS = {'switch': str, 'name': str, 'kind': str, 'nodes': list, 'closed': str, 'open': str,
-               'isolates': bool}
-TABLES = {'node': NODE_KEYS, 'between': SWITCH_KEYS}
+               'isolates': bool, 'synchro': str, 'coupler': bool}
+CHECK_KEYS = {'live_parts': bool, 'fed_earths': bool}
+TABLES = {'node': NODE_KEYS, 'between': SWITCH_KEYS, 'check': CHECK_KEYS}
 CALLED = {str: 'a text', bool: 'true or false', list: 'a list of two names of nodes'}
 
 
@@ -74,24 +86,32 @@ class Reader:
         for name, rows in tables.items():
             if name not in TABLES:
                 raise self.wrong(name, f'there is no such table: {meant(name, list(TABLES))}')
-            if not isinstance(rows, list) or not all(isinstance(row, dict) for row in rows):
+            if name == 'check':
+                if not isinstance(rows, dict):
+                    raise self.wrong(name, 'it must be a table: write [check]')
+                self.has_known_keys(name, 'check', rows)
+            elif not isinstance(rows, list) or not all(isinstance(row, dict) for row in rows):
                 raise self.wrong(name, f'it must be a list of tables: write [[{name}]]')
         for number, row in enumerate(tables.get('node', []), 1):
             self.node(self.checked('node', number, row), row)
         for number, row in enumerate(tables.get('between', []), 1):
             self.between(self.checked('between', number, row), row)
-        return self.network()
+        return self.network(tables.get('check', {}))
 
     def checked(self, table: str, number: int, row: dict) -> str:
         """The place of a row whose keys are known and of their types."""
         called = row.get('name', row.get('switch'))
         place = f'{table} {number}' + (f' ({called})' if isinstance(called, str) else '')
+        self.has_known_keys(place, table, row)
+        return place
+
+    def has_known_keys(self, place: str, table: str, row: dict) -> None:
+        """Refuses a key that is unknown or whose value has another type."""
         for key, value in row.items():
             if key not in TABLES[table]:
                 raise self.wrong(place, f'there is no key {key}: {meant(key, list(TABLES[table]))}')
             if not isinstance(value, TABLES[table][key]):
                 raise self.wrong(place, f'{key} must be {CALLED[TABLES[table][key]]}')
-        return place
 
     def needed(self, place: str, row: dict, key: str) -> str:
         if key not in row:
@@ -157,6 +177,9 @@ class Reader:
             switch = self.others_switch(place, row, ends)
         self.named(place, switch.name, taken)
         self.fits(place, switch)
+        for key in ('synchro', 'coupler'):
+            if row.get(key) not in (None, False) and not (switch.is_own and switch.kind == BREAKER):
+                raise self.wrong(place, f'{key} is a key of breakers of the bay: leave it out')
         self.switches.append(switch)
 
     def own_switch(self, place: str, row: dict, ends: tuple[str, str]) -> Switch:
@@ -173,7 +196,8 @@ class Reader:
             raise self.wrong(place, 'the bay file has another kind than breaker, disconnector or '
                              'earthing; tools/diagnose tells')
         return Switch(own['id'], own['kind'], ends, isolates=row.get('isolates', False)
-                      or own['kind'] == DISCONNECTOR)
+                      or own['kind'] == DISCONNECTOR, synchro=self.input(place, row, 'synchro'),
+                      is_coupler=row.get('coupler', False))
 
     def others_switch(self, place: str, row: dict, ends: tuple[str, str]) -> Switch:
         kind = self.needed(place, row, 'kind')
@@ -198,7 +222,7 @@ class Reader:
         if switch.isolates and switch.kind == EARTHING:
             raise self.wrong(place, 'an earthing switch does not isolate: leave isolates out')
 
-    def network(self) -> Network:
+    def network(self, check: dict) -> Network:
         """What was read, if it is whole."""
         there = {raised(it.name) for it in self.switches}
         for own, row in self.own.items():
@@ -216,7 +240,8 @@ class Reader:
         if not any(it.is_source for it in self.nodes.values()):
             raise self.wrong('[[node]]', 'no node is a source: add source = true to each node that '
                              'can be live from outside')
-        return Network(self.title, self.nodes, self.switches)
+        return Network(self.title, self.nodes, self.switches, check.get('live_parts', False),
+                       check.get('fed_earths', False))
 
 
 def read_diagram(text: str, title: str, bay: dict) -> Network:
@@ -231,7 +256,9 @@ def diagram_at(path, bay: dict) -> Network:
 
 def written(network: Network) -> str:
     """A diagram as a file."""
-    lines = []
+    asked = [f'{key} = true' for key, is_asked in (
+        ('live_parts', network.live_parts), ('fed_earths', network.fed_earths)) if is_asked]
+    lines = ['[check]', *asked, ''] if asked else []
     for node in network.nodes.values():
         lines += ['[[node]]', f'name = "{node.name}"', f'kind = "{node.kind}"']
         lines += ['source = true'] * node.is_source
@@ -246,5 +273,7 @@ def written(network: Network) -> str:
             lines += [f'{key} = "{value}"' for key, value in (
                 ('closed', switch.closed), ('open', switch.opened)) if value]
         lines += ['isolates = true'] * (switch.isolates and switch.kind == BREAKER)
+        lines += [f'synchro = "{switch.synchro}"'] * bool(switch.synchro)
+        lines += ['coupler = true'] * switch.is_coupler
         lines += [f'nodes = ["{switch.nodes[0]}", "{switch.nodes[1]}"]', '']
     return '\n'.join(lines)

@@ -54,7 +54,8 @@ class Switch:
     """A switch between two nodes: one of the bay, known by its positions, or one of another bay,
     known by the inputs that are TRUE while it is closed and while it is open; where both are, it is
     not known. `isolates` is whether it keeps apart what it parts while it is open, as each
-    disconnector does."""
+    disconnector does. `synchro` is an input that is TRUE only while it may close between two live
+    parts, `is_coupler` whether it may not open while disconnectors alone bridge it."""
     name: str
     kind: str
     nodes: tuple[str, str]
@@ -62,6 +63,8 @@ class Switch:
     closed: str = ''
     opened: str = ''
     isolates: bool = False
+    synchro: str = ''
+    is_coupler: bool = False
 
     def not_open(self) -> tuple['Part', ...]:
         """What holds unless it is known to be open; nothing where that is never known."""
@@ -97,10 +100,13 @@ class Switch:
 
 @dataclass
 class Network:
-    """A diagram; `title` is what it is called where it is told of."""
+    """A diagram; `title` is what it is called where it is told of. `live_parts` and `fed_earths` are
+    the hazards for which it asks."""
     title: str
     nodes: dict[str, Node]
     switches: list[Switch]
+    live_parts: bool = False
+    fed_earths: bool = False
     at: dict[str, list[Switch]] = field(init=False)
 
     def __post_init__(self) -> None:
@@ -111,6 +117,11 @@ class Network:
 
     def is_earth(self, name: str) -> bool:
         return self.kind(name) == EARTH
+
+    def asks_for_more(self) -> bool:
+        """Whether a key asks for hazards that count in no other diagram."""
+        return self.live_parts or self.fed_earths or any(
+            it.synchro or it.is_coupler for it in self.switches)
 
     def sources(self) -> list[Node]:
         return [it for it in self.nodes.values() if it.is_source]
