@@ -13,6 +13,10 @@ import sys
 import tempfile
 import time
 from collections.abc import Callable, Iterator
+from typing import TYPE_CHECKING
+
+if TYPE_CHECKING:
+    from baytools.wire.client import Client
 
 TOP = pathlib.Path(__file__).resolve().parent.parent
 CRATES, EXAMPLES = TOP / 'crates', TOP / 'examples'
@@ -128,6 +132,37 @@ def instructions(words: list, given: str, *more: str) -> tuple[bytes, int]:
     with open(given, 'rb') as source:
         done = subprocess.run([*count, *words], stdin=source, capture_output=True, check=True)
     return done.stdout, int(re.search(rb'Collected : (\d+)', done.stderr)[1])
+
+
+def serving(words: list, turns: int, names: list[str], reads: int) -> int:
+    """The instructions that callgrind counts of a server of this many turns, and of a client's
+    reads of these names within them."""
+    port = free_port()
+    with tempfile.TemporaryFile() as log:
+        count = ['valgrind', '--tool=callgrind', '--callgrind-out-file=/dev/null', PROGRAM, 'serve',
+                 *words, '--port', str(port), '--turns', str(turns)]
+        with started(count, stdout=subprocess.DEVNULL, stderr=log) as child:
+            if reads:
+                client = connected(port)
+                for _ in range(reads):
+                    client.read(names)
+                client.close()
+            child.wait()
+        log.seek(0)
+        found = re.search(rb'Collected : (\d+)', log.read())
+        return int(found[1]) if found else sys.exit('nothing is counted')
+
+
+def connected(port: int) -> 'Client':
+    """A client, once the server is there, which takes seconds under valgrind."""
+    from baytools.wire.client import Client
+    for _ in range(1_000):
+        try:
+            socket.create_connection(('127.0.0.1', port)).close()
+            return Client('127.0.0.1', port, timeout=60)
+        except ConnectionRefusedError:
+            time.sleep(0.1)
+    sys.exit(f'nothing listens on port {port}')
 
 
 @contextlib.contextmanager
