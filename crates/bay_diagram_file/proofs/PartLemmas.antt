@@ -62,9 +62,9 @@ network-of-document bay (Some file) d h = by_refusal (file_refusal bay file) h
   where
     by_refusal : (refused : Option DiagramFault)
         → unless_refused refused (named_of bay (checks_in file) (node_rows file) (switch_rows file))
-            ≡ Ok d
+        ≡ Ok d
         → unless_refused refused
-            (network_of_tables bay (checks_in file) (node_rows file) (switch_rows file))
+        (network_of_tables bay (checks_in file) (node_rows file) (switch_rows file))
         ≡ Ok d.network
     by_refusal None h =
         ap (λ (r : Result Diagram DiagramFault). network_in_result r) h
@@ -81,9 +81,9 @@ fault-of-document bay (Some file) e h = by_refusal (file_refusal bay file) h
   where
     by_refusal : (refused : Option DiagramFault)
         → unless_refused refused (named_of bay (checks_in file) (node_rows file) (switch_rows file))
-            ≡ Err e
+        ≡ Err e
         → unless_refused refused
-            (network_of_tables bay (checks_in file) (node_rows file) (switch_rows file)) ≡ Err e
+        (network_of_tables bay (checks_in file) (node_rows file) (switch_rows file)) ≡ Err e
     by_refusal None h = absurd cc
     by_refusal (Some fault) h = cc h
 

@@ -37,10 +37,10 @@ returns-in-Breaks c =
     let r = reading_in c.args.known.now in
     let s = c.args.switch.now in
     shown-at net r s c.args.operation Breaks c.in-Some.kind
-        (breaks_from net r s s.one s.other || breaks_from net r s s.other s.one)
+    (breaks_from net r s s.one s.other || breaks_from net r s s.other s.one)
     c.in-Some.ensures c.in-Breaks.is
-        (λ h. (and_parts (breaks_from net r s s.one s.other || breaks_from net r s s.other s.one) _
-        h).0) c.show_breaks.result c.show_breaks.ensures
+    (λ h. (and_parts (breaks_from net r s s.one s.other || breaks_from net r s s.other s.one) _
+    h).0) c.show_breaks.result c.show_breaks.ensures
 
 pub returns-in-Makes : goal.returns-in-Makes
 returns-in-Makes c =
@@ -67,7 +67,7 @@ returns-in-Joins c =
     c.in-Some.ensures c.in-Joins.is (λ h. (and_parts (joins_live net r s) _
     (and_parts (r.may_be_false s.synchro) _
     (and_parts (net.checks.live_parts || is_some s.synchro) _ h).1).1).0) c.show_join.result
-        c.show_join.ensures
+    c.show_join.ensures
 
 pub returns-in-Uncouples : goal.returns-in-Uncouples
 returns-in-Uncouples c =
@@ -75,9 +75,9 @@ returns-in-Uncouples c =
     let r = reading_in c.args.known.now in
     let s = c.args.switch.now in
     shown-at net r s c.args.operation Uncouples c.in-Some.kind
-        (leads net r (without Disconnectors s avoid.Nothing) s.one s.other)
+    (leads net r (without Disconnectors s avoid.Nothing) s.one s.other)
     c.in-Some.ensures c.in-Uncouples.is (λ h. (and_parts s.is_coupler _ h).1) c.show_bypass.result
-        c.show_bypass.ensures
+    c.show_bypass.ensures
 
 pub returns-in-Unearths : goal.returns-in-Unearths
 returns-in-Unearths c =
@@ -85,6 +85,6 @@ returns-in-Unearths c =
     let r = reading_in c.args.known.now in
     let s = c.args.switch.now in
     shown-at net r s c.args.operation Unearths c.in-Some.kind
-        (reaches net r s (without Possible s avoid.Nothing) s.one Separable)
+    (reaches net r s (without Possible s avoid.Nothing) s.one Separable)
     c.in-Some.ensures c.in-Unearths.is (λ h. (and_parts net.checks.fed_earths _ h).1)
-        c.show_source.result c.show_source.ensures
+    c.show_source.result c.show_source.ensures
