@@ -208,7 +208,7 @@ makes_any net r s = list_any (λ d. is_exposed net r s d && makes_current net r 
 abbrev pub leaves_any : Network → Reading → Branch → Bool
 leaves_any net r s = list_any (λ d. is_exposed net r s d && leaves_current net r s d) net.branches
 
--- ---- Y, T, L: hazards that count only if a key of the diagram asks for them
+-- ---- Y, T, L: hazards that count only if a key of the diagram selects them
 
 -- walks lead from the one side of s to a live source, and from the other side to a live source;
 -- neither source is known to be dead

@@ -507,7 +507,7 @@ fn joins_live(network: &Network, known: &Known, switch: &Branch) -> bool
 }
 
 // Returns whether a breaker would join two live parts that are not surely joined, and its input of
-// a synchrocheck may be FALSE; FALSE if nothing asks for this.
+// a synchrocheck may be FALSE; FALSE if no key selects this.
 pub(crate) fn joins_parts(network: &Network, known: &Known, switch: &Branch) -> bool
     ensures { result ≡ spec.joins_parts network.now (reading_in known.now) switch.now }
 {
@@ -525,8 +525,8 @@ pub(crate) fn uncouples(network: &Network, known: &Known, switch: &Branch) -> bo
     switch.is_coupler && leads(network, known, route, switch.one, switch.other)
 }
 
-// Returns whether an earthing switch would open while a source may feed it; FALSE if nothing asks
-// for this.
+// Returns whether an earthing switch would open while a source may feed it; FALSE if no key
+// selects this.
 pub(crate) fn unearths(network: &Network, known: &Known, switch: &Branch) -> bool
     ensures { result ≡ spec.unearths network.now (reading_in known.now) switch.now }
 {

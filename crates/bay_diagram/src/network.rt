@@ -15,7 +15,7 @@ pub struct Network {
     pub checks: Checks,
 }
 
-/// The hazards that count only in a diagram that asks for them.
+/// The hazards that count only in a diagram that selects them.
 #[derive(Clone, Copy)]
 pub struct Checks {
     /// Each breaker of the bay that closes between two live parts, which are not surely joined.
@@ -61,7 +61,7 @@ pub struct Branch {
     /// disconnecting circuit breaker is (IEC 62271-108).
     pub isolates: bool,
     /// The index of an input that is TRUE only while the breaker may close between two live parts.
-    /// Such a breaker may not do so otherwise, whether or not the diagram asks for this.
+    /// Such a breaker may not do so otherwise, whether or not the diagram selects this.
     pub synchro: Option<usize>,
     /// It is a coupler, which may not open while disconnectors alone bridge it.
     pub is_coupler: bool,

@@ -82,11 +82,11 @@ sections_refusal file =
 
 -- ---- the diagram
 
--- no hazard that counts only if a diagram asks for it
+-- no hazard that counts only if a diagram selects it
 abbrev pub no_checks : Checks
 no_checks = record { live_parts = false; fed_earths = false }
 
--- the hazards for which the table `check` asks
+-- the hazards that the table `check` selects
 abbrev pub checks_of_table : Option Members → Checks
 checks_of_table None = no_checks
 checks_of_table (Some table) = record {
@@ -94,12 +94,12 @@ checks_of_table (Some table) = record {
   fed_earths = truth_in table (codes "fed_earths");
 }
 
--- the hazards for which the section `check` asks
+-- the hazards that the section `check` selects
 abbrev pub checks_of : Option Data → Checks
 checks_of None = no_checks
 checks_of (Some d) = checks_of_table (as_table d)
 
--- the hazards for which a file asks
+-- the hazards that a file selects
 abbrev pub checks_in : Members → Checks
 checks_in file = checks_of (get_member (codes "check") file)
 

@@ -1,4 +1,4 @@
-// Reads the section `check`: the hazards that count only if a diagram asks for them.
+// Reads the section `check`: the hazards that count only if a diagram selects them.
 ghost use Rattle.std.specs.Prelude.{◌≡◌, codes};
 ghost use Rattle.toml.specs.Data.{as_table, get_member};
 ghost use Rattle.toml.specs.View.{table_view, view};
@@ -59,7 +59,7 @@ pub fn check_refusal(file: &Table) -> Option<DiagramFault>
     }
 }
 
-// Returns the hazards for which a value asks; none if it is no table.
+// Returns the hazards that a value selects; none if it is no table.
 fn checks_of(value: &Value) -> Checks
     ensures { result ≡ spec.checks_of_table (as_table (view value.now)) }
 {
@@ -75,7 +75,7 @@ fn checks_of(value: &Value) -> Checks
     }
 }
 
-/// Returns the hazards for which a file asks.
+/// Returns the hazards that a file selects.
 pub fn checks_in(file: &Table) -> Checks
     ensures { result ≡ spec.checks_in (table_view file.now) }
 {

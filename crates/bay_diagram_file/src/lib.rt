@@ -6,7 +6,7 @@
 // - `keys`: the value at a key of a table.
 // - `row`: a table of the sections `node` and `between`; `node_row` and `switch_row` read them.
 // - `checks`: what a diagram must be, table by table and as a whole.
-// - `check`: the section `check`, the hazards that count only if a diagram asks for them.
+// - `check`: the section `check`, the hazards that count only if a diagram selects them.
 // - `network`: the nodes, the branches and the names that the tables describe; `diagram` has their
 //   type.
 // - `read`: `diagram_in` and `read_diagram`, which read all of them.

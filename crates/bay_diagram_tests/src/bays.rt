@@ -1,7 +1,7 @@
 // Two bays of examples/07_diagrams: the texts of their bay files, diagrams and programs, and
 // mistakes of one line in the programs. A program of its own in Python went through all states of
 // each bay, and found the releases in which a mistake is a hazard; none comes from
-// bay_audit_hazards. And a bay with a coupler, whose diagram asks for further hazards: a person
+// bay_audit_hazards. And a bay with a coupler, whose diagram selects further hazards: a person
 // found its releases by the definitions.
 
 /// A bay, its diagram, and its program.
@@ -447,7 +447,7 @@ const ASKED_FAULTS: [Fault; 4] = [
     },
 ];
 
-/// A bay whose diagram asks for further hazards.
+/// A bay whose diagram selects further hazards.
 pub const ASKED: Texts = Texts {
     bay: ASKED_BAY,
     diagram: ASKED_DIAGRAM,

@@ -5,7 +5,7 @@ use bay_diagram::network::{Branch, Checks, Device, Network, Node, NodeKind};
 use bay_diagram::reading::{Bound, InputSet, Known, PositionSet};
 use std::alloc::{AllocError, Global};
 
-// A diagram that asks for no further hazards.
+// A diagram that selects no further hazards.
 const NO_CHECKS: Checks = Checks {
     live_parts: false,
     fed_earths: false,

@@ -1,4 +1,4 @@
-// Hazards in words: states of the line bay and of a bay whose diagram asks for further hazards, the
+// Hazards in words: states of the line bay and of a bay whose diagram selects further hazards, the
 // hazard that an operation is there, and the walks that show it. A person found the words by the
 // definitions.
 use crate::bays::{ASKED, LINE, Texts};

@@ -15,6 +15,7 @@ abbrev pub followed : ℕ → (ℕ → Option ℕ) → Option ℕ → Option ℕ
 followed n f None = Some n
 followed n f (Some m) = f m
 
+-- the number that the digits at the beginning write behind those of a number
 abbrev pub leading : ℕ → List ℕ → Option ℕ
 leading n [] = None
 leading n (c ∷ cs) = followed n (λ m. leading m cs) (with_digit n c)

@@ -100,8 +100,8 @@ class Switch:
 
 @dataclass
 class Network:
-    """A diagram; `title` is what it is called where it is told of. `live_parts` and `fed_earths` are
-    the hazards for which it asks."""
+    """A diagram. `title` is its name in messages. `live_parts` and `fed_earths` say which further
+    hazards it selects."""
     title: str
     nodes: dict[str, Node]
     switches: list[Switch]
