@@ -28,7 +28,7 @@ loop-preserved c =
           let is = sym (ap (λ v. v.items) w.left-is) in (
             subst (IsMetOutside g d) is
                 (left-without g d c.pop.new.self.items c.in-Some.case left
-                (subst (IsVerdict g d c.in-Some.case) w.in-Obeyed.is c.in_ok-verdict.ensures)),
+                (subst (IsVerdict g d c.in-Some.case) w.in-Obeyed.is c.in_ok-find_verdict.ensures)),
             subst (All HasProcess) is full.0,
           )
       | in-Split+in_ok-split-in-Split w ↦
@@ -60,7 +60,7 @@ returns-then-is_empty c =
 pub returns-in-Broken : goal.returns-in-Broken
 returns-in-Broken c = (
   subst (IsVerdict c.args.program.now c.args.demand.now c.in-Some.case) c.in-Broken.is
-      c.in_ok-verdict.ensures,
+      c.in_ok-find_verdict.ensures,
   (full-last c.pop.new.self.items c.in-Some.case
       (subst (All HasProcess) c.in-Some.ensures.items c.loop.invariant.1)).1,
 )

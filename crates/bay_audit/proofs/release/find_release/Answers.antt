@@ -49,9 +49,9 @@ loop-preserved c =
                 (told-more g k operation c.loop.cases.items
                 (record { case = case; release = w.in-Ok.release })
                 c.loop.invariant.release
-                (verdict-told g k operation case c.in_ok-verdict.field-0 w.in-Ok.release
-                (subst (λ (d : Demand). IsVerdict g d case c.in_ok-verdict.field-0)
-                c.in_ok-demand.ensures c.in_ok-verdict.ensures) w.in-Ok.ensures));
+                (verdict-told g k operation case c.in_ok-find_verdict.field-0 w.in-Ok.release
+                (subst (λ (d : Demand). IsVerdict g d case c.in_ok-find_verdict.field-0)
+                c.in_ok-demand.ensures c.in_ok-find_verdict.ensures) w.in-Ok.ensures));
             full = subst (All (λ (d : ReportedCase). HasProcess d.case)) (sym cases)
                 (told-full c.loop.cases.items (record { case = case; release = w.in-Ok.release })
                 c.loop.invariant.full full.1);

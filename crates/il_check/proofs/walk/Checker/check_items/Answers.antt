@@ -15,10 +15,10 @@ loop-item-preserved c =
     c.loop-item.walk c.clear_if_faulty.new.self (omega arith) c.item-item.is
     c.loop-item.invariant
     (record {
-      progress = c.clear_if_faulty.ensures.progress ∙ c.in_ok-item.ensures.progress;
+      progress = c.clear_if_faulty.ensures.progress ∙ c.in_ok-check_item.ensures.progress;
       left = λ none. ap (λ kept. map item_view kept.items) (c.clear_if_faulty.ensures.items none)
-          ∙ c.in_ok-item.ensures.items;
-      found = c.in_ok-item.ensures.found;
+          ∙ c.in_ok-check_item.ensures.items;
+      found = c.in_ok-check_item.ensures.found;
     })
 
 pub loop-item-init : goal.loop-item-init
