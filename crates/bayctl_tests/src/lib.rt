@@ -7,6 +7,7 @@
 // - `replay`: readers and writers that transfer a few octets at a time, and that fail.
 // - `output`: output whose readers read nothing for a while.
 // - `memory_link`: clients in memory.
+// - `memory_host`: a host in memory, with its files, ports and clocks.
 // - `turns`: turns of a server over these clients, with calls that fail.
 // - `serve`: a command over links, a host and files in memory, and what it prints, logs and sends
 //   to the process.
@@ -19,6 +20,8 @@
 mod device;
 #[cfg(test)]
 mod image;
+#[cfg(test)]
+mod memory_host;
 #[cfg(test)]
 mod memory_link;
 #[cfg(test)]

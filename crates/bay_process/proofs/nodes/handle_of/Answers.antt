@@ -7,4 +7,4 @@ unreachable-requires c =
     c.requires
     (lacking-leaf c.args.tree.now c.args.name.now
     (c.find.ensures.unknown.0
-    (c.find.ensures.index ∙ refused-so _ _ _ (rw c.find.ensures.index at c.in-Err.is))))
+    (c.find.ensures.place ∙ refused-so _ _ _ (rw c.find.ensures.place at c.in-Err.is))))
