@@ -42,6 +42,11 @@ abbrev pub moving_text : Diagram → List ℕ → Option ℕ → List ℕ
 moving_text diagram effect other =
     effect ++ (other_text diagram other ++ codes ", which may be on its way")
 
+-- the operation would open an earth that a source may feed
+abbrev pub fed_earth_text : Diagram → ℕ → List ℕ
+fed_earth_text diagram source =
+    codes "opens an earth that " ++ (name_at diagram.nodes source ++ codes " may feed")
+
 -- what the operation would do
 abbrev pub effect_text : Diagram → ShownHazard → HazardKind → List ℕ
 effect_text diagram shown Earths =
@@ -55,8 +60,7 @@ effect_text diagram shown Leaves =
     moving_text diagram (codes "leaves a current to ") shown.other
 effect_text diagram shown Joins = codes "joins two live parts that may be out of phase"
 effect_text diagram shown Uncouples = codes "leaves disconnectors alone to join its two sides"
-effect_text diagram shown Unearths =
-    codes "opens an earth that " ++ (name_at diagram.nodes shown.walk.start ++ codes " may feed")
+effect_text diagram shown Unearths = fed_earth_text diagram shown.walk.start
 
 -- the hazard: what the operation would do, and the walks that show it
 abbrev pub hazard_text : Diagram → ShownHazard → List ℕ

@@ -107,6 +107,16 @@ fn put_moving(
     text.extend_from_slice(b", which may be on its way")
 }
 
+// Adds that the operation would open an earth, and the source that may feed it.
+fn put_fed_earth(text: &mut Vec<u8>, diagram: &Diagram, source: usize) -> Result<(), AllocError>
+    ensures { OnOk result
+        (text.new.items ≡ text.old.items ++ spec.fed_earth_text diagram.now source) }
+{
+    text.extend_from_slice(b"opens an earth that ")?;
+    put_name(text, &diagram.nodes, source)?;
+    text.extend_from_slice(b" may feed")
+}
+
 // Adds what the operation would do.
 fn put_effect(text: &mut Vec<u8>, diagram: &Diagram, shown: &ShownHazard) -> Result<(), AllocError>
     ensures { OnOk result (text.new.items
@@ -133,11 +143,7 @@ fn put_effect(text: &mut Vec<u8>, diagram: &Diagram, shown: &ShownHazard) -> Res
         HazardKind::Uncouples => {
             text.extend_from_slice(b"leaves disconnectors alone to join its two sides")
         }
-        HazardKind::Unearths => {
-            text.extend_from_slice(b"opens an earth that ")?;
-            put_name(text, &diagram.nodes, start)?;
-            text.extend_from_slice(b" may feed")
-        }
+        HazardKind::Unearths => put_fed_earth(text, diagram, start),
     }
 }
 
