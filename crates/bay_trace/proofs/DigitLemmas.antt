@@ -99,7 +99,8 @@ octets-known word e = by-octets (octets_of word) refl
     by-octets (Some octets) is = is ∙ ap Some (sym (ap (λ o. unwrap_or o []) is))
 
 -- what digits that encode octets are decoded to
-pub known-decode : (word octets : List ℕ) → octets_of word ≡ Some octets → decode_of word ≡ Ok octets
+pub known-decode : (word octets : List ℕ) → octets_of word ≡ Some octets
+    → decode_of word ≡ Ok octets
 known-decode [] octets e = absurd cc
 known-decode (b ∷ bs) octets e = some-ok (decode_of (b ∷ bs)) octets e
 

@@ -45,8 +45,8 @@ impl<'a> Digits<'a> {
     }
 }
 
-// Returns the value of a hexadecimal digit, without a branch: a letter of either case is 64 or more,
-// and its last four bits are its value less 9.
+// Returns the value of a hexadecimal digit, without a branch: a letter of either case is 64 or
+// more, and its last four bits are its value less 9.
 #[inline(always)]
 fn digit_value(digit: u8) -> u8
     requires { is_hex_digit digit ≡ true }
