@@ -131,7 +131,7 @@ class Bay:
             seen.ends.append((number, one.id, run.on, cause))
 
     def do_contact(self, now: int, seen: Seen, switch: int, position: int) -> None:
-        self.hears()
+        self.receive()
         self.put(switch, position)
         run = self.execution
         if run and run.switch == switch and position == (CLOSED if run.on else OPEN):
@@ -143,7 +143,7 @@ class Bay:
         self.positions[switch] = found
 
     def do_input(self, now: int, seen: Seen, name: str, value: bool) -> None:
-        self.hears()
+        self.receive()
         self.is_changed |= self.inputs[name] != value
         self.inputs[name] = self.reported[name] = value
         run = self.execution
@@ -151,7 +151,7 @@ class Bay:
                 self.switches[run.switch].key == name):
             self.execution = None
 
-    def hears(self) -> None:
+    def receive(self) -> None:
         self.is_lost = False
 
     def do_lost(self, now: int, seen: Seen) -> None:

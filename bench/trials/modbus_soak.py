@@ -279,7 +279,7 @@ def around(soak: Soak, moment: int) -> list[str]:
             *(f'{at} {text}' for at, text in said if moment - before <= at <= moment + behind)]
 
 
-def told(soak: Soak) -> tuple[list[str], bool]:
+def summary_of(soak: Soak) -> tuple[list[str], bool]:
     """What a soak comes to, and whether nothing was that must never be."""
     rig = soak.rig
     both, excused = [], 0

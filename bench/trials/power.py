@@ -219,7 +219,7 @@ class Wired(Played):
         self.parts = [driver, self.module]
 
 
-class Asking:
+class Requester:
     """A client of a server that may be gone, which connects anew where it has to."""
 
     def __init__(self, port: int, text: str) -> None:
@@ -232,7 +232,7 @@ class Asking:
             self.client.socket.close()
         self.client = None
 
-    def asks(self, act: Callable[[Client], object]) -> object:
+    def request(self, act: Callable[[Client], object]) -> object:
         """What the client is answered, or None where it isn't."""
         try:
             if self.client is None:
@@ -251,7 +251,7 @@ class Asking:
             return {name: OF_BITS[part[0].value] if part[1].value[:2] == '00' else 'bad'
                     for name, part in zip(FIRST, parts)}
 
-        found = self.asks(read)
+        found = self.request(read)
         return found if isinstance(found, dict) else None
 
     def operate(self, way: str) -> bool:
@@ -261,7 +261,7 @@ class Asking:
             return control.select(way == 'close').is_good and control.operate(
                 way == 'close').is_good
 
-        return bool(self.asks(act))
+        return bool(self.request(act))
 
     def is_right(self, gear: Gear) -> bool:
         """Whether the client reads where the switches are, and none moves."""

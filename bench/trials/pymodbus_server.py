@@ -41,7 +41,7 @@ class Handler(async_io.ModbusConnectedRequestHandler):
     def execute(self, request, *address) -> None:
         faulty = self.faulty
         later = faulty.delay
-        faulty.hears()
+        faulty.on_request()
         if faulty.exception:
             answer = ExceptionResponse(request.function_code, faulty.exception)
             answer.transaction_id, answer.unit_id = request.transaction_id, request.unit_id

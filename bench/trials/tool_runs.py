@@ -117,7 +117,7 @@ class Trial:
             (folder / name).write_bytes(octets)
         (folder / 'told').write_text(' '.join(map(str, words)) + '\n' + told, encoding='utf-8')
 
-    def told(self) -> None:
+    def print_result(self) -> None:
         """Prints what was seen, and what was wrong."""
         print(f'{self.runs} runs, the slowest {self.slowest:.1f} s; '
               f'{sum(self.wrong.values())} wrong {dict(self.wrong)}')

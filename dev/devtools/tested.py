@@ -100,7 +100,7 @@ def checked(program: pathlib.Path, body: Body, folder: pathlib.Path) -> str:
     checks = loaded('check').Checks(program.resolve(), folder)
     importlib.import_module('devtools.check.supervision').write_files(checks)
     with contextlib.redirect_stdout(io.StringIO()) as printed:
-        checks.goes(part_of(body.part))
+        checks.run_part(part_of(body.part))
     return printed.getvalue()
 
 

@@ -77,7 +77,7 @@ class Stamps(unittest.TestCase):
         figures = stamps.figures_in('page', PAGE)[1]
         for files, told in ((0, 'as new as'), (3, 'older than 3 of'), (None, 'unknown, for want')):
             with mock.patch.object(stamps, 'changed_since', return_value=files):
-                self.assertIn(told, stamps.told_of(figures))
+                self.assertIn(told, stamps.figures_text(figures))
         self.assertIsNone(stamps.changed_since('0' * 40, ('crates',)))
 
     def test_what_a_command_measures(self):

@@ -264,10 +264,10 @@ class Changed(Tools):
         self.addCleanup(changed.outcomes.cache_clear)
 
     def test_at_a_definition(self):
-        self.assertEqual(changed.told_of('low.X.f'), '<p class="quiet">Changed in 3 ways: 1 breaks '
-                         'a law, 1 breaks the code or a lemma, 1 breaks nothing that was looked at '
-                         '(a_law).</p>')
-        self.assertEqual(changed.told_of('low.X.g'), '')
+        self.assertEqual(changed.tried_text('low.X.f'), '<p class="quiet">Changed in 3 ways: 1 '
+                         'breaks a law, 1 breaks the code or a lemma, 1 breaks nothing that was '
+                         'looked at (a_law).</p>')
+        self.assertEqual(changed.tried_text('low.X.g'), '')
 
     def test_what_breaks_no_law(self):
         found = changed.held_by_no_law()

@@ -14,7 +14,7 @@ from devtools.trace import refusals
 from devtools.trace.calls import calls_of
 from devtools.trace.edits import edits_of, is_refused_at
 from devtools.trace.promises import borne_by, promises
-from devtools.trace.refusals import TRIED, Refusal, answers_in, completed, kept, marked
+from devtools.trace.refusals import TRIED, Refusal, answers_in, completed, marked, read_table
 from devtools.trace.trace_page import breaks
 from tests.tool import Tools
 
@@ -177,13 +177,13 @@ class Answers(unittest.TestCase):
     def test_a_caveat_is_shown_and_counts_for_no_clause(self) -> None:
         edit = edits_of('bay_device')[0]
         told = Refusal('Device::step', 'steps', 'error: a goal', 'c0ffee', '2026-11-29', 'only so')
-        with mock.patch.object(refusals, 'kept', lambda: {edit.key: told}):
+        with mock.patch.object(refusals, 'read_table', lambda: {edit.key: told}):
             self.assertEqual(breaks(edit), 'refused, only so (c0ffee): error: a goal')
             self.assertFalse(any(is_refused_at(edit, borne_by(it)) for it in promises()))
 
     def test_the_table_is_of_edits_that_are_there(self) -> None:
         there = {f'{it.parent.parent.name}/{it.stem}' for it in CRATES.glob('*/*/*.edit')}
-        self.assertEqual(set(kept()) - there, set())
+        self.assertEqual(set(read_table()) - there, set())
 
 
 class Edits(unittest.TestCase):

@@ -172,7 +172,7 @@ class Driven(unittest.TestCase):
         self.waits(lambda: all(self.server.last(point) == value
                                for point, value in wanted.items()), wanted)
 
-    def says(self, *told):
+    def wait_for_lines(self, *told):
         for one in told:
             self.waits(lambda: one in self.printed(), one)
 
@@ -194,7 +194,7 @@ class Driven(unittest.TestCase):
     def begins(self, way='on', coil=CLOSE):
         """A pulse has begun, by a command."""
         self.good()
-        self.server.tell(f'command QA1 {way}')
+        self.server.send_lines(f'command QA1 {way}')
         self.waits(lambda: self.module.coils[coil], 'the coil is on')
 
     def is_pulsed_once(self, coil=CLOSE):

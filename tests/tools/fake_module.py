@@ -135,12 +135,12 @@ class FakeServer:
                     connection.sendall(f'{self.now()} alive\n'.encode())
                 time.sleep(MS / 8000)
 
-    def tell(self, *lines, ahead=0):
+    def send_lines(self, *lines, ahead=0):
         """Tells lines, stamped with its time and what is ahead of it."""
         stamp = self.now() + ahead
         self.connection.sendall(''.join(f'{stamp} {line}\n' for line in lines).encode())
 
-    def tell_releases(self, *lines):
+    def send_releases(self, *lines):
         self.connection.sendall(''.join(line + '\n' for line in lines).encode())
 
     def drop(self, connection=None):

@@ -9,7 +9,7 @@ from baytools.audit.page import Report
 from baytools.audit.variables import bay_of, keys_of
 from baytools.bay.rules import (INPUT, MEASURE, SWITCH, BadOption, BadRule, Look, held, looked_at,
                                 read_looks, read_rules, time_of, value_of)
-from baytools.common.ending import CalledWrong
+from baytools.common.ending import UsageError
 from baytools.common.svg import SMALL
 from baytools.report.bayctl import TRY
 from tests.tool import Tools, zone
@@ -254,7 +254,7 @@ class Audits(unittest.TestCase):
 
     def test_a_pause_that_is_too_short(self):
         for pause in (1, 4999, 5000):
-            with self.assertRaisesRegex(CalledWrong, f'--pause {pause}: it must be more than'):
+            with self.assertRaisesRegex(UsageError, f'--pause {pause}: it must be more than'):
                 audited(AFTER, pause=pause)
         self.assertEqual(audited(AFTER, pause=5001).findings[0].verdict(), 'TRIED')
 
@@ -333,7 +333,7 @@ class Audits(unittest.TestCase):
 
     def test_releases_that_no_rule_asks_for(self):
         found = rule_findings.uncovered(audited('never QC1 close when not VT_DEAD\n'))
-        told = {key: (count, it.told()) for key, (count, it) in found.items()}
+        told = {key: (count, it.text()) for key, (count, it) in found.items()}
         self.assertEqual(told, {('QA1', 0): (8, 'always'),
                                 ('QC1', 1): (1, 'QA1 open and VT_DEAD')})
         self.assertEqual(rule_findings.uncovered(audited('always QA1 open\n' + AFTER)), {})
@@ -369,7 +369,7 @@ class Pictures(unittest.TestCase):
 
     def test_heads_of_columns_do_not_touch(self):
         found = audited('always QA1 open')
-        with mock.patch('baytools.audit.matrix.looked_told', lambda column: 'of 99,999,999'):
+        with mock.patch('baytools.audit.matrix.looked_text', lambda column: 'of 99,999,999'):
             drawn = ET.fromstring(matrix.draw(found.bay, found.table))
         heads = [it.get('transform') for it in drawn.iter() if 'rotate' in it.get('transform', '')]
         places = sorted(float(re.search(r'\((\S+)', it)[1]) for it in heads)

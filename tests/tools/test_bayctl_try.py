@@ -118,7 +118,7 @@ class Tried(Tools):
     def test_replays_of_an_audit_are_asked_in_one_go(self):
         parts = [(1, b'a'), (2, b'b')]
         with mock.patch('baytools.report.bayctl.complain'):
-            self.assertEqual(list(replays.asked_ahead(bayctl.TRY, parts)), parts)
+            self.assertEqual(list(replays.replay_ahead(bayctl.TRY, parts)), parts)
         scans = [list(replays.scans_of(bayctl.TRY, octets)) for _, octets in parts]
         self.assertEqual((scans, self.goes()), ([[{'QA1': (False, False)}]] * 2, [2]))
 

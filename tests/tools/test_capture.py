@@ -304,7 +304,7 @@ class Talks(Tools):
     def test_an_invoke_id_that_is_used_twice(self):
         talk = Conversation(Names())
         for name in ('D/A$ST$x', 'D/B$ST$y'):
-            talk.asks_mms(mms.read_request(7, [name]))
+            talk.describe_mms(mms.read_request(7, [name]))
         answer = element(0xA1, number(2, 7), element(0xA4, element(0xA1, number(0x80, 10))))
         self.assertEqual([talk.answers_mms(answer).lines for _ in range(3)],
                          [['A$ST$x = object non-existent (10)'],

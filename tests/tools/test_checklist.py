@@ -7,7 +7,7 @@ import unittest
 from unittest import mock
 
 from baytools.checklist import here, steps, there
-from baytools.checklist.steps import GOOD, OPEN, WRONG, Step, Verdict, seen
+from baytools.checklist.steps import GOOD, OPEN, WRONG, Step, Verdict, check_step
 from baytools.common.ending import Failed
 from tests.tool import Tools
 from tests.tools.loopback import needs_loopback
@@ -83,7 +83,7 @@ class Here(Tools):
                  GOOD, f'SHA-256 {digest}, 10 operations hold'),
                 (f'diagram SHA-256 {"0" * 64}, 9 hold', WRONG, f'{path} HAS ANOTHER SUM'),
                 ('bay SHA-256', OPEN, 'the log has no sum of a diagram')):
-            with mock.patch.object(here, 'asked', return_value=(0, lines)):
+            with mock.patch.object(here, 'run_program', return_value=(0, lines)):
                 found = self.machine.diagram()
                 self.assertEqual(found.state, state)
                 self.assertIn(told, found.told)
@@ -97,11 +97,11 @@ class Here(Tools):
             path.write_text('')
             path.chmod(0o400)
         own = os.stat(self.bay / 'key').st_uid
-        with mock.patch.object(here, 'asked', return_value=(0, 'find: /x: denied')):
+        with mock.patch.object(here, 'run_program', return_value=(0, 'find: /x: denied')):
             self.assertEqual(self.machine.keys().state, GOOD if own else WRONG)
             (self.bay / 'key').chmod(0o440)
             self.assertEqual(self.machine.keys().state, WRONG)
-        with mock.patch.object(here, 'asked', return_value=(0, '/home/x/authority.key')):
+        with mock.patch.object(here, 'run_program', return_value=(0, '/home/x/authority.key')):
             self.assertIn('/home/x/authority.key: the key of an authority',
                           self.machine.keys().told)
 
@@ -109,7 +109,7 @@ class Here(Tools):
         def told(synchronized, date):
             def asked(words, given=b''):
                 return (0, synchronized) if words[0] == 'timedatectl' else (0, f'nextUpdate={date}')
-            with mock.patch.object(here, 'asked', asked):
+            with mock.patch.object(here, 'run_program', asked):
                 return self.machine.clock()
         later = datetime.datetime.now(datetime.UTC) + datetime.timedelta(days=3)
         date = f'{later:%b %d %H:%M:%S %Y} GMT'
@@ -122,10 +122,10 @@ class Here(Tools):
         machine = here.Machine(self.bay, 'rules', 'none', self.process, self.trust)
         for said, state in (('PASSED: all 3 rules are proved.', GOOD),
                             ('PASSED (TRIED, NOT PROVED): all', WRONG), ('NOT PASSED: 1', WRONG)):
-            with mock.patch.object(here, 'asked', return_value=(0, f'PROVED: x\n{said}')):
+            with mock.patch.object(here, 'run_program', return_value=(0, f'PROVED: x\n{said}')):
                 self.assertEqual(machine.audit(), Verdict(state, said))
         for said, state in ((LOG, GOOD), ('  10:24:59.507  operate QA1 open: done', OPEN)):
-            with mock.patch.object(here, 'asked', return_value=(0, said)):
+            with mock.patch.object(here, 'run_program', return_value=(0, said)):
                 self.assertEqual(machine.subject().state, state)
 
     @needs_loopback
@@ -133,9 +133,9 @@ class Here(Tools):
         with socket.create_server(('127.0.0.1', 0)) as server:
             port = server.getsockname()[1]
             (self.bay / 'env').write_text(f'PORT={port}\nPROCESS={port}\n')
-            found = seen(Step('', self.machine.by_others))
+            found = check_step(Step('', self.machine.by_others))
             self.assertEqual(found.state, OPEN if os.geteuid() else WRONG, found)
-        self.assertEqual(seen(Step('', self.machine.by_others)).state,
+        self.assertEqual(check_step(Step('', self.machine.by_others)).state,
                          OPEN if os.geteuid() else GOOD)
 
     @needs_loopback
@@ -157,7 +157,7 @@ class There(unittest.TestCase):
             far = there.Far('127.0.0.1', port, (port,), None)
             self.assertEqual(far.plain().state, WRONG)
         self.assertEqual(far.plain().state, GOOD)
-        self.assertEqual(seen(Step('', far.stranger)).state, OPEN)
+        self.assertEqual(check_step(Step('', far.stranger)).state, OPEN)
         self.assertEqual(far.revoked().state, OPEN)
 
 
@@ -165,8 +165,8 @@ class Told(Tools):
     def test_statuses(self):
         for states, status in (((GOOD, GOOD), 0), ((GOOD, OPEN), 4), ((OPEN, WRONG), 1)):
             with mock.patch('builtins.print'):
-                self.assertEqual(steps.tell([Step('x', lambda it=it: Verdict(it, 'a'))
-                                             for it in states]), status)
+                self.assertEqual(steps.print_steps([Step('x', lambda it=it: Verdict(it, 'a'))
+                                                    for it in states]), status)
 
     def test_command_lines(self):
         for words in ((), ('here',), ('from', 'x', '--closed', '1,x'), ('from', 'x', '--tls')):

@@ -9,7 +9,7 @@ from baytools.bay.files import BadFile, bay_at, program_at, tables_of, text_of
 from baytools.bay.names import Names
 from baytools.wire import mms, stream
 from baytools.wire.ber import Unreadable, element, integer, number
-from baytools.wire.client import Client, silence_told, told
+from baytools.wire.client import Client, octets_text, silence_text
 from baytools.wire.control import Control
 from baytools.wire.identity import own_name
 from baytools.wire.mms import BITS, BOOLEAN, INTEGER, TEXT, Data
@@ -147,8 +147,8 @@ class Hostile(Tools):
     def test_a_port_of_which_nobody_knows_whether_it_is_taken(self):
         for is_tls in (False, True):
             self.assertIn('is it the port of the clients, and are all eight associations taken?',
-                          silence_told(None, is_tls))
-        self.assertIn('are all eight associations taken?', silence_told(True, True))
+                          silence_text(None, is_tls))
+        self.assertIn('are all eight associations taken?', silence_text(True, True))
 
     @needs_waiting
     def test_a_server_that_takes_nobody(self):
@@ -393,8 +393,8 @@ class Asking(Tools):
 
 class Words(unittest.TestCase):
     def test_octets(self):
-        self.assertEqual(told(b'\x03\x00\x1b\x00'), '03 00 1B 00')
-        self.assertEqual(told(b'HTTP/1.1 400 Bad'),
+        self.assertEqual(octets_text(b'\x03\x00\x1b\x00'), '03 00 1B 00')
+        self.assertEqual(octets_text(b'HTTP/1.1 400 Bad'),
                          '48 54 54 50 2F 31 2E 31 20 34 30 30 .. (\'HTTP/1.1 400\')')
 
     def test_names_of_switches(self):

@@ -17,7 +17,7 @@ def table(variables, test):
 
 
 def told(variables, test):
-    return condition(variables, table(variables, test)).told()
+    return condition(variables, table(variables, test)).text()
 
 
 class Conditions(unittest.TestCase):

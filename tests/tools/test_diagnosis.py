@@ -135,7 +135,7 @@ class Warnings(unittest.TestCase):
                 (('LD ES', 'JMPC x', 'LD TRUE', 'ST QC2_ENA_CLS', 'x:'), {'ES'}),
                 (('LD ES', 'AND FALSE', 'ST QC2_ENA_CLS', 'LD QC9_OPEN', 'ST a'), set()),
                 (('LD ES', 'JMPC x', 'LD QC2_OPEN', 'x: ST QC2_ENA_CLS'), {'QC2_OPEN', 'ES'})):
-            found = self.flow(*body).behind({'QC2_ENA_CLS'})
+            found = self.flow(*body).dependencies({'QC2_ENA_CLS'})
             self.assertEqual(found & {'QC2_OPEN', 'QC9_OPEN', 'ES'}, names, body)
 
     def test_outputs_that_are_never_true(self):
@@ -266,7 +266,7 @@ class Bays(unittest.TestCase):
 
 class Programs(unittest.TestCase):
     def told(self, text, line):
-        return lines.placed(text, line).told
+        return lines.locate(text, line).told
 
     def test_a_reserved_word_as_a_variable(self):
         for names in ('r : BOOL;', 'a, R : BOOL;', 's, b : INT;', 'ton : TON;'):
@@ -289,7 +289,7 @@ class Programs(unittest.TestCase):
                 ('VAR_INPUT', 'VAR_INPUT is not a block', 'points of the bay in VAR_EXTERNAL'),
                 ('// a', 'nothing can begin with', 'write a comment between (* and *)'),
                 ('LD \u00e9', 'is not ASCII', 'put it in a comment')):
-            found = lines.placed(head + line + '\nEND_PROGRAM\n', 5)
+            found = lines.locate(head + line + '\nEND_PROGRAM\n', 5)
             self.assertIn(told, found.told)
             self.assertIn(mend, found.mend)
 
@@ -308,9 +308,9 @@ class Programs(unittest.TestCase):
                  'write its value by LD and operators, and ST b on the next line'),
                 ('IF a THEN', 'IF is a word of Structured Text',
                  'use JMPC, JMP and labels, or AND and OR of the conditions')):
-            found = lines.placed(head + line + '\nEND_PROGRAM\n', 5)
+            found = lines.locate(head + line + '\nEND_PROGRAM\n', 5)
             self.assertEqual((told in found.told, found.mend), (True, mend), found.told)
-        found = lines.placed(HEAD.format('a : BOOL := WAHR;') + 'END_PROGRAM\n', 3)
+        found = lines.locate(HEAD.format('a : BOOL := WAHR;') + 'END_PROGRAM\n', 3)
         self.assertEqual((found.told, found.mend), (
             'WAHR is not a word of the language: here it is TRUE', 'write TRUE'))
         fault = program.faults_of(head + 'LD wahr\nST a\nEND_PROGRAM\n', None)[0]
@@ -318,7 +318,7 @@ class Programs(unittest.TestCase):
 
     def test_a_duration_without_its_beginning(self):
         text = HEAD.format('t1 : TON;\na : BOOL;') + 'CAL t1(IN := a, PT := 10s)\nEND_PROGRAM\n'
-        found = lines.placed(text, 6)
+        found = lines.locate(text, 6)
         self.assertEqual((found.told, found.mend, found.start),
                          ('10s is a duration, which begins with T#', 'write T#10s', 22))
         self.assertEqual(tokens.word_token('1h_30m', 0).mend, 'write T#1h_30m')
@@ -329,7 +329,7 @@ class Programs(unittest.TestCase):
         text = HEAD.format('a : BOOL;') + 'END_PROGRAM\n'
         for odd, mend in ((text.replace('\n', '\r'), 'lines that end with LF or CR LF'),
                           ('\ufeff' + text, 'as UTF-8 without a byte order mark')):
-            self.assertIn(mend, lines.placed(odd, 1).mend)
+            self.assertIn(mend, lines.locate(odd, 1).mend)
 
     def test_numbers_of_many_digits(self):
         for word in ('9' * 5000, 'T#' + '9' * 5000 + 's', '16#' + 'F' * 5000):

@@ -66,9 +66,9 @@ OWN = bay('QA1', 'QB1', 'QB9', 'QC1', 'QC9', inputs=('VT_DEAD', 'OTHER'))
 class Paths(unittest.TestCase):
     def test_simple_paths(self):
         net = read_diagram(diagram(*FEEDER), 'd', OWN)
-        self.assertEqual([it.told() for it in paths_between(net, 'BB1', 'LINE')],
+        self.assertEqual([it.text() for it in paths_between(net, 'BB1', 'LINE')],
                          ['BB1 - QB1 - N1 - QA1 - N2 - QB9 - LINE'])
-        self.assertEqual([it.told() for it in paths_between(net, 'LINE', 'LINE')], ['LINE'])
+        self.assertEqual([it.text() for it in paths_between(net, 'LINE', 'LINE')], ['LINE'])
 
     def test_no_path_goes_through_an_earth(self):
         net = read_diagram(diagram(*FEEDER), 'd', OWN)
@@ -378,7 +378,7 @@ class Checked(Tools):
 
         def asked_of(bayctl, bay_file, logic, rules, keys) -> Answer:
             return by_path[bay_file](bayctl, bay_file, logic, rules, keys)
-        with mock.patch.multiple('devtools.check.diagrams.questions', asked=changed or asked_of,
+        with mock.patch.multiple('devtools.check.diagrams.questions', run_audit=changed or asked_of,
                                  run=run):
             for part in parts:
                 part(checks)
@@ -409,7 +409,7 @@ class Checked(Tools):
             answered[path, text] = held
             for fault in read_faults(path.with_name('faults').read_text()):
                 changed = held
-                for switch, way in diagrams.told_releases(fault.told):
+                for switch, way in diagrams.named_releases(fault.told):
                     changed, count = re.subn(rf'(?m)^diagram {switch} {way} holds .*$',
                                              f'diagram {switch} {way} broken: x', changed)
                     self.assertEqual(count, 1, f'{path}: {fault}')

@@ -136,7 +136,7 @@ class Order(unittest.TestCase):
         clock = ServerClock(1000)
         self.goes_on(125)
         self.assertEqual(clock.stamp(), 1125)
-        clock.hears(1001)
+        clock.on_moment(1001)
         self.assertEqual((clock.now(), clock.stamp()), (1123, 1125))
 
 

@@ -198,7 +198,7 @@ class Chips(unittest.TestCase):
         running = asyncio.ensure_future(Driver(modules, process, said.append).run())
         await self.until(lambda: server.told[-1:] == ['input OK 1'], said)
         self.assertEqual(server.told[-3:], ['contact QA1 1', 'input ES 1', 'input OK 1'])
-        server.tell('command QA1 on')
+        server.send_lines('command QA1 on')
         await self.until(lambda: self.kernel.values[21] == 0, said)
         self.kernel.values[4], self.kernel.values[17] = 0, 1
         await self.until(lambda: server.last('contact QA1') == '2', said)

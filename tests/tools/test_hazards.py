@@ -154,7 +154,7 @@ class Asking(Tools):
                            ('146', 'diagram.toml: bayctl refuses it with 146: ')):
             program = self.bayctl(LOADED + f'diagram refused {line}\n', 1)
             with self.assertRaises(Failed) as raised:
-                questions.asked(program, 'bay', 'logic', 'rules', KEYS, diagram='diagram.toml')
+                questions.run_audit(program, 'bay', 'logic', 'rules', KEYS, diagram='diagram.toml')
             self.assertIn(told, str(raised.exception))
             self.assertEqual(questions.refusal_of_diagram(program, 'bay', 'logic', 'd'),
                              (int(line[:3]), line[4:]))

@@ -1,7 +1,7 @@
 """A process that is lost, and measures that are bad: told, drawn and joined."""
 import unittest
 
-from baytools.wire.words import cause_told
+from baytools.wire.words import cause_text
 from tests.tool import Tools
 
 BAY = '''[bay]
@@ -64,7 +64,7 @@ class Lost(Tools):
         self.assertIn('the process is lost at 2000 ms', drawn)
 
     def test_the_cause_of_a_refused_operate(self):
-        self.assertEqual([cause_told(code) for code in (2, 9, 10, 11, 99)], [
+        self.assertEqual([cause_text(code) for code in (2, 9, 10, 11, 99)], [
             'blocked by switching hierarchy (2): its key is not at remote',
             'blocked by process (9): the process is lost', 'blocked by interlocking (10)',
             'blocked by synchrocheck (11): the switch has no synchrocheck', 'cause (99)'])

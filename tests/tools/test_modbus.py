@@ -68,7 +68,7 @@ class Telling(Driven):
         self.good()
         self.module.stands = True
         self.is_told(LOST)
-        self.says('its counter 9 stands still')
+        self.wait_for_lines('its counter 9 stands still')
         self.module.stands = False
         self.good()
 
@@ -76,16 +76,16 @@ class Telling(Driven):
         self.good()
         self.module.holding = type('Deaf', (dict,), {'__setitem__': lambda *it: None})()
         self.module.cut()
-        self.says('register 4384 does not keep 400')
+        self.wait_for_lines('register 4384 does not keep 400')
         self.is_told(LOST)
 
     def test_magnets_follow_the_releases(self):
         self.good()
-        self.says('the server tells of no releases, so all magnets stay blocked')
-        self.server.tell_releases('QA1=11', 'QC1=10')
+        self.wait_for_lines('the server tells of no releases, so all magnets stay blocked')
+        self.server.send_releases('QA1=11', 'QC1=10')
         time.sleep(0.1)
         self.assertFalse(self.module.coils[2])  # (it is open, and may not be closed)
-        self.server.tell_releases('QC1=01')
+        self.server.send_releases('QC1=01')
         self.waits(lambda: self.module.coils[2])
         self.server.drop()
         self.waits(lambda: not self.module.coils[2])
@@ -97,7 +97,7 @@ class Telling(Driven):
         self.server.port = other.port
         self.starts()
         self.assertEqual(self.run.wait(10), 1)
-        self.says('the server has bay E2, revision 2 b, the bay file E1, 2 b')
+        self.wait_for_lines('the server has bay E2, revision 2 b, the bay file E1, 2 b')
         self.assertFalse(other.told)
 
     def test_a_server_that_does_not_supervise(self):
@@ -122,23 +122,23 @@ class Commands(Driven):
         self.module.contacts[:2] = [False, True]
         self.is_told({'contact QA1': '2'})
         self.assertTrue(PULSE - 50 < self.lasted() < 3 * PULSE, self.lasted())
-        self.says('QA1 close: done after')
+        self.wait_for_lines('QA1 close: done after')
         self.is_pulsed_once()
 
     def test_the_time_of_an_operate_is_over(self):
         self.begins()
-        self.server.tell('over QA1')
+        self.server.send_lines('over QA1')
         self.assertLess(self.lasted(), PULSE)
-        self.says('QA1 close: not done after')
-        self.server.tell('command QA1 off', 'over QA1')
-        self.says('QA1 open is not carried out: its time is over')
+        self.wait_for_lines('QA1 close: not done after')
+        self.server.send_lines('command QA1 off', 'over QA1')
+        self.wait_for_lines('QA1 open is not carried out: its time is over')
         self.is_pulsed_once()
         self.assertEqual(self.pulses(OPEN), [])
 
     def test_two_commands_at_once(self):
         self.good()
-        self.server.tell('command QA1 on', 'command QA1 off', 'command QA1 on')
-        self.says('QA1 open is not carried out: another command of it has not ended')
+        self.server.send_lines('command QA1 on', 'command QA1 off', 'command QA1 on')
+        self.wait_for_lines('QA1 open is not carried out: another command of it has not ended')
         self.waits(lambda: self.pulses(CLOSE))
         self.all_off()
         self.is_pulsed_once()
@@ -146,20 +146,20 @@ class Commands(Driven):
 
     def test_commands_that_are_too_old_or_mean_nothing(self):
         self.good()
-        self.server.tell('command QA1 on', ahead=-MS - 50)
+        self.server.send_lines('command QA1 on', ahead=-MS - 50)
         for line in ('command QB9 on', 'command QC1 on', 'command QA1 up', 'x command'):
-            self.server.tell(line)
-        self.says('QA1 close is not carried out: it is 1,',
-                  'QB9 close is not carried out: the wiring has no coils for it',
-                  'QC1 close is not carried out: the wiring has no coils for it')
+            self.server.send_lines(line)
+        self.wait_for_lines('QA1 close is not carried out: it is 1,',
+                            'QB9 close is not carried out: the wiring has no coils for it',
+                            'QC1 close is not carried out: the wiring has no coils for it')
         self.assertEqual(self.pulses(CLOSE) + self.pulses(OPEN), [])
 
     def test_a_switch_at_local(self):
         self.good()
         self.module.contacts[6] = False
         time.sleep(0.1)
-        self.server.tell('command QA1 on')
-        self.says('its key is not at remote')
+        self.server.send_lines('command QA1 on')
+        self.wait_for_lines('its key is not at remote')
         self.assertEqual(self.pulses(CLOSE), [])
 
     def test_a_key_that_is_turned_within_a_pulse(self):
@@ -178,8 +178,8 @@ class Commands(Driven):
                 time.sleep(0.1)
 
         self.module.asked = asked
-        self.server.tell('command QA1 on')
-        self.says('QA1 close is not carried out: the connection on which it came is lost')
+        self.server.send_lines('command QA1 on')
+        self.wait_for_lines('QA1 close is not carried out: the connection on which it came is lost')
         self.waits(lambda: self.server.count == 2)
         self.good()
         self.assertEqual(self.pulses(CLOSE), [])
@@ -190,8 +190,8 @@ class Commands(Driven):
         self.module.exception_of_writes = 6
         self.module.coils[OPEN] = True
         self.is_told({'contact QA1': '3'})
-        self.server.tell('command QA1 on')
-        self.says('QA1 close is not carried out: module io is not heard')
+        self.server.send_lines('command QA1 on')
+        self.wait_for_lines('QA1 close is not carried out: module io is not heard')
         self.module.exception_of_writes = 0
         self.all_off()
         self.assertEqual((self.pulses(CLOSE), self.module.both), ([], False))
@@ -207,7 +207,7 @@ class TrueBlocks(Driven):
         self.is_told({**GOOD, 'input ES': '0'})
         self.module.stops()
         self.is_told({**LOST, 'input ES': '1'})
-        self.says('; till it is heard the server is told ES TRUE')
+        self.wait_for_lines('; till it is heard the server is told ES TRUE')
 
 
 @needs_loopback
@@ -217,36 +217,36 @@ class ReleasesOfDisconnector(Driven):
 
     def test_a_release_that_has_gone(self):
         self.good()
-        self.server.tell_releases('QA1=10', 'QC1=00')
-        self.server.tell('command QA1 on')
-        self.says('QA1 close is not carried out: its release has gone')
-        self.server.tell('command QA1 off')
+        self.server.send_releases('QA1=10', 'QC1=00')
+        self.server.send_lines('command QA1 on')
+        self.wait_for_lines('QA1 close is not carried out: its release has gone')
+        self.server.send_lines('command QA1 off')
         self.waits(lambda: self.pulses(OPEN))
         self.all_off()
         self.assertEqual(self.pulses(CLOSE), [])
 
     def test_a_release_that_goes_before_the_coil_is_on(self):
         self.good()
-        self.server.tell_releases('QA1=11', 'QC1=00')
+        self.server.send_releases('QA1=11', 'QC1=00')
         self.module.asked = lambda function: time.sleep(0.1 if function == 1 else 0)
-        self.server.tell('command QA1 on')
-        self.server.tell_releases('QA1=10')
-        self.says('QA1 close is not carried out: its release has gone')
+        self.server.send_lines('command QA1 on')
+        self.server.send_releases('QA1=10')
+        self.wait_for_lines('QA1 close is not carried out: its release has gone')
         self.assertEqual(self.pulses(CLOSE), [])
 
     def test_a_release_that_goes_within_a_pulse(self):
         self.good()
-        self.server.tell_releases('QA1=11', 'QC1=00')
+        self.server.send_releases('QA1=11', 'QC1=00')
         self.begins()
-        self.server.tell_releases('QA1=10')
+        self.server.send_releases('QA1=10')
         self.assertLess(self.lasted(), PULSE / 2)
-        self.says('QA1 close: its release has gone, so its pulse ends', 'not done after')
+        self.wait_for_lines('QA1 close: its release has gone, so its pulse ends', 'not done after')
 
     def test_a_release_of_the_other_way_goes(self):
         self.good()
-        self.server.tell_releases('QA1=11', 'QC1=00')
+        self.server.send_releases('QA1=11', 'QC1=00')
         self.begins()
-        self.server.tell_releases('QA1=01', 'QC1=11')
+        self.server.send_releases('QA1=01', 'QC1=11')
         self.assertGreater(self.lasted(), PULSE - 50)
 
 
@@ -256,16 +256,16 @@ class ReleasesOfBreaker(Driven):
 
     def test_a_release_that_has_gone(self):
         self.good()
-        self.server.tell_releases('QA1=10', 'QC1=00')
-        self.server.tell('command QA1 on')
-        self.says('QA1 close is not carried out: its release has gone')
+        self.server.send_releases('QA1=10', 'QC1=00')
+        self.server.send_lines('command QA1 on')
+        self.wait_for_lines('QA1 close is not carried out: its release has gone')
         self.assertEqual(self.pulses(CLOSE), [])
 
     def test_a_release_that_goes_within_a_pulse(self):
         self.good()
-        self.server.tell_releases('QA1=11', 'QC1=00')
+        self.server.send_releases('QA1=11', 'QC1=00')
         self.begins()
-        self.server.tell_releases('QA1=00')
+        self.server.send_releases('QA1=00')
         self.assertGreater(self.lasted(), PULSE - 50)
 
 
@@ -284,7 +284,7 @@ class UntilPosition(Driven):
     def test_a_position_that_does_not_come(self):
         self.begins()
         self.assertGreater(self.lasted(), TRAVEL - 50)
-        self.says('QA1 close: not done after')
+        self.wait_for_lines('QA1 close: not done after')
         self.is_pulsed_once()
 
 
@@ -302,8 +302,8 @@ class Patient(Driven):
                 time.sleep(0.75 * MS / 1000)
 
         self.module.asked = asked
-        self.server.tell('command QA1 on', ahead=-MS // 2)
-        self.says('QA1 close is not carried out: it is ')
+        self.server.send_lines('command QA1 on', ahead=-MS // 2)
+        self.wait_for_lines('QA1 close is not carried out: it is ')
         self.assertEqual(self.pulses(CLOSE), [])
 
 
@@ -314,8 +314,9 @@ class Slow(Driven):
 
     def test_a_pace_that_the_server_does_not_take(self):
         self.assertEqual(self.run.wait(10), 1)
-        self.says(f'module io: poll_ms and timeout_ms come to {MS + 5:,}, and the server takes no '
-                  f'word older than {MS:,} ms: write less, or give --supervise more')
+        self.wait_for_lines(f'module io: poll_ms and timeout_ms come to {MS + 5:,}, and the server '
+                            f'takes no word older than {MS:,} ms: write less, or give '
+                            '--supervise more')
 
 
 @needs_loopback
@@ -340,9 +341,9 @@ class Faults(Driven):
         self.good()
         self.module.is_silent = True
         self.is_told(LOST)
-        self.server.tell('command QA1 on')
-        self.says(f'no answer within {TIMEOUT} ms',
-                  'QA1 close is not carried out: module io is not heard')
+        self.server.send_lines('command QA1 on')
+        self.wait_for_lines(f'no answer within {TIMEOUT} ms',
+                            'QA1 close is not carried out: module io is not heard')
         self.module.is_silent = False
         self.good()
         self.assertEqual(self.pulses(CLOSE), [])
@@ -361,10 +362,10 @@ class Faults(Driven):
         """All of the module is bad for its doubt_ms, and the late pulse is cut."""
         self.good()
         self.module.late = 1.5 * TIMEOUT / 1000
-        self.server.tell('command QA1 on')
+        self.server.send_lines('command QA1 on')
         self.is_told(LOST)
         lost = time.monotonic()
-        self.says('the write of coil 1 may be done late')
+        self.wait_for_lines('the write of coil 1 may be done late')
         self.waits(lambda: self.pulses(CLOSE), 'the late pulse')
         self.assertLess(self.lasted(), PULSE)
         self.good()
@@ -387,14 +388,14 @@ class Faults(Driven):
         self.module.cut()
         self.waits(lambda: self.pulses(CLOSE), 'the late pulse')
         self.assertLess(self.lasted(), PULSE / 2)
-        self.says(f'coil {CLOSE} was written off, and is on')
+        self.wait_for_lines(f'coil {CLOSE} was written off, and is on')
         self.good()
 
     def test_a_module_that_refuses(self):
         self.good()
         self.module.exception = 4
         self.is_told(LOST)
-        self.says('exception 4: server device failure')
+        self.wait_for_lines('exception 4: server device failure')
         self.module.exception = 0
         self.good()
 
@@ -432,8 +433,8 @@ class Faults(Driven):
         self.good()
         for exception, is_doubted in ((6, False), (11, True)):
             self.module.exception_of_writes = exception
-            self.server.tell('command QA1 on')
-            self.says(f'QA1 close fails: exception {exception}')
+            self.server.send_lines('command QA1 on')
+            self.wait_for_lines(f'QA1 close fails: exception {exception}')
             self.module.exception_of_writes = 0
             self.assertEqual('may be done late' in self.printed(), is_doubted)
         self.is_told(LOST)
@@ -444,8 +445,9 @@ class Faults(Driven):
     def test_a_coil_that_does_not_come_on(self):
         self.good()
         self.module.put = lambda coil, value: None
-        self.server.tell('command QA1 on')
-        self.says('QA1 close fails: coil 1 reads 0 and coil 0 0 within a pulse of the first')
+        self.server.send_lines('command QA1 on')
+        self.wait_for_lines('QA1 close fails: coil 1 reads 0 and coil 0 0 within a pulse of the '
+                            'first')
         self.is_told(LOST)
         del self.module.put
         self.good()
@@ -455,7 +457,7 @@ class Faults(Driven):
         self.module.coils[CLOSE] = True
         self.all_off()
         self.is_told({'contact QA1': '3'})
-        self.says('coil 1 was on, and nobody here had asked for it: it is switched off')
+        self.wait_for_lines('coil 1 was on, and nobody here had asked for it: it is switched off')
         self.good()
         self.module.coils[2] = True
         self.all_off()
@@ -497,16 +499,16 @@ class Faults(Driven):
         self.begins()
         self.run.send_signal(signal.SIGTERM)
         self.assertEqual((self.run.wait(10), any(self.module.coils)), (130, False))
-        self.says('module io: all coils are off')
+        self.wait_for_lines('module io: all coils are off')
 
     def test_a_driver_that_stands_still(self):
         """It carries out no command that it slept through."""
         self.good()
         self.run.send_signal(signal.SIGSTOP)
-        self.server.tell('command QA1 on')
+        self.server.send_lines('command QA1 on')
         time.sleep(2 * MS / 1000)
         self.run.send_signal(signal.SIGCONT)
-        self.says('QA1 close is not carried out: it is')
+        self.wait_for_lines('QA1 close is not carried out: it is')
         self.good()
         self.assertEqual(self.pulses(CLOSE), [])
 
@@ -523,9 +525,9 @@ class Faults(Driven):
                 is_over.set()
 
         self.module.asked = asked
-        self.server.tell('command QA1 on')
+        self.server.send_lines('command QA1 on')
         self.assertTrue(is_over.wait(10))
-        self.says('QA1 close ')
+        self.wait_for_lines('QA1 close ')
         self.good()
         self.assertEqual(self.pulses(CLOSE), [])
 
@@ -541,11 +543,11 @@ class Faults(Driven):
     def test_a_server_that_stands_still(self):
         """The driver takes it for lost: magnets block, and another connection is begun."""
         self.good()
-        self.server.tell_releases('QC1=01')
+        self.server.send_releases('QC1=01')
         self.waits(lambda: self.module.coils[2])
         self.server.is_frozen = True
         self.waits(lambda: not self.module.coils[2], seconds=3 * MS / 1000)
-        self.says(f'the server has not said for {MS} ms that it lives')
+        self.wait_for_lines(f'the server has not said for {MS} ms that it lives')
         self.server.is_frozen = False
         self.good()
 

@@ -17,18 +17,18 @@ RELEASE = stream.wrapped(stream.release_request())
 class Moments(unittest.TestCase):
     def test_words(self):
         self.enterContext(zone('UTC'))
-        self.assertEqual(moments.told(5000), '5000 ms')
-        self.assertEqual(moments.told(DAY + 7), '11:06:40.007')
-        self.assertEqual(moments.day_told(DAY), '2026-11-18 UTC')
+        self.assertEqual(moments.moment_text(5000), '5000 ms')
+        self.assertEqual(moments.moment_text(DAY + 7), '11:06:40.007')
+        self.assertEqual(moments.day_text(DAY), '2026-11-18 UTC')
 
     def test_times_of_day_are_those_here(self):
         self.enterContext(zone('XYZ-5:30'))
-        self.assertEqual(moments.told(DAY + 7), '16:36:40.007')
-        self.assertEqual(moments.day_told(DAY), '2026-11-18 UTC+05:30')
+        self.assertEqual(moments.moment_text(DAY + 7), '16:36:40.007')
+        self.assertEqual(moments.day_text(DAY), '2026-11-18 UTC+05:30')
 
     def test_past_the_year_9999(self):
         for moment in (253_402_300_799_999, 253_402_300_800_000, 4_294_967_295_999_000):
-            self.assertEqual(moments.told(moment), f'{moment} ms')
+            self.assertEqual(moments.moment_text(moment), f'{moment} ms')
         self.assertTrue(moments.is_clock(4_294_967_295_999))
 
     def test_warnings(self):

@@ -41,9 +41,9 @@ class Words(unittest.TestCase):
     def test_what_an_operate_does(self):
         for on, told in ((True, 'close'), (False, 'open')):
             value = Data(mms.BOOLEAN, on)
-            self.assertEqual(words.told('CSWI1$CO$Pos$Oper$ctlVal', value), told)
+            self.assertEqual(words.value_text('CSWI1$CO$Pos$Oper$ctlVal', value), told)
             self.assertEqual(positions.way_of(on), told)
-        self.assertEqual([words.told('CSWI1$ST$Pos$stVal', Data(mms.BITS, bits))
+        self.assertEqual([words.value_text('CSWI1$ST$Pos$stVal', Data(mms.BITS, bits))
                           for bits in ('00', '01', '10', '11')], list(positions.POSITIONS))
 
 

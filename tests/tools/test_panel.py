@@ -20,15 +20,15 @@ from baytools.bay.names import Names
 from baytools.common.paths import DATA, TOOLS
 from baytools.panel.boxes import draw
 from baytools.panel.expiry import KNOWN, Turns, is_closed, moment, request_of
-from baytools.panel.lost_process import is_process_lost, process_told
+from baytools.panel.lost_process import is_process_lost, process_text
 from baytools.panel.operating import Operator
 from baytools.panel.reasons import Seen, why_not
-from baytools.panel.watch import Watcher, may_told, measures_of, place_told, switch_of
+from baytools.panel.watch import Watcher, may_text, measures_of, place_text, switch_of
 from baytools.panel.web import Pages
 from baytools.wire.ber import element
 from baytools.wire.client import Client, Lost
 from baytools.wire.control import Control, Outcome
-from baytools.wire.conversation import Said
+from baytools.wire.conversation import Description
 from baytools.wire.mms import BITS, BOOLEAN, INTEGER, STRUCTURE, TIME, Data, octets_of
 from devtools.served import until
 from tests.tool import Tools, interruptible, zone
@@ -141,7 +141,7 @@ class Values(unittest.TestCase):
         self.assertEqual((found['position'], found['quality'], found['selected'], found['time']),
                          ('closed', 'invalid', True, '5 ms'))
         self.assertEqual((found['open'], found['close']), ({'free': True}, {'free': False}))
-        self.assertEqual(place_told(found), 'closed (invalid)')
+        self.assertEqual(place_text(found), 'closed (invalid)')
         keyed = switch_of({**SWITCHES[0], 'remote': 'ER'}, position, Data(BOOLEAN, True),
                           Data(BOOLEAN, False))
         self.assertEqual((found['key'], keyed['key']), ('', 'ER'))
@@ -157,7 +157,7 @@ class Values(unittest.TestCase):
             position = Data(STRUCTURE, [Data(BITS, bits), Data(BITS, quality + '0' * 11),
                                         Data(TIME, 0)])
             found = switch_of(SWITCHES[0], position, Data(BOOLEAN, False), Data(BOOLEAN, False))
-            self.assertEqual(place_told(found), told)
+            self.assertEqual(place_text(found), told)
             self.assertEqual(found['known'], not told.startswith('not known'))
 
     def test_a_meter(self):
@@ -188,7 +188,7 @@ class Switch:
     def is_selected_first(self):
         return self.model == 2
 
-    def is_told_its_end(self):
+    def has_termination(self):
         return self.enhanced
 
     def answer(self, verb):
@@ -369,7 +369,8 @@ class Operating(unittest.TestCase):
         self.act('operate')
         self.reads('open', False)
         self.assertIsNotNone(self.watcher.state['control'])
-        self.watcher.said(Said('ended', '', ['it has ended'], None, 'QA1', 'open', False))
+        self.watcher.on_report(
+            Description('ended', '', ['it has ended'], None, 'QA1', 'open', False))
         self.assertEqual(self.watcher.state['last'],
                          {'good': False, 'told': 'it has ended', 'number': 1})
 
@@ -402,7 +403,7 @@ class Events(unittest.TestCase):
     def told(self, before, after):
         old, new = ({way: {'free': free} for way, free in zip(('open', 'close'), it)}
                     for it in (before, after))
-        return may_told(old, new)
+        return may_text(old, new)
 
     def test_releases_that_are_gained_and_lost(self):
         self.assertEqual(self.told((True, True), (True, False)), ['may no longer be closed'])
@@ -497,7 +498,7 @@ class Losses(unittest.TestCase):
 
     def told(self, *switches, measures=()):
         found = [{'quality': it} for it in measures]
-        return is_process_lost(switches, found), process_told(switches, found)
+        return is_process_lost(switches, found), process_text(switches, found)
 
     def test_a_process_that_is_lost(self):
         later = {**self.BAD, 'moment': 9, 'time': 'T9'}

@@ -8,7 +8,7 @@ from baytools.audit.variables import WAYS, keys_of
 from baytools.bay.files import bay_at
 from baytools.bay.rules import SWITCH, read_rules
 from devtools.check import planted
-from devtools.check.planted import EXAMPLES, Fault, parts_of, read_faults, told_of
+from devtools.check.planted import EXAMPLES, Fault, broken_rules, parts_of, read_faults
 
 KNOWN = {(SWITCH, 'QA1')}
 RULES = read_rules('never QA1 open|close\nalways QA1 close|open\nnever QA1 close\n', KNOWN)
@@ -50,20 +50,20 @@ class Planted(unittest.TestCase):
         self.assertEqual((empty.new, empty.rules()), ('', {(12, 'open')}))
 
     def test_what_is_told_of_answers(self):
-        self.assertEqual(told_of(proofs(*[HOLDS] * 5), RULES), '')
-        self.assertEqual(told_of(proofs(BROKEN, BROKEN, OPEN, BROKEN, OPEN), RULES),
+        self.assertEqual(broken_rules(proofs(*[HOLDS] * 5), RULES), '')
+        self.assertEqual(broken_rules(proofs(BROKEN, BROKEN, OPEN, BROKEN, OPEN), RULES),
                          'BROKEN 1 open|close, 2 open; OPEN 2 close, 3 close')
         with self.assertRaises(ValueError):
-            told_of(proofs(HOLDS), RULES)
+            broken_rules(proofs(HOLDS), RULES)
         with self.assertRaises(ValueError):
-            told_of(proofs(*[HOLDS] * 5)[::-1], RULES)
+            broken_rules(proofs(*[HOLDS] * 5)[::-1], RULES)
 
     def test_an_answer_that_differs_is_told(self):
         checks = types.SimpleNamespace(bayctl='none', file=lambda name, text: name,
                                        holds=lambda name, is_so, told: seen.append((is_so, told)))
         seen, answer = [], Answer('', [])
-        with mock.patch('devtools.check.planted.questions.asked', lambda *_: answer), \
-                mock.patch('devtools.check.planted.told_of', lambda *_: 'BROKEN 5 open'):
+        with mock.patch('devtools.check.planted.questions.run_audit', lambda *_: answer), \
+                mock.patch('devtools.check.planted.broken_rules', lambda *_: 'BROKEN 5 open'):
             planted.faults_are_found(checks)
         wanted = {fault.told for path in EXAMPLES.glob('*/faults')
                   for fault in read_faults(path.read_text())}

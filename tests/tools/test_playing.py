@@ -164,7 +164,7 @@ class Played(Tools):
             until(lambda: server.last('input IO2_OK') == '1', 'io2 is heard')
             types('M1 AA 212')
             until(lambda: server.last('measure M1 AA') == '212', 'a measure')
-            server.tell('command QA1 on')
+            server.send_lines('command QA1 on')
             until(lambda: server.last('contact QA1') == '2', 'QA1 is closed')
             played.waits_for('io1 coil 1 (QA1 close) off after')
             types('io2 off')

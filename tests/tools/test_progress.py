@@ -18,7 +18,7 @@ class Waiting(Tools):
     def shown(self, stream: io.StringIO, seconds: float, *lines: bytes) -> str:
         with mock.patch.multiple(progress, FIRST=0.05, EVERY=0.02), \
                 mock.patch.multiple(sys, stderr=stream, __stderr__=stream):
-            with progress.shown_while('bayctl audit', progress.Progress(3, 2)) as each:
+            with progress.show_progress('bayctl audit', progress.Progress(3, 2)) as each:
                 for line in lines:
                     each(line)
                 time.sleep(seconds)
@@ -45,7 +45,7 @@ class Waiting(Tools):
     def test_what_fails_within_it_is_handed_on(self):
         with self.assertRaises(ZeroDivisionError):
             with mock.patch.object(sys, 'stderr', Terminal()), \
-                    progress.shown_while('x', progress.Progress(1, 2)):
+                    progress.show_progress('x', progress.Progress(1, 2)):
                 1 / 0
 
 

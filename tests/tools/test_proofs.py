@@ -381,7 +381,7 @@ class Scenarios(unittest.TestCase):
 
     def test_a_case_in_words(self):
         case = Case({QA1: ((0, 0), (2, 3)), DEAD: ((1, 1),), AA: ((-2 ** 31, -1), (6, 9))})
-        self.assertEqual(proofs.told(case, list(all_things(FILE))),
+        self.assertEqual(proofs.case_text(case, list(all_things(FILE))),
                          'QA1 intermediate|closed|bad, VT_DEAD 1, M1_AA up to -1|6 to 9')
 
 
@@ -408,15 +408,15 @@ class Cubes(unittest.TestCase):
             self.assertEqual(is_covered(cube, cubes), self.all_of(cube) <= wanted)
 
     def test_never_and_always(self):
-        self.assertEqual(condition_of([], []).told(), 'never')
-        self.assertEqual(condition_of([], [()]).told(), 'always')
+        self.assertEqual(condition_of([], []).text(), 'never')
+        self.assertEqual(condition_of([], [()]).text(), 'always')
 
     def test_measures_are_compared(self):
         ranges = ((-2 ** 31, 4), (5, 5), (6, 2 ** 31 - 1))
         variable = Variable('M1_AA', ('a', 'b', 'c'), ranges=ranges)
         for bits, told in ((1, 'M1_AA <= 4'), (2, 'M1_AA 5'), (4, 'M1_AA >= 6'),
                            (3, 'M1_AA <= 5'), (5, '(M1_AA <= 4 or M1_AA >= 6)')):
-            self.assertEqual(condition_of([variable], [(bits,)]).told(), told)
+            self.assertEqual(condition_of([variable], [(bits,)]).text(), told)
         self.assertEqual([variable.word_of(it) for it in ('-9', '5', '6')], ['a', 'b', 'c'])
 
 

@@ -159,7 +159,7 @@ class Evidence(Tools):
 
     def test_a_log_of_an_earlier_run(self):
         log = pathlib.Path(self.file('log', '7 passed, 0 failed\n'))
-        self.assertEqual(evidence.kept(log, 3.4), evidence.Run(0, 3.4, 7, 0))
+        self.assertEqual(evidence.read_log(log, 3.4), evidence.Run(0, 3.4, 7, 0))
         figures = pathlib.Path(self.file('figures.json', '{"runs": [{"commit": "a", "minutes": 1}, '
                                          '{"commit": "b", "minutes": 2}]}'))
         with mock.patch.object(evidence, 'FIGURES', figures):

@@ -291,9 +291,9 @@ class Captures(Tools):
     def held(self, *octets):
         held = Comparison(Names(FILE), tomllib.loads(FILE))
         conversation = Conversation(held.bay)
-        conversation.on_answer = held.hears
+        conversation.on_answer = held.add_answer
         for request, answer in octets:
-            conversation.asks_mms(request)
+            conversation.describe_mms(request)
             conversation.answers_mms(answer)
         return held.lines()
 

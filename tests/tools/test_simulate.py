@@ -337,9 +337,9 @@ class Clocks(unittest.TestCase):
     def test_a_line_that_was_long_on_its_way(self):
         clock = ServerClock(1000)
         time.sleep(0.1)
-        clock.hears(1001)
+        clock.on_moment(1001)
         self.assertGreaterEqual(clock.now(), 1098)
-        clock.hears(5000)
+        clock.on_moment(5000)
         self.assertTrue(5000 <= clock.now() < 5500)
 
     def test_life(self):
@@ -348,7 +348,7 @@ class Clocks(unittest.TestCase):
         self.assertTrue(0 < life.wait() <= 0.1)
         life.heard -= 1
         self.assertTrue(life.is_silent())
-        life.hears()
+        life.on_alive()
         self.assertFalse(life.is_silent())
 
     def test_greetings(self):

@@ -10,7 +10,7 @@ import threading
 import unittest
 
 from baytools.bay.files import BadFile
-from baytools.common.ending import CalledWrong
+from baytools.common.ending import UsageError
 from baytools.common.paths import TOOLS
 from baytools.station.bays import all_of, settings_of
 from baytools.station.journal import Follower, Journal
@@ -82,7 +82,7 @@ class Listing(Tools):
         for pairs, told in (([[str(one), '0']], '0 is not a port'),
                             ([[str(one), '7'], [str(two), '7']], 'two bays have port 7'),
                             ([], 'name a FOLDER')):
-            with self.assertRaisesRegex(CalledWrong, told):
+            with self.assertRaisesRegex(UsageError, told):
                 all_of(pairs, None)
 
     def test_a_folder_without_bays(self):
@@ -97,8 +97,8 @@ class Journals(Tools):
     def heard(self, text):
         found = Journal()
         for line in text.splitlines(True):
-            found.hears(line)
-        return found.told()
+            found.add_line(line)
+        return found.state()
 
     def test_commands_process_and_links(self):
         found = self.heard(LOGGED)
@@ -159,7 +159,7 @@ class Journals(Tools):
             f'print({LOGGED!r}, end="", flush=True)\n'
             'print("9000 command", sys.argv[1].replace("@", "_")[7:17], "on", flush=True)\n'
             'time.sleep(60)'))
-        found = until(lambda: (it := follower.told())['commands'][3:] and it, 'it is read')
+        found = until(lambda: (it := follower.state())['commands'][3:] and it, 'it is read')
         self.assertEqual(found['commands'][3]['told'], 'bayctl_E05 close: commanded')
         self.assertEqual((found['links'], found['trouble']), ([(1, '127.0.0.1:40000')], ''))
 
@@ -168,7 +168,7 @@ class Journals(Tools):
                            ('sys.exit("no access")', 'no access')):
             program = self.program(text) if text else self.folder / 'none'
             follower = self.following(program)
-            found = until(lambda: follower.told()['trouble'], 'it is told')
+            found = until(lambda: follower.state()['trouble'], 'it is told')
             self.assertEqual(found, f'the journal can\'t be read: {program}: {told}')
 
 
@@ -194,7 +194,8 @@ class Stations(Tools):
         return station
 
     def until(self, station, test, told):
-        return until(lambda: (it := json.loads(station.told())['bays']) and test(it) and it, told)
+        return until(lambda: (it := json.loads(station.state_json())['bays']) and test(it) and it,
+                     told)
 
     def test_bays_that_answer_and_one_that_does_not(self):
         station = self.station((FILE, Model(FILE)), (OTHER, Model(OTHER)), (FILE, None))

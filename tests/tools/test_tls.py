@@ -241,7 +241,7 @@ class Subjects(unittest.TestCase):
             octets = ber.element(0x30, ber.element(0x30, *fields), ber.element(0x30))
             found = tls.subject_of(octets)
             self.assertEqual(found, [('O', 'Stätion, A'), ('oid.2a03', 'x\n'), ('CN', 'é')])
-            self.assertEqual(tls.subject_told(found), 'O="Stätion, A", oid.2a03="x\\\\n", CN=é')
+            self.assertEqual(tls.subject_text(found), 'O="Stätion, A", oid.2a03="x\\\\n", CN=é')
         for odd in (b'', b'\x30', ber.element(0x30), ber.element(0x30, ber.element(0x30))):
             with self.assertRaises(ber.Unreadable):
                 tls.subject_of(odd)

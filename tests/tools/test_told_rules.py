@@ -135,11 +135,11 @@ class Remedies(unittest.TestCase):
                 ('LD 1,5', 'a number has no comma', 'write a whole number'),
                 ('LD 1.5', 'a number can\'t have a fraction', 'write a whole number')):
             text = program_of(row)
-            found = lines.placed(text, HEAD.count('\n') + 1)
+            found = lines.locate(text, HEAD.count('\n') + 1)
             self.assertEqual(found.told, told)
             self.assertIn(mend, found.mend)
         text = HEAD.replace('open_coil : BOOL;', 'n : DINT := 30,000;')
-        self.assertIn('30_000', lines.placed(text, 7).mend)
+        self.assertIn('30_000', lines.locate(text, 7).mend)
 
 
 class Releases(unittest.TestCase):

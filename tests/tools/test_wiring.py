@@ -298,8 +298,8 @@ class Samples(unittest.TestCase):
     def test_a_counter_that_stands(self):
         module, = wiring_of(put('alive = "OK"', 'alive = "OK"\ncounter = 5'), BAY, MODBUS)
         sampled = Sampled(module)
-        found = [sampled.stands({5: count}, at) for count, at in ((1, 0), (1, 0.2), (1, 0.3),
-                                                                  (2, 0.4), (2, 0.5))]
+        found = [sampled.is_counter_stuck({5: count}, at)
+                 for count, at in ((1, 0), (1, 0.2), (1, 0.3), (2, 0.4), (2, 0.5))]
         self.assertEqual(found, [False, False, True, False, False])
 
 

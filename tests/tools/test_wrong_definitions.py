@@ -10,7 +10,7 @@ from devtools.paths import CRATES, DATA
 from devtools.trace.calls import calls_of
 from devtools.trace.definitions import Definition, definitions_in
 from devtools.trace.inner import all_below
-from devtools.wrong_definitions.anchors import kept, keep, merged, row
+from devtools.wrong_definitions.anchors import read_table, keep, merged, row
 from devtools.wrong_definitions.changes import (PRELUDE, Change, Changer, changes_of, lines_of,
                                                 text_of)
 from devtools.wrong_definitions.headline import citing, reached
@@ -29,7 +29,8 @@ def changed(text: str, kind: str, name: str = 'f') -> list[str]:
     number = HEAD.count('\n') + 1
     definition = Definition('bay_control', DECISIONS, name, number, '', text)
     whole = HEAD + text + '\n'
-    return [it.told(whole)[1] for it in Changer(definition, whole).changes() if it.kind == kind]
+    return [it.changed_lines(whole)[1] for it in Changer(definition, whole).changes()
+            if it.kind == kind]
 
 
 def only(name: str) -> Definition:
@@ -181,7 +182,7 @@ class Answers(unittest.TestCase):
         found = self.answer('src/laws.rt:3:1: warning: unused',
                             'note: ./proofs/One.antt:3:1: no proof',
                             'fn bay_control::laws::calls_lead: not proved')
-        self.assertEqual(found.told,
+        self.assertEqual(found.text,
                          'broken by bay_control, calls_lead by proofs/One.antt: no proof')
         self.assertEqual([title_of(it) for it in ('a::B::c', 'a::c', 'c')], ['B::c', 'c', 'c'])
 
@@ -206,7 +207,7 @@ class Answers(unittest.TestCase):
                          Answer(UNKNOWN, ('bay_control',), 'bay_control', '',
                                 'rattle: no verdict: steps'))
         self.assertIsNone(self.answer('logic=proved', status=0))
-        self.assertEqual(Answer(PROVES, ('a', 'b')).told, 'still proves in a, b')
+        self.assertEqual(Answer(PROVES, ('a', 'b')).text, 'still proves in a, b')
 
 
 class Laws(Tools):
@@ -258,9 +259,9 @@ class Tables(Tools):
         self.assertEqual([(name, it['verdict']) for name, it in table.items()],
                          [('a', BROKEN), ('b', PROVES)])
         path = self.folder / 'table.json'
-        self.assertEqual((kept(None), kept(path)), ({}, {}))
+        self.assertEqual((read_table(None), read_table(path)), ({}, {}))
         keep(path, table)
-        self.assertEqual(kept(path)['a']['through'], ['x', 'y'])
+        self.assertEqual(read_table(path)['a']['through'], ['x', 'y'])
 
     def test_a_copy_has_what_was_kept(self):
         self.file('crates.txt', 'low:\n')
@@ -300,7 +301,7 @@ class Tool(Tools):
     def test_the_table_is_of_changes_that_are_there(self):
         there = lines_of(change for it in reached() for change in changes_of(it))
         for table in ('anchors.json', 'laws.json'):
-            self.assertEqual([name for name, it in kept(DATA / table).items()
+            self.assertEqual([name for name, it in read_table(DATA / table).items()
                               if there.get(name) != (it['before'], it['after'])], [])
 
 

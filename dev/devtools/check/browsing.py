@@ -185,7 +185,7 @@ def slow(bench: Bench, page: Page) -> None:
 def stood(bench: Bench, page: Page) -> None:
     """The page stands still, and goes on behind a click on Confirm."""
     bench.selected(page)
-    page.click_while_it_stands('#button-confirm', 2.5)
+    page.click_while_blocked('#button-confirm', 2.5)
     page.until('byId("dialog-told").textContent.includes("stood still")')
     page.key('Escape')
     bench.holds('a click on a page that stood still operates', page)
@@ -335,7 +335,7 @@ def diagrams(checks, browser: Browser) -> None:
             page.closes()
 
 
-def goes(bench: Bench, part: Callable[[Bench, Page], None], page: Page) -> None:
+def run_part(bench: Bench, part: Callable[[Bench, Page], None], page: Page) -> None:
     """Does a part of it, which must not break off, as where a switch was operated."""
     try:
         part(bench, page)
@@ -354,9 +354,9 @@ def browsing(checks) -> None:
         bench = Bench(checks, browser, room)
         for part in (held, twice, slow, stood, panel_stopped):
             page = bench.page()
-            goes(bench, part, page)
+            run_part(bench, part, page)
             with contextlib.suppress(Broken):
                 page.closes()
         page = bench.page()
         for part in (six, deliberate, restarted, process_lost, server_lost):
-            goes(bench, part, page)
+            run_part(bench, part, page)

@@ -76,7 +76,7 @@ class Browser:
         os.write(self.ours_out, json.dumps(whole).encode() + b'\0')
         return self.count
 
-    def asks(self, method: str, session: str = '', **more) -> dict:
+    def call(self, method: str, session: str = '', **more) -> dict:
         """What the browser answers to a command."""
         number, end = self.sends(method, session, **more), time.monotonic() + PATIENCE
         while True:
@@ -108,29 +108,29 @@ class Page:
 
     def __init__(self, browser: Browser, address: str, width: int, height: int) -> None:
         self.browser = browser
-        self.target = browser.asks('Target.createTarget', url='about:blank')['targetId']
-        self.session = browser.asks('Target.attachToTarget', targetId=self.target,
+        self.target = browser.call('Target.createTarget', url='about:blank')['targetId']
+        self.session = browser.call('Target.attachToTarget', targetId=self.target,
                                     flatten=True)['sessionId']
-        self.asks('Page.enable')
-        self.asks('Emulation.setFocusEmulationEnabled', enabled=True)
+        self.call('Page.enable')
+        self.call('Emulation.setFocusEmulationEnabled', enabled=True)
         self.size(width, height)
-        self.goes(address)
+        self.open_address(address)
 
-    def asks(self, method: str, **more) -> dict:
-        return self.browser.asks(method, self.session, **more)
+    def call(self, method: str, **more) -> dict:
+        return self.browser.call(method, self.session, **more)
 
-    def goes(self, address: str) -> None:
+    def open_address(self, address: str) -> None:
         """Opens an address, and waits for its scripts."""
-        self.asks('Page.navigate', url=address)
+        self.call('Page.navigate', url=address)
         self.until('document.readyState === "complete" && location.href !== "about:blank"')
 
     def size(self, width: int, height: int) -> None:
-        self.asks('Emulation.setDeviceMetricsOverride', width=width, height=height,
+        self.call('Emulation.setDeviceMetricsOverride', width=width, height=height,
                   deviceScaleFactor=1, mobile=False)
 
     def value(self, expression: str) -> object:
         """What an expression of the page's script comes to."""
-        found = self.asks('Runtime.evaluate', expression=expression, returnByValue=True,
+        found = self.call('Runtime.evaluate', expression=expression, returnByValue=True,
                           awaitPromise=True)
         if 'exceptionDetails' in found:
             raise Broken(f'{expression}: {found["exceptionDetails"]}')
@@ -159,9 +159,9 @@ class Page:
         event = {'key': name, 'code': code, 'windowsVirtualKeyCode': number, 'modifiers': more}
         kind = 'keyDown' if text else 'rawKeyDown'
         for at in range(repeats + 1):
-            self.asks('Input.dispatchKeyEvent', type=kind, text=text, autoRepeat=at > 0, **event)
+            self.call('Input.dispatchKeyEvent', type=kind, text=text, autoRepeat=at > 0, **event)
             time.sleep(every if at < repeats else 0)
-        self.asks('Input.dispatchKeyEvent', type='keyUp', **event)
+        self.call('Input.dispatchKeyEvent', type='keyUp', **event)
 
     def middle(self, selector: str) -> list[float]:
         """Where the middle of an element is in the window."""
@@ -181,11 +181,11 @@ class Page:
                  asks: Callable | None = None) -> None:
         for count in range(1, times + 1):
             for kind in ('mousePressed', 'mouseReleased'):
-                (asks or self.asks)('Input.dispatchMouseEvent', type=kind, x=x, y=y, button='left',
+                (asks or self.call)('Input.dispatchMouseEvent', type=kind, x=x, y=y, button='left',
                                     clickCount=count)
             time.sleep(apart if count < times else 0)
 
-    def click_while_it_stands(self, selector: str, seconds: float) -> None:
+    def click_while_blocked(self, selector: str, seconds: float) -> None:
         """Clicks on an element while the page's script stands still for some seconds."""
         x, y = self.middle(selector)
         self.value('setTimeout(() => {const end = performance.now() + ' + str(seconds * 1000)
@@ -200,7 +200,7 @@ class Page:
 
     def picture(self, path: pathlib.Path) -> None:
         """Writes what the window shows as a PNG file."""
-        path.write_bytes(base64.b64decode(self.asks('Page.captureScreenshot')['data']))
+        path.write_bytes(base64.b64decode(self.call('Page.captureScreenshot')['data']))
 
     def closes(self) -> None:
-        self.browser.asks('Target.closeTarget', targetId=self.target)
+        self.browser.call('Target.closeTarget', targetId=self.target)

@@ -44,7 +44,7 @@ def no_texts(checks) -> None:
         checks.holds('a word that is no text wants memory', told == (2, b'', NO_TEXT), str(told))
 
 
-def telling(checks) -> None:
+def tell_takes_releases(checks) -> None:
     """What a process can be told is `releases`, and there has to be one."""
     words = [checks.bayctl, 'serve', '--bay', 'b', '--logic', 'l', '--port', '7', '--turns', '0']
     for more, wrong in ((['--process', '8', '--tell', 'Releases'], '[possible values: releases]'),
@@ -179,4 +179,4 @@ def late(checks) -> None:
                  and out.count(b' refused 113\n') == count, f'{server.returncode} {out!r} {log!r}')
 
 
-PARTS = (helps, no_texts, telling, files, closed, ends, late)
+PARTS = (helps, no_texts, tell_takes_releases, files, closed, ends, late)

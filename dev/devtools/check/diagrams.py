@@ -44,7 +44,8 @@ class Asked:
     def releases(self, logic: str, name: str, *kinds: str) -> set[tuple[str, str]]:
         """The releases of which a rule of one file has one of these answers."""
         changed = self.checks.file('logic.il', logic)
-        found = questions.asked(self.checks.bayctl, self.path, changed, self.path.with_name(name),
+        found = questions.run_audit(self.checks.bayctl, self.path, changed,
+                                    self.path.with_name(name),
                              self.keys)
         return {(it.name, WAYS[it.way]) for it in found.rules if it.verdict in kinds}
 
@@ -70,7 +71,7 @@ def without_a_line(logic: str) -> Iterator[tuple[int, str]]:
             yield at + 1, '\n'.join([*lines[:at], '', *lines[at + 1:]])
 
 
-def told_releases(told: str) -> set[tuple[str, str]]:
+def named_releases(told: str) -> set[tuple[str, str]]:
     """The releases that the line of a fault names."""
     found = set()
     for part in told.split(', '):
@@ -117,7 +118,7 @@ def planted_faults_break(checks) -> None:
             found = asked.releases(fault.planted(asked.logic), OF_DIAGRAM, answers.BROKEN)
             count += 1
             checks.holds(f'{asked.name}: {fault.new or "nothing"!r} in line {fault.line}',
-                         found == told_releases(fault.told), f'broken: {sorted(found)}')
+                         found == named_releases(fault.told), f'broken: {sorted(found)}')
     checks.holds('planted faults of diagrams', count >= 20, f'only {count}')
 
 
@@ -134,7 +135,7 @@ def hazards_are_judged(checks) -> None:
             broken = asked.hazards(fault.planted(asked.logic))
             count += 1
             checks.holds(f'{asked.name}: the hazards of {fault.new or "nothing"!r} in line '
-                         f'{fault.line}', broken == told_releases(fault.told),
+                         f'{fault.line}', broken == named_releases(fault.told),
                          f'broken: {sorted(broken)}')
     checks.holds('hazards of planted faults', count >= 20, f'only {count}')
 

@@ -125,7 +125,7 @@ def let_in(checks) -> None:
                      it.opens() == first, it.server.printed())
         in_its_words(checks, it)
         logged(checks, it)
-        shown(checks, it)
+        panel_names_certificate(checks, it)
         gone_through(checks, it)
 
 
@@ -193,7 +193,7 @@ def logged(checks, it: Guarded) -> None:
                  ['O=Station, CN=operator', 'operate QA1 open (orIdent operator): done'], 0)
 
 
-def shown(checks, it: Guarded) -> None:
+def panel_names_certificate(checks, it: Guarded) -> None:
     """A panel by TLS names its certificate, and operates."""
     words = [sys.executable, '-B', TOOLS / 'panel', '--bay', BAY, it.door.port, '--http', '0',
              '--operate', *words_of(it.authority, 'panel')]
@@ -203,7 +203,8 @@ def shown(checks, it: Guarded) -> None:
             checks.wants('a panel by TLS', page.text, 0, ['as O=Station, CN=panel, by TLS'], 0)
             state = page.known(lambda it: it['connected'] and it['switches'])
             checks.wants('a panel by TLS', state['told'], 0, ['of O=Station, CN=bay'], 0)
-            said = page.asks('select', 'QA1', 'close') + page.asks('operate', 'QA1', 'close')
+            said = (page.send_control('select', 'QA1', 'close')
+                    + page.send_control('operate', 'QA1', 'close'))
             checks.wants('an operate of a panel by TLS', said, 0, ['the command is given'], 0)
     checks.holds('a panel by TLS does not say who it is', 'orIdent=panel' in it.server.printed(),
                  it.server.printed())
@@ -246,11 +247,11 @@ def out_of_date(checks, it: Guarded) -> None:
 
 def all_of(checks) -> None:
     """Does all of it, where it can be done."""
-    checks.goes(packets)
+    checks.run_part(packets)
     absent = missing()
     if absent:
         are = 'is' if len(absent) == 1 else 'are'
         checks.left_out(f'{" and ".join(absent)} {are} not installed', 'a bay behind stunnel')
         return
     for part in (let_in, revoked, pulled):
-        checks.goes(part)
+        checks.run_part(part)

@@ -71,7 +71,7 @@ class Keyed:
         self.server, self.client, self.process = server, client, None
         self.count = 0
 
-    def tells(self, *lines: str) -> None:
+    def send_lines(self, *lines: str) -> None:
         """The process tells lines, and the server has taken them: the last one is a measure that a
         client sees, of a switch that nobody operates here."""
         self.process.sendall(''.join(f'0 {line}\n' for line in lines).encode())
@@ -86,10 +86,10 @@ class Keyed:
         if control.is_selected_first() and not control.select(True).is_good:
             return f'select {self.client.cause}'
         if between:
-            self.tells(*between)
+            self.send_lines(*between)
         if not control.operate(True).is_good:
             return self.client.cause or 'refused'
-        self.tells(f'contact {switch} 2', f'contact {switch} 1')
+        self.send_lines(f'contact {switch} 2', f'contact {switch} 1')
         return None
 
     @contextlib.contextmanager
@@ -112,13 +112,13 @@ def keys(checks) -> None:
     """A key at local and at remote, shared, turned between select and operate, and lost."""
     with keyed(checks, '--log') as it:
         with it.connects():
-            it.tells(*ALL_OPEN)
+            it.send_lines(*ALL_OPEN)
             found = it.cause('QA1'), it.cause('QB1')
             checks.holds('a key that was never reported lets an operate pass',
                          found == (KEY, 'refused'), str(found))
             checks.holds('a key holds for a switch that does not name it',
                          it.cause('QB2') is None, it.client.cause)
-            it.tells('input KEY 1')
+            it.send_lines('input KEY 1')
             found = it.cause('QA1'), it.cause('QB1')
             checks.holds('a key at remote refuses an operate', found == (None, None), str(found))
             checks.holds('the key of the select counts',
@@ -127,15 +127,15 @@ def keys(checks) -> None:
                 'QA1', between=('input FREE 0',)) == KEY, it.client.cause)
             checks.holds('a key at remote passes the interlocking', it.cause(
                 'QA1', between=('input KEY 1',)) == INTERLOCKING, it.client.cause)
-            it.tells('input FREE 1')
+            it.send_lines('input FREE 1')
         until(lambda: value(it.client, 'CSWI1$ST$Pos$stVal') == '11', 'the process is lost')
         checks.holds('the key comes before the process', it.cause('QA1') == PROCESS,
                      it.client.cause)
         with it.connects():
-            it.tells(*ALL_OPEN)
+            it.send_lines(*ALL_OPEN)
             found = it.cause('QA1'), it.cause('QB1')
             checks.holds('a loss leaves the key at remote', found == (KEY, 'refused'), str(found))
-            it.tells('input KEY 1')
+            it.send_lines('input KEY 1')
             checks.holds('a key that is reported again is not taken', it.cause('QA1') is None,
                          it.client.cause)
         logged = [line for line in it.server.printed().splitlines() if ' refused 2: ' in line]
@@ -146,14 +146,14 @@ def keys(checks) -> None:
 def synchrochecks(checks) -> None:
     """A close with the bit of Check."""
     with keyed(checks) as it, it.connects():
-        it.tells(*ALL_OPEN, 'input KEY 1')
+        it.send_lines(*ALL_OPEN, 'input KEY 1')
         found = [it.cause(switch, SYNCHROCHECK) for switch in SWITCHES]
         checks.holds('a synchrocheck is taken, or refused of a switch that names none',
                      found == [SYNCHRO, None, None], str(found))
         found = it.cause('QA1', '01'), it.cause('QA1', '11', ('input FREE 0',))
         checks.holds('a synchrocheck comes before the interlocking, or has its bit',
                      found == (None, INTERLOCKING), str(found))
-        it.tells('input FREE 1', 'contact QA1 2')
+        it.send_lines('input FREE 1', 'contact QA1 2')
         control = Control(it.client, 'QA1', check=SYNCHROCHECK)
         is_good = control.select(False).is_good and control.operate(False).is_good
         checks.holds('an open is refused for its synchrocheck', is_good, str(it.client.cause))
@@ -162,7 +162,7 @@ def synchrochecks(checks) -> None:
 def at_a_panel(checks) -> None:
     """What a panel says of a switch with a key, and of one that is told no cause."""
     with keyed(checks) as it, it.connects():
-        it.tells(*ALL_OPEN)
+        it.send_lines(*ALL_OPEN)
         words = [sys.executable, '-B', TOOLS / 'panel', '--bay', checks.folder / 'bay.toml',
                  it.server.port, '--http', '0', '--operate']
         with Running(*words) as running:
@@ -171,7 +171,7 @@ def at_a_panel(checks) -> None:
                 state = page.known(lambda it: positions(it).get('QA1') == 'open')
                 checks.wants('the keys of a panel', str([one['key'] for one in state['switches']]),
                              0, ["['Key', 'KEY', '']"], 0)
-                said = [page.asks(verb, name, 'close') for name in ('QA1', 'QB1')
+                said = [page.send_control(verb, name, 'close') for name in ('QA1', 'QB1')
                         for verb in ('select', 'operate')]
                 checks.wants('a panel at local', '\n'.join(said), 0, [
                     'good: select QA1: done refused: operate QA1 is refused: blocked by switching '

@@ -44,7 +44,8 @@ def replay(checks, scenario: str | bytes) -> str:
     return f'{done.stdout.decode()}status {done.returncode}'
 
 
-def asked(checks, of_bay: str, pdus: list[bytes], size: int = MOST) -> tuple[str, list[mms.Pdu]]:
+def replay_requests(checks, of_bay: str, pdus: list[bytes],
+                    size: int = MOST) -> tuple[str, list[mms.Pdu]]:
     """What a replay prints in which a client with PDUs of a size asks, and what it is answered."""
     initiate = stream.association_request(mms.initiate_request(size))
     sent = [stream.connection_request(), stream.wrapped(initiate)]
@@ -86,14 +87,14 @@ def inputs(checks) -> None:
 # Shows P-092, P-093.
 def messages(checks) -> None:
     """The longest identity, and reads and writes of 32 variables in the smallest PDUs."""
-    printed, pdus = asked(checks, bay(text='~' * 64), [mms.request_octets(1, 0x82)])
+    printed, pdus = replay_requests(checks, bay(text='~' * 64), [mms.request_octets(1, 0x82)])
     checks.holds('a long nameplate wants memory', printed.count('7e' * 64) == 3, printed)
     values = ['BAY1/CILO1$ST$EnaOpn$stVal'] * 32
-    printed, pdus = asked(checks, bay(), [mms.read_request(2, values)], LEAST)
+    printed, pdus = replay_requests(checks, bay(), [mms.read_request(2, values)], LEAST)
     checks.holds('a read on the smallest pdus wants memory',
                  bool(pdus) and len(pdus[-1].data) == 32, printed)
     written = mms.write_request(3, ['BAY1/CILO1$ST$EnaOpn$stVal'] * 32, [mms.control(True)] * 32)
-    printed, pdus = asked(checks, bay(), [written], LEAST)
+    printed, pdus = replay_requests(checks, bay(), [written], LEAST)
     checks.holds('a write of 32 variables finds no memory',
                  bool(pdus) and len(pdus[-1].data) == 32, printed)
 
@@ -104,7 +105,7 @@ def controls(checks) -> None:
     value = mms.control(True, ident=b'\xFF' * 64)
     written = [mms.write_request(at, [f'BAY1/CSWI1$CO$Pos${item}'], [value])
                for at, item in ((1, 'SBOw'), (2, 'Oper'))]
-    printed, _ = asked(checks, bay(), written)
+    printed, _ = replay_requests(checks, bay(), written)
     checks.holds('a long originator wants memory', '1000 command QA1 on\n' in printed, printed)
 
 

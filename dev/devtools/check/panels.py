@@ -38,7 +38,7 @@ class Page:
         connection.close()
         return text
 
-    def asks(self, verb, switch, way, age=0) -> str:
+    def send_control(self, verb, switch, way, age=0) -> str:
         """What a control is answered, in words, that was asked some milliseconds ago."""
         self.number += 1
         made = self.moment + int((time.monotonic() - self.heard) * 1000) - age
@@ -72,7 +72,7 @@ def positions(state) -> dict:
 
 def operated(page, switch, way) -> str:
     """An operate to its end, in words."""
-    said = [page.asks('select', switch, way), page.asks('operate', switch, way)]
+    said = [page.send_control('select', switch, way), page.send_control('operate', switch, way)]
     done = {'open': 'open', 'close': 'closed'}[way]
     state = page.until(lambda it: it['control'] is None and positions(it).get(switch) == done)
     return '\n'.join([*said, state['last']['told']])
@@ -93,7 +93,7 @@ def panel(checks) -> None:
         with gear(server) as simulator, Running(*words) as running:
             found = re.search(r'http://127\.0\.0\.1:(\d+)/', running.waits_for('/\n'))
             with Page(int(found[1])) as page:
-                shown(checks, page)
+                page_shows_operates(checks, page)
                 simulator.kill()
                 gone(checks, page, server)
             with gear(server), Page(int(found[1])) as page:
@@ -106,7 +106,7 @@ def panel(checks) -> None:
                              0)
 
 
-def shown(checks, page) -> None:
+def page_shows_operates(checks, page) -> None:
     """What a page has and is told, and two operates."""
     checks.wants('the page of the panel', page.text, 0,
                  [f'data-switch="{it}"' for it in ('QA1', 'QB1', 'QC1')], 0)
@@ -114,12 +114,12 @@ def shown(checks, page) -> None:
         'must be' in it['switches'][1][way]['why'] for way in ('open', 'close')))
     checks.wants('why not, on the panel', json.dumps(state['switches'][1]), 0,
                  ['QA1 is closed and must be open', '"quality": "good"'], 0)
-    checks.wants('a select that is given up', page.asks('select', 'QA1', 'open')
-                 + page.asks('cancel', 'QA1', 'open'), 0, ['select QA1: done', 'cancel QA1: done'],
-                 0)
-    checks.wants('an operate that was asked long ago', page.asks('select', 'QA1', 'open')
-                 + page.asks('operate', 'QA1', 'open', 2500)
-                 + page.asks('operate', 'QA1', 'open'), 0,
+    checks.wants('a select that is given up', page.send_control('select', 'QA1', 'open')
+                 + page.send_control('cancel', 'QA1', 'open'), 0,
+                 ['select QA1: done', 'cancel QA1: done'], 0)
+    checks.wants('an operate that was asked long ago', page.send_control('select', 'QA1', 'open')
+                 + page.send_control('operate', 'QA1', 'open', 2500)
+                 + page.send_control('operate', 'QA1', 'open'), 0,
                  ['select QA1: done', 'operate QA1 open is not done: it is 2.5 s old',
                   'QA1 is not selected by this page'], 0)
     checks.wants('the breaker, by the panel', operated(page, 'QA1', 'open'), 0,
@@ -138,7 +138,8 @@ def gone(checks, page, server) -> None:
         json.dumps(state['switches']))
     words = ['--bay', SERVED / 'bay.toml', str(server.port), 'operate', 'QA1', 'open']
     checks.wants('a client without a process', *checks.run('client', *words), [LOST], 1)
-    said = page.asks('select', 'QB1', 'close') + page.asks('operate', 'QB1', 'close')
+    said = (page.send_control('select', 'QB1', 'close')
+            + page.send_control('operate', 'QB1', 'close'))
     checks.wants('an operate by the panel without a process', said, 0,
                  ['refused: operate QB1 is refused: blocked by process (9): the process is lost',
                   LOST], 0)

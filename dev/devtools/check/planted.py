@@ -53,7 +53,7 @@ def parts_of(rules: list) -> list[tuple[int, str, int]]:
     return [(rule.line, rule.switch, way) for rule in rules for way in rule.ways]
 
 
-def told_of(proofs: list, rules: list) -> str:
+def broken_rules(proofs: list, rules: list) -> str:
     """Which rules don't hold, in the words of a file of faults."""
     if [(it.line, it.name, it.way) for it in proofs] != parts_of(rules):
         raise ValueError('the answers are those of other rules')
@@ -74,8 +74,8 @@ def faults_are_found(checks) -> None:
         read = read_rules(text_of(rules), keys)
         for fault in read_faults(text_of(path)):
             changed = checks.file('logic.il', fault.planted(logic))
-            answer = questions.asked(checks.bayctl, bay, changed, rules, keys)
-            told = told_of(answer.rules, read)
+            answer = questions.run_audit(checks.bayctl, bay, changed, rules, keys)
+            told = broken_rules(answer.rules, read)
             checks.holds(f'{path.parent.name}: {fault.new or "nothing"!r} in line {fault.line}',
                          told == fault.told, f'{told}, not {fault.told}')
 

@@ -78,7 +78,7 @@ def leaves(server: Server, said: bytes) -> None:
         process.sendall(said)
 
 
-def news(server: Server) -> list[str]:
+def process_lines(server: Server) -> list[str]:
     """What a server has printed of its processes, without the moments."""
     return re.findall(r'(?m)^\d+ (process .*)$', server.printed())
 
@@ -96,13 +96,13 @@ def waited(checks) -> None:
             for said in (b'', b'0 contact QC1 1', b'0 contact QA1 1\n'):
                 leaves(server, said)
             time.sleep(0.1)
-            checks.holds('two processes at once', news(server) == ['process open'],
+            checks.holds('two processes at once', process_lines(server) == ['process open'],
                          server.printed())
         with contextlib.suppress(TimeoutError):
-            until(lambda: len(news(server)) > 3, 'two have come and gone')
+            until(lambda: len(process_lines(server)) > 3, 'two have come and gone')
         time.sleep(0.1)
         checks.holds('a process that waited and went is taken',
-                     news(server) == ['process open', 'process closed 0'] * 2
+                     process_lines(server) == ['process open', 'process closed 0'] * 2
                      and value(client, COUNTS[1]) == 0, server.printed())
         checks.holds('what a process sent that waited and went is lost',
                      value(client, COUNTS[0]) == 1 and value(client, POSITIONS[0]) == BAD,
@@ -123,7 +123,7 @@ def lines_of(process: socket.socket, count: int) -> list[str]:
 
 
 # Shows P-115, P-116.
-def told(checks) -> None:
+def releases_are_sent(checks) -> None:
     """A process is told all releases at first, and then each change; and none without the
     option."""
     bay, logic = checks.file('bay.toml', BAY), checks.file('logic.il', LOGIC)
@@ -150,4 +150,4 @@ def told(checks) -> None:
         checks.holds('releases are told unasked', first[0].endswith(' refused 113'), str(first))
 
 
-PARTS = (gone, waited, told)
+PARTS = (gone, waited, releases_are_sent)

@@ -57,7 +57,7 @@ def scenario_without(record: str, form: str) -> bytes:
     return scenario_of(octets_of(BAY), octets_of(LOGIC), trace.encode())
 
 
-def told_in(text: str, form: str) -> list[str]:
+def lines_in(text: str, form: str) -> list[str]:
     return re.findall(f'(?m)^{form}$', text)
 
 
@@ -65,7 +65,7 @@ def releases_in(report: str) -> list[str]:
     """The releases of a report that change, in order; at first nothing is released."""
     known: dict[str, str] = {}
     found = []
-    for scan in told_in(report, r'\d+ scan steps=\d+ (.*)'):
+    for scan in lines_in(report, r'\d+ scan steps=\d+ (.*)'):
         for name, release in (told.split('=') for told in scan.split()):
             if release != known.get(name, '00'):
                 found.append(f'{name}={release}')
@@ -75,11 +75,11 @@ def releases_in(report: str) -> list[str]:
 
 def logged_releases(log: str) -> list[str]:
     """The releases that a server logged, as a report has them."""
-    found = told_in(log, r'\S+Z release (\w+) open=([01]) close=([01])')
+    found = lines_in(log, r'\S+Z release (\w+) open=([01]) close=([01])')
     return [f'{name}={opens}{closes}' for name, opens, closes in found]
 
 
-def is_told(told: list[str], changes: list[str]) -> bool:
+def matches_changes(told: list[str], changes: list[str]) -> bool:
     """Whether a process was told the state of each switch after some of the changes, and then the
     changes that follow these."""
     states = dict.fromkeys(it.partition('=')[0] for it in told)
@@ -97,19 +97,19 @@ def differences(seen: Seen, report: str) -> Iterator[tuple[str, bool, str]]:
     """Compares a session with the report of a replay: the name of each wrong behaviour, whether the
     session is free of it, and what shows it."""
     form = r'\d+ (?:command .*|refused \d+)'
-    commands, again = told_in(seen.printed, form), told_in(report, form)
+    commands, again = lines_in(seen.printed, form), lines_in(report, form)
     yield ('a command or a refusal is replayed another way', commands == again != [],
            f'{commands}\n{again}')
     for place in WATCHING, OPERATING:
-        sent, answers = seen.sent[place].hex(), ''.join(told_in(report, rf'\d+ send {place} (.*)'))
+        sent, answers = seen.sent[place].hex(), ''.join(lines_in(report, rf'\d+ send {place} (.*)'))
         yield ('a client is replayed another answer', sent == answers != '',
                f'association {place}: {sent}\n{answers}')
     releases, again = logged_releases(seen.printed), releases_in(report)
     yield ('a release is replayed another way', releases == again != [], f'{releases}\n{again}')
     for told in seen.told:
-        found = told_in(told, r'\w+=[01]{2}')
-        yield ('a process is told other releases than those of the replay', is_told(found, again),
-               f'{found}\n{again}')
+        found = lines_in(told, r'\w+=[01]{2}')
+        yield ('a process is told other releases than those of the replay',
+               matches_changes(found, again), f'{found}\n{again}')
 
 
 def watch(client: Client, wanted: str) -> None:
@@ -144,7 +144,7 @@ def served_session(checks, record) -> Seen:
                 later = process.recv(65536).decode()
             watch(watching, BAD)
         until(lambda: all(it.seen[-1][2] == FIN for it in taps.values()), 'the clients are gone')
-        until(lambda: len(told_in(server.printed(), r'\d+ closed \d 0')) == len(taps),
+        until(lambda: len(lines_in(server.printed(), r'\d+ closed \d 0')) == len(taps),
               'their ends are reported')
         size = record.stat().st_size
         until(lambda: record.stat().st_size > size, 'a later turn is recorded')
@@ -196,7 +196,7 @@ def lines(checks) -> None:
         with socket.create_connection(('127.0.0.1', server.process)) as process:
             process.sendall(b'\n0 measure M1 AA 1\n')
             has('measure M1 AA 1')
-    found = told_in(record.read_text(), r'\d+ (lost|measure .*)')
+    found = lines_in(record.read_text(), r'\d+ (lost|measure .*)')
     wanted = [*(it[2:] for it in said), 'lost', 'measure M1 AA 1']
     checks.holds('a line of a process is lost, repeated, torn or joined with that of another',
                  found in (wanted, [*wanted, 'lost']), str(found))
@@ -214,7 +214,7 @@ def full(checks) -> None:
             client.domain()
         held = record.read_text()
         checks.holds('a full record holds a part of a line, or lacks one that fits',
-                     len(told_in(held, r'\d{13} scan')) == 5 and len(held) == 95, held)
+                     len(lines_in(held, r'\d{13} scan')) == 5 and len(held) == 95, held)
     loaded = subprocess.run([checks.bayctl, 'check', '--bay', BAY, '--logic', LOGIC], check=False,
                             capture_output=True).stdout
     ran = subprocess.run([checks.bayctl, 'serve', '--bay', BAY, '--logic', LOGIC, '--port',

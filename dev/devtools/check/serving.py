@@ -126,7 +126,7 @@ def clients(checks) -> None:
         is_told = prints(server, ' closed 1 0\n')
         with connected(server.port) as second:
             second.sendall(stream.connection_request())
-            number = heard(second, 5)[8:10]
+            number = receive(second, 5)[8:10]
         checks.holds('the end of a client is never seen', is_told and number == b'\0\1',
                      f'number {number!r}, {server.printed()!r}')
 
@@ -164,17 +164,17 @@ def eight(checks) -> None:
         numbers = [number_of(one) for one in eight[1:]]
         ninth = kept.enter_context(connected(server.port))
         ninth.sendall(stream.connection_request())
-        early_answer = heard(ninth, 0.3)
+        early_answer = receive(ninth, 0.3)
         checks.holds('eight clients end the server',
                      server.run.poll() is None and numbers == [*range(2, 9)] and not early_answer,
                      f'numbers {numbers}, {early_answer!r}, {server.printed()!r}')
         eight[4].close()
-        late_answer = heard(ninth, 5)
+        late_answer = receive(ninth, 5)
         checks.holds('a ninth client is never served', late_answer[8:10] == b'\0\5',
                      f'{late_answer!r}, {server.printed()!r}')
 
 
-def heard(one: socket.socket, seconds: float) -> bytes:
+def receive(one: socket.socket, seconds: float) -> bytes:
     """What comes within so many seconds."""
     one.settimeout(seconds)
     try:
@@ -354,8 +354,8 @@ def unread(checks) -> None:
 
 def all_of(checks) -> None:
     """Does all of it. The connections that are silent for ten seconds are so meanwhile."""
-    silent = threading.Thread(target=checks.goes, args=(silence,))
+    silent = threading.Thread(target=checks.run_part, args=(silence,))
     silent.start()
     for part in (clients, closings, eight, moments, turns, cycles, pieces, wakes, rests, unread):
-        checks.goes(part)
+        checks.run_part(part)
     silent.join()

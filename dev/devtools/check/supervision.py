@@ -21,7 +21,7 @@ from devtools import preloads
 from devtools.paths import DEV
 from devtools.served import Server, Simulator, free_port, until, value
 
-from .processes import connected, news
+from .processes import connected, process_lines
 
 LIMIT, SLACK = 500, 0.5  # ms of a process' silence; seconds that a check may be late
 GREETED = 5  # seconds for a greeting
@@ -79,13 +79,13 @@ class Process:
         self.clock = None
         end = time.monotonic() + GREETED
         while self.clock is None and time.monotonic() < end:
-            self.hears(0.1)
+            self.receive_lines(0.1)
         if self.clock is None:
             raise TimeoutError('the server does not greet')
         if first:
             self.sends(first)
 
-    def hears(self, seconds: float) -> None:
+    def receive_lines(self, seconds: float) -> None:
         """Takes the lines that come within so many seconds."""
         if not select.select([self.socket], [], [], seconds)[0]:
             return
@@ -98,7 +98,7 @@ class Process:
             if self.clock is None and greeting_of(line):
                 self.clock = ServerClock(greeting_of(line).moment)
             elif self.clock and moment_of(line) is not None:
-                self.clock.hears(moment_of(line))
+                self.clock.on_moment(moment_of(line))
 
     def sends(self, *lines: str, ahead: int = 0) -> int:
         """Sends lines with a time so many milliseconds ahead, and returns this time."""
@@ -115,7 +115,7 @@ class Process:
             life = Life(LIMIT)
             while not self.is_over.is_set():
                 with contextlib.suppress(ConnectionError):
-                    self.hears(life.wait())
+                    self.receive_lines(life.wait())
                 if life.is_due():
                     self.sends('alive')
 
@@ -128,7 +128,7 @@ class Process:
             living.join()
             self.socket.close()
 
-    def told(self) -> list[str]:
+    def received_lines(self) -> list[str]:
         """What it was told, without the times."""
         return [line.partition(' ')[2] for line in self.seen]
 
@@ -200,7 +200,8 @@ def frozen(checks) -> None:
             checks.holds('a frozen process is commanded', cause_of(client, 'QB1') == BY_PROCESS,
                          str(client.cause))
             checks.holds('the end of a frozen process is not told',
-                         news(server) == ['process open', 'process closed 134'], server.printed())
+                         process_lines(server) == ['process open', 'process closed 134'],
+                         server.printed())
             time.sleep(max(0, begun + 3 - time.monotonic()))
             gear.run.send_signal(signal.SIGCONT)
             is_back = becomes(lambda: positions(client) == (OPEN, OPEN))
@@ -229,8 +230,8 @@ def waited(checks) -> None:
                 if len(said) == 1:
                     one.close()
             time.sleep(LIMIT / 1000 + 0.3)
-        is_told = becomes(lambda: len(news(server)) == 6)
-        checks.holds('what waited counts as new', is_told and news(server)[2:] == [
+        is_told = becomes(lambda: len(process_lines(server)) == 6)
+        checks.holds('what waited counts as new', is_told and process_lines(server)[2:] == [
             'process open', 'process closed 133'] * 2, server.printed())
         checks.holds('an old line is taken', counts(client) == (1, 1)
                      and positions(client) == (BAD, BAD), f'{counts(client)} {positions(client)}')
@@ -248,12 +249,13 @@ def strangers(checks) -> None:
     for more, cases, right in (([], wrong, '-'), (['--key', key], keyed, KEY)):
         with supervised(checks, *more) as (server, client):
             for lines in cases:
-                before = len(news(server))
+                before = len(process_lines(server))
                 process = Process(server, None)
                 process.sends(*lines)
-                becomes(lambda: len(news(server)) == before + 2)
+                becomes(lambda: len(process_lines(server)) == before + 2)
                 checks.holds('a stranger is the process',
-                             news(server)[before:] == ['process open', 'process closed 132']
+                             process_lines(server)[before:]
+                             == ['process open', 'process closed 132']
                              and counts(client) == (0, 0), f'{lines}: {server.printed()}')
                 process.socket.close()
             with Process(server, f'bay {right} {NAMED}').lives() as process:
@@ -267,12 +269,12 @@ def untimely(checks) -> None:
     """Lines whose times are too far away, and one whose is not."""
     with supervised(checks) as (server, client):
         for ahead in (-LIMIT - 200, LIMIT + 200):
-            before = len(news(server))
+            before = len(process_lines(server))
             process = Process(server)
             process.sends('contact QA1 1', ahead=ahead)
-            becomes(lambda: len(news(server)) == before + 2)
+            becomes(lambda: len(process_lines(server)) == before + 2)
             checks.holds('a line of another time is taken',
-                         news(server)[before:] == ['process open', 'process closed 133']
+                         process_lines(server)[before:] == ['process open', 'process closed 133']
                          and counts(client) == (0, 0), f'{ahead}: {server.printed()}')
             process.socket.close()
         process = Process(server, None)
@@ -294,7 +296,7 @@ def backward(checks) -> None:
             process.socket.sendall(f'{moment - 1} contact QA1 2\n'.encode())
         checks.holds('a line that goes back in time is taken',
                      becomes(lambda: positions(client) == (BAD, BAD)) and counts(client) == (1, 1)
-                     and news(server) == ['process open', 'process closed 133']
+                     and process_lines(server) == ['process open', 'process closed 133']
                      and 'its time is before that of the line before' in server.printed(),
                      f'{counts(client)} {server.printed()}')
         process.socket.close()
@@ -327,7 +329,7 @@ def stalled(checks, limit: int, age: int, stall: float) -> tuple[bool, list[int]
         time.sleep(stall)
         server.run.send_signal(signal.SIGCONT)
         asking.join(GREETED)
-        becomes(lambda: len(news(server)) == 2)
+        becomes(lambda: len(process_lines(server)) == 2)
         commands = [int(line.split()[0]) - last for line in server.printed().splitlines()
                     if ' command ' in line]
         return bool(answers) and answers[0].is_good, commands, server.printed()
@@ -371,7 +373,7 @@ def loaded(checks) -> None:
             process.sends('contact QA1 1')
             time.sleep(6)
             checks.holds('a process that lives is lost on a machine under load',
-                         news(server) == ['process open'] and positions(client)[0] == OPEN,
+                         process_lines(server) == ['process open'] and positions(client)[0] == OPEN,
                          server.printed())
     finally:
         for loop in loops:
@@ -384,13 +386,13 @@ def silent(checks) -> None:
     """Processes that say nothing, or half a line, behind their first one."""
     with supervised(checks) as (server, client):
         for half in (b'', b'5 contact QA1 1'):
-            before, process = len(news(server)), Process(server)
+            before, process = len(process_lines(server)), Process(server)
             process.socket.sendall(half)
             begun = time.monotonic()
-            becomes(lambda: len(news(server)) == before + 2)
+            becomes(lambda: len(process_lines(server)) == before + 2)
             spent = time.monotonic() - begun
             checks.holds('a silent process stays', LIMIT / 2000 < spent < LIMIT / 1000 + SLACK
-                         and news(server)[-1] == 'process closed 134',
+                         and process_lines(server)[-1] == 'process closed 134',
                          f'{spent:.2f} s: {server.printed()}')
             process.socket.close()
 
@@ -403,8 +405,8 @@ def overdue(checks) -> None:
         time.sleep(0.1)
         checks.holds('a live process is not commanded', cause_of(client, 'QB1') is None,
                      f'{client.cause}: {server.printed()}')
-        becomes(lambda: 'over QB1' in process.told())
-        told = [line for line in process.told() if line != 'alive']
+        becomes(lambda: 'over QB1' in process.received_lines())
+        told = [line for line in process.received_lines() if line != 'alive']
         checks.holds('the end of a command is not told',
                      told[1:] == ['command QB1 on', 'over QB1'], str(told))
 
@@ -414,8 +416,8 @@ def idle(checks) -> None:
     with supervised(checks) as (server, client), Process(server).lives() as process:
         process.sends('contact QA1 1')
         time.sleep(6)
-        answers = process.told().count('alive')
-        checks.holds('a process that only lives is lost', news(server) == ['process open']
+        answers = process.received_lines().count('alive')
+        checks.holds('a process that only lives is lost', process_lines(server) == ['process open']
                      and positions(client)[0] == OPEN, server.printed())
         checks.holds('no alive is answered', answers > 6000 / LIMIT, str(answers))
         checks.holds('an answer to alive is printed', 'alive' not in server.printed(), 'it is')
@@ -485,19 +487,20 @@ def steps(checks) -> None:
 
 def one_step(checks, server, client, process, step: pathlib.Path, word: str) -> None:
     """The system's clock makes one step, beside a process whose switches are open."""
-    before, printed, ends = value(client, 'XSWI1$ST$Pos$t'), server.printed(), len(news(server))
+    before, printed = value(client, 'XSWI1$ST$Pos$t'), server.printed()
+    ends = len(process_lines(server))
     stepped(step, word)
     time.sleep(0.5)
     if word.startswith('+'):
         becomes(lambda: positions(client) == (BAD, BAD))
         checks.holds('a process is believed after the clock has jumped',
-                     news(server)[ends:] == ['process closed 134']
+                     process_lines(server)[ends:] == ['process closed 134']
                      and 'the clock has jumped' in server.printed()[len(printed):],
                      f'{word}: {server.printed()}')
     else:
         process.sends('contact QB1 2')
         becomes(lambda: value(client, POSITIONS[1]) == CLOSED)
-        checks.holds('a step back of the clock ends a process', len(news(server)) == ends,
+        checks.holds('a step back of the clock ends a process', len(process_lines(server)) == ends,
                      f'{word}: {server.printed()}')
     checks.holds('a step of the clock is not logged',
                  word != STEPS[0] or server.printed() != printed, printed)
@@ -517,11 +520,11 @@ def stepped(path: pathlib.Path, word: str) -> None:
 def all_of(checks) -> None:
     """Does all of it. The process that only lives does so meanwhile."""
     write_files(checks)
-    living = threading.Thread(target=checks.goes, args=(idle,))
+    living = threading.Thread(target=checks.run_part, args=(idle,))
     living.start()
     for part in (refused_words, keys, frozen, waited, strangers, untimely, backward, silent,
                  overdue, steps):
-        checks.goes(part)
+        checks.run_part(part)
     living.join()
     for part in (stalls, loaded):
-        checks.goes(part)
+        checks.run_part(part)

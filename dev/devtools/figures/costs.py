@@ -83,7 +83,7 @@ def total_of(rows: list[Row]) -> Row:
     return [label, *sums, '']
 
 
-def told_of_gate() -> list[str]:
+def gate_remarks() -> list[str]:
     """What dev/figures says of bench/GATE.md."""
     all_rows = rows()
     old = [row[0] for row in all_rows if str(row[-1]).endswith('(old)')]

@@ -125,7 +125,7 @@ def age_of(figures: Figures) -> Age:
     return Age.LOST if files is None else Age.OLD if files else Age.NEW
 
 
-def told_of(figures: Figures) -> str:
+def figures_text(figures: Figures) -> str:
     """Figures, with whether they are older than what they measure."""
     where, stamp = f'{figures.page}:{figures.line}', figures.stamp
     if stamp is None:

@@ -13,7 +13,7 @@ class Term:
     args: tuple['Term', ...] = ()
 
 
-def behind(text: str, start: int) -> int:
+def after_parenthesis(text: str, start: int) -> int:
     """The place behind the parenthesis that closes the one at `start`."""
     depth = 0
     for place in range(start, len(text)):
@@ -52,12 +52,12 @@ class Reader:
     def within(self, start: int) -> Term:
         """What stands in parentheses; a function is taken as its text."""
         if LAMBDA.match(self.text, start):
-            end = behind(self.text, start)
+            end = after_parenthesis(self.text, start)
             self.place = end
             return Term(self.text[start:end])
         self.place = start + 1
         term = self.term()
-        self.place = behind(self.text, start)
+        self.place = after_parenthesis(self.text, start)
         return term
 
 

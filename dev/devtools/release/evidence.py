@@ -82,7 +82,7 @@ def measured_minutes() -> float:
     return next((it['minutes'] for it in reversed(runs) if it['commit'] == commit), 0.0)
 
 
-def kept(log: pathlib.Path, minutes: float = 0.0) -> Run:
+def read_log(log: pathlib.Path, minutes: float = 0.0) -> Run:
     """What a log of an earlier run says, which took so many minutes, or 0 for nobody knows."""
     counts = counted(log.read_text(encoding='utf-8', errors='replace'))
     passed, failed, *_ = counts
@@ -98,7 +98,7 @@ def sums(folder: pathlib.Path) -> str:
 
 def summary(version: str, gate: Run | None, bodies: Run | None) -> str:
     """The row of bench/RELEASE.md."""
-    def told(it: Run | None, is_gate: bool = False) -> str:
+    def run_text(it: Run | None, is_gate: bool = False) -> str:
         if it is None:
             return 'not run'
         minutes = f', {it.minutes:.0f} minutes' if it.minutes else ''
@@ -109,4 +109,4 @@ def summary(version: str, gate: Run | None, bodies: Run | None) -> str:
     day = datetime.datetime.now(datetime.UTC).date()
     commit = output_of('git', 'rev-parse', '--short', 'HEAD')
     return (f'| {version} | {day} | {commit} | {output_of("rt", "version")} | {machine()} | '
-            f'{told(gate, True)} | {told(bodies)} |')
+            f'{run_text(gate, True)} | {run_text(bodies)} |')

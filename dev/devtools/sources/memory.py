@@ -66,7 +66,7 @@ class Finding:
     what: str
 
 
-def says_memory(tokens: list[Token], place: int) -> bool:
+def is_memory_token(tokens: list[Token], place: int) -> bool:
     """Whether the token at a place stands for want of memory."""
     text = tokens[place].text
     if text == "Memory":
@@ -81,7 +81,7 @@ def is_of_memory(pattern: list[Token]) -> bool:
         end = place_of(pattern, start, "|")
         alternatives.append(pattern[start:end])
         start = end + 1
-    return all(any(says_memory(it, place) for place in range(len(it))) for it in alternatives)
+    return all(any(is_memory_token(it, place) for place in range(len(it))) for it in alternatives)
 
 
 class Walk:
@@ -123,7 +123,7 @@ class Walk:
         """Keeps what an import gives another name."""
         end = place_of(tokens, place, ";")
         for here in range(place, end - 1):
-            if says_memory(tokens, here) and tokens[here + 1].text == "as":
+            if is_memory_token(tokens, here) and tokens[here + 1].text == "as":
                 self.made.append(tokens[here])
         return end + 1
 
@@ -153,13 +153,13 @@ class Walk:
         if text == "let":
             return place_of(tokens, place, "=", ";")
         if text == "::" and following == "<":
-            return self.behind_types(tokens, place + 1)
-        if says_memory(tokens, place) and not is_allowed:
+            return self.after_types(tokens, place + 1)
+        if is_memory_token(tokens, place) and not is_allowed:
             self.made.append(tokens[place])
         return place + 1
 
     @staticmethod
-    def behind_types(tokens: list[Token], place: int) -> int:
+    def after_types(tokens: list[Token], place: int) -> int:
         """The place behind types in angles."""
         depth = 0
         for end in range(place, len(tokens)):
@@ -200,7 +200,7 @@ class Walk:
                 equals = min(place_of(tokens, start, "="), brace)
                 is_handed |= is_of_memory(tokens[start + 1:equals])
                 start = equals
-            elif says_memory(tokens, start) and not is_allowed:
+            elif is_memory_token(tokens, start) and not is_allowed:
                 self.made.append(tokens[start])
             start += 1
         end = end_of_group(tokens, brace)

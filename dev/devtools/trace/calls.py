@@ -75,7 +75,7 @@ def quiet(text: str) -> str:
     return SPELLED.sub(blanked, text)
 
 
-def behind_group(text: str, start: int) -> int:
+def after_group(text: str, start: int) -> int:
     """The place behind the bracket that closes the one at `start`."""
     depth = 0
     for place in range(start, len(text)):
@@ -114,9 +114,9 @@ class Source:
         """Where an `impl` or a trait begins and ends, and whose it is."""
         head = re.sub(r'<[^<>]*>', '', re.sub(r'<[^<>]*>', '', it[1]))
         name = re.findall(r'\w+', head.rpartition(' for ')[2])
-        return it.start(), behind_group(self.quiet, it.end() - 1), name[0] if name else ''
+        return it.start(), after_group(self.quiet, it.end() - 1), name[0] if name else ''
 
-    def told_before(self, place: int) -> str:
+    def comment_before(self, place: int) -> str:
         """The comment above what begins at a place."""
         lines = self.text[:place].rstrip(' ').split('\n')[:-1]
         told = []
@@ -130,12 +130,12 @@ class Source:
         while place < len(self.quiet) and self.quiet[place] not in '{;':
             clause = CLAUSE.match(self.quiet, place)
             if clause:
-                end = behind_group(self.quiet, clause.end() - 1)
+                end = after_group(self.quiet, clause.end() - 1)
                 found.append(Clause(clause[1] + clause[2], (clause[3] or '').strip(),
                                     self.text[clause.end():end - 1].strip(), self.line(place)))
                 place = end
             elif self.quiet[place] in PAIRS:
-                place = behind_group(self.quiet, place)
+                place = after_group(self.quiet, place)
             else:
                 place += 1
         return found, place
@@ -149,12 +149,12 @@ class Source:
         start = it.start() + len(it.group()) - len(it.group().lstrip())
         clauses, body = self.clauses(it.end())
         is_given = self.quiet[body:body + 1] == '{'
-        end = behind_group(self.quiet, body) if is_given else body + 1
+        end = after_group(self.quiet, body) if is_given else body + 1
         inner = self.quiet[body + 1:end - 1] if is_given else ';'
         owner = next((name for begun, ended, name in self.owners if begun < start < ended), '')
         is_public = it[1] == 'pub ' and self.is_public
         return Call(self.crate, self.path, owner, it[2], self.line(start), self.line(end - 1),
-                    is_public, self.told_before(it.start()), tuple(clauses), inner)
+                    is_public, self.comment_before(it.start()), tuple(clauses), inner)
 
     def types(self) -> list[Declared]:
         """All types that it declares."""
@@ -162,10 +162,10 @@ class Source:
         for it in TYPE.finditer(self.quiet):
             brace = re.compile('[{;]').search(self.quiet, it.end())
             is_plain = brace is None or brace.group() == ';'
-            end = brace.end() if is_plain else behind_group(self.quiet, brace.start())
+            end = brace.end() if is_plain else after_group(self.quiet, brace.start())
             text = self.text[it.start():end] + self.model_of(it[1])
             found.append(Declared(self.crate, self.path, it[1], self.line(it.start()),
-                                  self.told_before(it.start()), text))
+                                  self.comment_before(it.start()), text))
         return found
 
     def model_of(self, name: str) -> str:

@@ -29,7 +29,7 @@ def outcomes() -> dict[str, dict[str, tuple[str, dict]]]:
     return {name: of for name, of in found.items() if of}
 
 
-def told_of(name: str) -> str:
+def tried_text(name: str) -> str:
     """What was tried on a definition, in a sentence, or nothing."""
     of = outcomes().get(name, {})
     if not of:
@@ -52,8 +52,9 @@ def name_of(it: Named) -> str:
 def held_by_no_law() -> str:
     """The changes that break no law, with what they break."""
     rows = [f'<tr><td>{html.escape(name)}</td><td><pre>- {html.escape(answer["before"])}\n'
-            f'+ {html.escape(answer["after"])}</pre></td><td>{html.escape(told_in(kind, answer))}'
-            '</td></tr>' for of in outcomes().values() for name, (kind, answer) in of.items()
+            f'+ {html.escape(answer["after"])}</pre></td><td>'
+            f'{html.escape(broken_text(kind, answer))}</td></tr>'
+            for of in outcomes().values() for name, (kind, answer) in of.items()
             if kind != LAW]
     count = sum(len(of) for of in outcomes().values())
     return (f'<h2 id="changed">Definitions that were changed</h2><p>{count} changes of definitions '
@@ -62,6 +63,6 @@ def held_by_no_law() -> str:
             f'</tr>{"".join(rows)}</table>')
 
 
-def told_in(kind: str, answer: dict) -> str:
+def broken_text(kind: str, answer: dict) -> str:
     """What an answer says that a change breaks."""
     return f'{answer["crate"]}, {answer["at"]}' if kind == CODE else kind

@@ -34,7 +34,7 @@ class Definition:
 Named = Definition | Declared
 
 
-def is_behind(line: str, name: str) -> bool:
+def continues_definition(line: str, name: str) -> bool:
     """Whether a line goes on with a definition: it is indented, or another equation of it."""
     return line.startswith((' ', '}')) or line.split(' ')[0] == name
 
@@ -81,10 +81,10 @@ class Reader:
             self.comment = []
         elif not line:
             self.comment = []
-        elif self.found and is_behind(line, self.found[-1].name):
-            self.go_on(line)
+        elif self.found and continues_definition(line, self.found[-1].name):
+            self.add_line(line)
 
-    def go_on(self, line: str) -> None:
+    def add_line(self, line: str) -> None:
         """Adds a line to the last definition, with a comment that stands before it."""
         lines = [self.found[-1].text, *(f'-- {it}' for it in self.comment), line]
         self.found[-1] = dataclasses.replace(self.found[-1], text='\n'.join(lines))

@@ -116,7 +116,7 @@ def broken() -> dict[str, tuple[str, ...]]:
 def is_refused_at(it: Edit, borne: Borne) -> bool:
     """Whether the prover's first open goal of an edit was a clause that bears a promise, and the
     kit says nothing against this answer."""
-    told = refusals.kept().get(it.key)
+    told = refusals.read_table().get(it.key)
     return bool(told) and not told.caveat and any(
         (call.crate, call.title) == (it.crate, told.call)
         and told.clause in {clause.label or clause.kind for clause in borne.clauses(call)} | {''}

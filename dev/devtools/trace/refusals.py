@@ -96,7 +96,7 @@ def completed(told: Refusal, printed: str) -> Refusal:
 
 
 @functools.cache
-def kept() -> dict[str, Refusal]:
+def read_table() -> dict[str, Refusal]:
     """The table."""
     if not TABLE.exists():
         return {}
@@ -117,9 +117,9 @@ def keep(log: str, check: Callable[[str], str] | None = None) -> int:
     for name, told in found.items():
         if check and told.goal.endswith(CUT):
             found[name] = completed(told, check(name))
-    table = {**kept(), **found}
+    table = {**read_table(), **found}
     there = {f'{it.parent.parent.name}/{it.stem}' for it in CRATES.glob('*/*/*.edit')}
     told = {name: shortened(table[name]) for name in sorted(table) if name in there}
     TABLE.write_text(json.dumps(told, indent=1, ensure_ascii=False) + '\n', encoding='utf-8')
-    kept.cache_clear()
+    read_table.cache_clear()
     return len(found)

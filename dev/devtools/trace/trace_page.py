@@ -82,7 +82,7 @@ def sources_read() -> list[page_head.Source]:
 
 def head(about: list[tuple[str, str]]) -> str:
     """The head of a page: its time, this machine, the sources, the commit."""
-    moment = page_head.moment_told(page_head.now())
+    moment = page_head.moment_text(page_head.now())
     return '\n'.join(page_head.head('dev/trace', moment, about, sources_read()))
 
 
@@ -217,7 +217,7 @@ class Sheet:
                 f'<span class="quiet">{kind} of {it.crate}, {self.source(it.path, it.line)}. '
                 f'{under}{inline(it.told)}</span>'
                 f'<pre>{self.linked(it.text, scope_of(it), it.name)}</pre>'
-                f'{changed.told_of(changed.name_of(it))}</div>')
+                f'{changed.tried_text(changed.name_of(it))}</div>')
 
     def crate(self, name: str, listed: list[Named]) -> str:
         """The definitions of a crate, under what the head of its `specs/Lib.antt` says of them."""
@@ -312,7 +312,7 @@ class StandardSheet(Sheet):
 
 def breaks(edit: Edit) -> str:
     """What a wrong body breaks, by the prover's last answer."""
-    told = refusals.kept().get(edit.key)
+    told = refusals.read_table().get(edit.key)
     if told is None:
         return 'its answer is not kept yet'
     at = f'{told.call}: {told.clause}' if told.clause else told.call

@@ -15,7 +15,7 @@ Row = dict[str, Any]
 Table = dict[str, Row]
 
 
-def kept(path: pathlib.Path | None) -> Table:
+def read_table(path: pathlib.Path | None) -> Table:
     """The table of a file, or an empty one."""
     try:
         text = path.read_text(encoding='utf-8') if path and path.exists() else '{}'

@@ -9,7 +9,7 @@ from collections.abc import Iterable, Iterator
 
 from devtools.trace.definitions import Definition, scope_of
 
-from .written import CLOSES, OPENS, Part, Token, behind_group, parts, silenced, tokens_in, types_of
+from .written import CLOSES, OPENS, Part, Token, after_group, parts, silenced, tokens_in, types_of
 
 PRELUDE = re.compile(r'^(use Rattle\.std\.specs\.Prelude\.\{)([^}]*)\}$', re.M)
 SIGNS = {'<': '≤', '≤': '<', '≡': '≢', '≢': '≡', '&&': '||', '||': '&&', '+': '-', '-': '+'}
@@ -54,7 +54,7 @@ class Change:
         return re.sub(r'^(?=use )', f'use Rattle.std.specs.Prelude.{{{self.needs}}}\n', changed,
                       count=1, flags=re.M)
 
-    def told(self, text: str) -> tuple[str, str]:
+    def changed_lines(self, text: str) -> tuple[str, str]:
         """The lines at which it stands, before and after."""
         begin, last = text.rfind('\n', 0, self.start) + 1, text[:self.end].rstrip()
         end = len(last) + len(text[len(last):].partition('\n')[0])
@@ -118,7 +118,7 @@ class Changer:
         """The test of an `if`, negated."""
         at = place + 1
         while at < len(tokens) and tokens[at].text not in ('then', 'if'):
-            at = behind_group(tokens, at)
+            at = after_group(tokens, at)
         if at < len(tokens) and tokens[at].text == 'then' and tokens[place + 1].text != 'not':
             start, end = tokens[place + 1].start, tokens[at - 1].end
             yield self.change('test', start, end, f'not ({self.whole[start:end]})', 'not')
@@ -130,7 +130,7 @@ class Changer:
         at = place + 1
         atoms: list[tuple[int, int]] = []
         while len(atoms) < len(types) and at < len(tokens) and is_atom(tokens[at]):
-            end = behind_group(tokens, at)
+            end = after_group(tokens, at)
             atoms.append((tokens[at].start, tokens[end - 1].end))
             at = end
         for (one, other), pair in zip(zip(atoms, atoms[1:]), zip(types, types[1:])):
@@ -210,7 +210,7 @@ def end_of(tokens: list[Token], place: int, breaks: set[str]) -> int:
     """The place behind the operand that follows a place."""
     at = place + 1
     while at < len(tokens) and tokens[at].text not in breaks | set(CLOSES):
-        at = behind_group(tokens, at)
+        at = after_group(tokens, at)
     return at
 
 
@@ -228,4 +228,4 @@ def changes_of(definition: Definition) -> list[Change]:
 
 def lines_of(changes: Iterable[Change]) -> dict[str, tuple[str, str]]:
     """The lines of changes, before and after, by their names."""
-    return {it.id: it.told(text_of(it.definition.path)) for it in changes}
+    return {it.id: it.changed_lines(text_of(it.definition.path)) for it in changes}

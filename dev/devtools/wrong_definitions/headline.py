@@ -40,7 +40,7 @@ def resting_on(definition: Definition) -> set[Named]:
 
 
 @functools.cache
-def said_by(crate: str) -> frozenset[Named]:
+def named_by(crate: str) -> frozenset[Named]:
     """What the clauses and the definitions of a crate name."""
     clauses = {it for call in calls_of(crate) for it in cited(call)}
     return frozenset(clauses.union(*map(below, definitions_of(crate))))
@@ -51,4 +51,4 @@ def citing(definition: Definition) -> Iterator[str]:
     of crates.txt."""
     meant = resting_on(definition)
     return (it for it in crates() if it != definition.crate
-            and definition.crate in crates_below(it) and meant & said_by(it))
+            and definition.crate in crates_below(it) and meant & named_by(it))

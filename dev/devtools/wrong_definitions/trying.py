@@ -32,7 +32,7 @@ class Answer:
     goal: str = ''
 
     @property
-    def told(self) -> str:
+    def text(self) -> str:
         """It in words."""
         looked = ', '.join(self.through)
         if self.verdict == PROVES:
@@ -43,7 +43,7 @@ class Answer:
 
 
 @dataclasses.dataclass(frozen=True)
-class Said:
+class ProverMessage:
     """A line of the prover on a place of a crate."""
     crate: str
     file: str
@@ -71,9 +71,9 @@ class Said:
         return '/'.join(it for it in (call.title, label) if it) if call else ''
 
 
-def said_in(crate: str, printed: str) -> list[Said]:
+def messages_in(crate: str, printed: str) -> list[ProverMessage]:
     """What the prover said of places, but for warnings."""
-    return [Said(crate, file, int(line), text, 'error' in text)
+    return [ProverMessage(crate, file, int(line), text, 'error' in text)
             for note, file, line, text in SAID.findall(printed)
             if note or text.startswith('error')]
 
@@ -87,7 +87,7 @@ def title_of(path: str) -> str:
 def first_goal(crate: str, printed: str) -> tuple[str, str]:
     """Where the first open goal stands, and that goal: a call and its clause where there is one,
     else a function whose proof rests on a lemma, and that lemma's file."""
-    said = said_in(crate, printed)
+    said = messages_in(crate, printed)
     if not said:
         return '', printed.strip().rpartition('\n')[2]
     goals = [it for it in said if not it.is_of_name]
@@ -102,7 +102,7 @@ def answer_in(crate: str, status: int, printed: str, through: tuple[str, ...]) -
     """What a check of a crate says of a change, or nothing where the crate is proved."""
     unbuilt = UNBUILT.search(printed)
     broken = unbuilt[1] if unbuilt else crate
-    unread = next((it for it in said_in(broken, printed) if it.is_of_text), None)
+    unread = next((it for it in messages_in(broken, printed) if it.is_of_text), None)
     at, goal = first_goal(broken, printed)
     if status == 0:
         return None

@@ -41,7 +41,7 @@ def tokens_in(text: str, start: int = 0, end: int | None = None) -> list[Token]:
             for it in TOKEN.finditer(text, start, len(text) if end is None else end)]
 
 
-def behind_group(tokens: list[Token], place: int) -> int:
+def after_group(tokens: list[Token], place: int) -> int:
     """The place behind the bracket that closes the one at a place; behind a token that is none."""
     depth = 0
     for at in range(place, len(tokens)):
@@ -64,7 +64,7 @@ def equations(text: str, name: str) -> list[Part]:
     for begin, end in zip(heads, [*heads[1:], len(text)]):
         tokens, place = tokens_in(text, begin, end), 0
         while place < len(tokens) and tokens[place].text not in ('=', ':'):
-            place = behind_group(tokens, place)
+            place = after_group(tokens, place)
         if place < len(tokens) and tokens[place].text == '=':
             start = tokens[place].end
             found.append(Part(begin, start, trimmed(text, start, end)))
@@ -94,12 +94,12 @@ def without_fact(text: str, name: str, names: frozenset[str]) -> str:
     gone: list[tuple[int, int]] = []
     for place, it in enumerate(tokens[1:], 1):
         if it.text == '{' and tokens[place - 1].text == 'record':
-            last, heads = behind_group(tokens, place) - 1, [place + 1]
+            last, heads = after_group(tokens, place) - 1, [place + 1]
             at = place + 1
             while at < last:
                 if tokens[at].text == ';':
                     heads.append(at + 1)
-                at = behind_group(tokens, at)
+                at = after_group(tokens, at)
             given = {tokens[head].text: head for head in heads if head < last}
             if set(given) == names and (not gone or tokens[given[name]].start >= gone[-1][1]):
                 head = given[name]
@@ -128,7 +128,7 @@ def types_of(definition: Definition) -> list[str]:
     found = [it for group in re.findall(r'\([^()]*\)', signed[2]) for it in split_type(group)]
     tokens, place, types = tokens_in(text, signed.end()), 0, ['']
     while place < len(tokens) and tokens[place].text not in (definition.name, 'where'):
-        end = behind_group(tokens, place)
+        end = after_group(tokens, place)
         if tokens[place].text == '→':
             types.append('')
         else:

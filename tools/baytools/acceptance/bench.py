@@ -4,7 +4,7 @@ from collections.abc import Callable
 from dataclasses import dataclass
 
 from baytools.common.positions import OF_BITS
-from baytools.wire.words import cause_told
+from baytools.wire.words import cause_text
 
 from .steps import ASKS, UNKNOWN, WAYS, Step
 
@@ -18,10 +18,10 @@ class Outcome:
     is_good: bool
     cause: int | None = None
 
-    def told(self, good: str, bad: str) -> str:
+    def text(self, good: str, bad: str) -> str:
         if self.is_good:
             return good
-        return f'{bad}: {cause_told(self.cause)}' if self.cause is not None else bad
+        return f'{bad}: {cause_text(self.cause)}' if self.cause is not None else bad
 
 
 @dataclass
@@ -41,7 +41,7 @@ class Bench(ABC):
 
     def do(self, step: Step) -> None:
         if step.told:
-            self.tell(step.told)
+            self.send_line(step.told)
         elif step.kind == 'lost':
             self.lose()
         elif step.kind == 'wait':
@@ -89,7 +89,7 @@ class Bench(ABC):
             found = now()
             is_wanted = found.is_good is (step.kind == 'accepted') and step.cause in (
                 None, found.cause)
-            return found.told('accepted', 'refused'), is_wanted
+            return found.text('accepted', 'refused'), is_wanted
         return later
 
     def expect_end(self, step: Step) -> Later:
@@ -99,11 +99,11 @@ class Bench(ABC):
             found = now()
             if found is None:
                 return 'no end is reported', False
-            return found.told('ended: done', 'ended'), found.cause == step.cause
+            return found.text('ended: done', 'ended'), found.cause == step.cause
         return later
 
     @abstractmethod
-    def tell(self, line: str) -> None:
+    def send_line(self, line: str) -> None:
         """The process tells a contact, an input or a measure."""
 
     @abstractmethod
@@ -146,7 +146,7 @@ class Bench(ABC):
         """Lets go what it holds, also where something went wrong."""
 
 
-def position_told(bits: str, quality: str) -> str:
+def position_text(bits: str, quality: str) -> str:
     """A position in words, by its bits and those of its quality."""
     return UNKNOWN if (bits, quality[:2]) == UNREPORTED else OF_BITS[bits]
 

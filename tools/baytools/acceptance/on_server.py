@@ -9,15 +9,15 @@ from baytools.common.ending import Failed
 from baytools.common.positions import WAYS as WAYS_TOLD
 from baytools.common.texts import raised
 from baytools.wire import mms
-from baytools.wire.client import Client, connection_told
+from baytools.wire.client import Client, connection_text
 from baytools.wire.control import Control
-from baytools.wire.conversation import Said
+from baytools.wire.conversation import Description
 from baytools.wire.process import (NO_KEY, Life, ServerClock, greeting_of, moment_of, same_bay,
                                    ungreeted)
 from baytools.wire.same_bay import compared
 from baytools.wire.sockets import is_taken
 
-from .bench import Bench, Outcome, position_told
+from .bench import Bench, Outcome, position_text
 
 HOST, IDENTITY = '127.0.0.1', 'acceptance'
 GREETED, TAKEN, LOOK = 0.3, 5, 0.02  # seconds for a greeting, to be taken, between two looks
@@ -51,7 +51,7 @@ class Process:
         try:
             found = socket.create_connection((HOST, self.port), TAKEN)
         except OSError as error:
-            raise Failed(connection_told(error, HOST, self.port)) from None
+            raise Failed(connection_text(error, HOST, self.port)) from None
         self.socket, self.rest = found, b''
         if not until(lambda: is_taken(found) is not False, TAKEN):
             raise Failed(f'port {self.port}: the server takes one process at a time, and has '
@@ -84,38 +84,38 @@ class Process:
     def run(self, connection: socket.socket, first: list[str]) -> None:
         """Hears until the connection ends."""
         try:
-            self.hear(first)
+            self.receive_lines(first)
             while connection is self.socket:
-                self.hear(self.lines(connection, LOOK))
+                self.receive_lines(self.lines(connection, LOOK))
                 if self.life and self.clock and self.life.is_due():
-                    self.tells(connection, 'alive')
+                    self.send_stamped(connection, 'alive')
         except OSError as error:
             if connection is self.socket:
                 self.trouble = f'port {self.port}: the process is lost: {error.strerror or error}'
 
-    def hear(self, lines: list[str]) -> None:
+    def receive_lines(self, lines: list[str]) -> None:
         for line in lines:
             moment = moment_of(line)
             if self.clock and moment is not None:
-                self.clock.hears(moment)
+                self.clock.on_moment(moment)
             match line.split(' '):
                 case [_, 'command', name, way] if way in WAYS_TOLD:
                     self.commands.append((raised(name), WAYS_TOLD[way]))
                 case [_, 'refused', code]:
                     self.trouble = f'port {self.port}: the server refuses a line ({code})'
 
-    def tells(self, connection: socket.socket, line: str) -> None:
+    def send_stamped(self, connection: socket.socket, line: str) -> None:
         """Sends a line with the server's time, or 0 where nobody looks at it. The thread tells too,
         and the times of the lines must not go back."""
         with self.lock:
             stamp = self.clock.stamp() if self.clock else 0
             connection.sendall(f'{stamp} {line}\n'.encode())
 
-    def tell(self, line: str) -> None:
+    def send_line(self, line: str) -> None:
         """Tells the server a line."""
         connection = self.socket or self.connect()
         try:
-            self.tells(connection, line)
+            self.send_stamped(connection, line)
         except OSError as error:
             self.trouble = self.trouble or f'port {self.port}: {error.strerror}'
         time.sleep(SETTLE)
@@ -137,8 +137,8 @@ class Served(Bench):
         try:
             self.client = Client(HOST, port, self.names, on_report=lambda told: None)
         except OSError as error:
-            raise Failed(connection_told(error, HOST, port)) from None
-        self.client.on_said = self.said
+            raise Failed(connection_text(error, HOST, port)) from None
+        self.client.on_said = self.on_report
         self.process = Process(process, (bay.get('domain', ''), bay.get('revision', '')), key)
         self.asked, self.begun = Outcome(False), 0
         self.is_ended: Outcome | None = None
@@ -155,12 +155,12 @@ class Served(Bench):
             raise Failed(f'port {port}: the server has another bay: {different[0]}')
         self.process.connect()
 
-    def said(self, said: Said) -> None:
+    def on_report(self, said: Description) -> None:
         if said.kind == 'ended':
             self.is_ended = Outcome(said.good, said.cause)
 
-    def tell(self, line: str) -> None:
-        self.process.tell(line)
+    def send_line(self, line: str) -> None:
+        self.process.send_line(line)
 
     def lose(self) -> None:
         self.process.close()
@@ -193,7 +193,7 @@ class Served(Bench):
 
         def now() -> str:
             bits, quality = (value.value for _, value in self.client.read(items))
-            return position_told(bits, quality)
+            return position_text(bits, quality)
 
         until(lambda: now() == wanted, PATIENCE)
         found = now()

@@ -8,10 +8,10 @@ from baytools.common.positions import WAYS as WAYS_TOLD
 from baytools.report.joined import scenario_of
 from baytools.report.replay import NotLoaded, Replay, replayed
 from baytools.wire import mms, stream
-from baytools.wire.conversation import Conversation, Said, got_of
+from baytools.wire.conversation import Conversation, Description, got_of
 from baytools.wire.mms import Failure
 
-from .bench import Bench, Outcome, position_told
+from .bench import Bench, Outcome, position_text
 
 BEGIN, APART, SCANS = 1000, 10, 100  # the first moment; ms between two steps; ms between two scans
 MOST = 1000  # scans of a wait
@@ -22,7 +22,7 @@ ITEMS = {'select': 'SBOw', 'operate': 'Oper', 'cancel': 'Cancel'}
 @dataclass
 class Heard:
     """What a line of the trace came to: what was said, values that were read, and a command."""
-    said: list[Said] = field(default_factory=list)
+    said: list[Description] = field(default_factory=list)
     values: list = field(default_factory=list)
     command: tuple[str, str] | None = None
 
@@ -56,13 +56,13 @@ class Trace(Bench):
         self.invoke += 1
         return self.recv(stream.wrapped(stream.data_tsdu(of(self.invoke, *more))))
 
-    def tell(self, line: str) -> None:
+    def send_line(self, line: str) -> None:
         self.now += APART
         self.line(line)
         self.line('scan')
 
     def lose(self) -> None:
-        self.tell('lost')
+        self.send_line('lost')
 
     def wait(self, time: int) -> None:
         count = min(max(time // SCANS, 1), MOST)
@@ -108,7 +108,7 @@ class Trace(Bench):
     def position(self, switch: str, wanted: str) -> Callable[[], str]:
         node = self.names.node(switch)
         values = self.read(f'{node}$ST$Pos$stVal', f'{node}$ST$Pos$q')
-        return lambda: position_told(*values())
+        return lambda: position_text(*values())
 
     def commands(self, wanted: list) -> Callable[[], list[tuple[str, str]]]:
         begin, end = self.asked[0] if self.asked else 1, len(self.lines)
@@ -145,13 +145,13 @@ class Trace(Bench):
             heard = self.heard[step.number] = Heard()
             talk.on_answer = lambda request, pdu, heard=heard: heard.values.extend(pdu.data)
             for got in step.heard:
-                talk.asks(got)
+                talk.describe_message(got)
             heard.said = [talk.answers(got_of(octets)) for _, octets in step.sent]
             if step.command:
                 name, way = step.command
                 heard.command = self.id_of(name), WAYS_TOLD[way]
         if replay.ending:
-            raise Failed(replay.ending_told())
+            raise Failed(replay.ending_text())
 
     def id_of(self, name: str) -> str:
         """The id of a switch as the bay file has it."""

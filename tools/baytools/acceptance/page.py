@@ -66,10 +66,10 @@ def page_of(file: dict, files: dict, how: str, sections: list[Section],
     kind = 'good' if is_passed(file, findings) else 'bad'
     parts = [f'<h1>{escaped(title)}</h1>',
              f'<div class="verdict {kind}"><p>{escaped(verdict(file, findings))}</p></div>',
-             *page_head.head('tools/acceptance', page_head.span_told(begun, page_head.now()), about,
+             *page_head.head('tools/acceptance', page_head.span_text(begun, page_head.now()), about,
                              read),
              signatures(), '<h2>Steps</h2>']
     for section in sections:
         parts += [f'<h3>{escaped(section.title)}</h3>'] * bool(section.title)
         parts.append(table(heads, rows_of(section, by_line), ' class="steps"'))
-    return page(title, A4 % f'Bay {bay["domain"]}, {page_head.moment_told(begun)}' + STYLE, parts)
+    return page(title, A4 % f'Bay {bay["domain"]}, {page_head.moment_text(begun)}' + STYLE, parts)

@@ -102,13 +102,13 @@ class Reader:
         """What the words of a step name, or None where its form is another."""
         match lead, kind, rest:
             case 'do', 'contact', [name, position] if position in POSITIONS:
-                return {'told': self.told('contact', name, POSITIONS.index(position))}
+                return {'told': self.process_line('contact', name, POSITIONS.index(position))}
             case 'do', 'input', [name, value]:
                 return {'told': self.input(name, value)}
             case 'do', 'key', [name, where] if where in KEYS:
                 return {'told': self.input(self.key(name), KEYS[where])}
             case 'do', 'measure', [name, of, value]:
-                return {'told': self.told(kind, name, of, value)}
+                return {'told': self.process_line(kind, name, of, value)}
             case 'do', 'lost', []:
                 self.true.clear()
                 return {}
@@ -120,7 +120,7 @@ class Reader:
             case 'do', 'wait', [time]:
                 return {'time': self.time(time)}
             case 'do', _, [name, way] if kind in ASKS and way in WAYS:
-                return self.asks(kind, name, way)
+                return self.client_request(kind, name, way)
             case 'expect', 'released' | 'blocked' | 'command', [name, way] if way in WAYS:
                 return {'switch': self.switches[self.switch(name)]['id'], 'way': way}
             case 'expect', 'position', [name, position] if position in (*POSITIONS, UNKNOWN):
@@ -130,7 +130,7 @@ class Reader:
                 return {'cause': cause, 'tried': self.tried(kind, cause)}
         return None
 
-    def asks(self, kind: str, name: str, way: str) -> dict:
+    def client_request(self, kind: str, name: str, way: str) -> dict:
         """A client asks something of a switch."""
         self.asked = self.switches[self.switch(name)]
         self.is_local = kind == 'operate' and 'remote' in self.asked and (
@@ -151,7 +151,7 @@ class Reader:
 
     def input(self, name: str, value: str | int) -> str:
         """The line of a process that tells an input."""
-        line = self.told('input', name, value)
+        line = self.process_line('input', name, value)
         (self.true.add if str(value) == '1' else self.true.discard)(raised(name))
         return line
 
@@ -160,7 +160,7 @@ class Reader:
             raise self.wrong(f'{name} is not a switch of the bay')
         return raised(name)
 
-    def told(self, verb: str, *words) -> str:
+    def process_line(self, verb: str, *words) -> str:
         """The line of a process, without its time."""
         line = ' '.join(map(str, (verb, raised(words[0]), *words[1:])))
         trouble = self.known.trouble(f'0 {line}'.encode('utf-8', 'backslashreplace'))

@@ -228,7 +228,7 @@ def lost_of(line: str, words: list[str], keys: set) -> Lost:
         raise Bad(line)
     (name, way), (state, *rest) = way_of(line, words[:2], keys), words[2:]
     if state == DEPENDS:
-        return Lost(name, way, state, kept_of(line, rest, 'on'))
+        return Lost(name, way, state, dependencies_of(line, rest, 'on'))
     if state not in (RELEASED, BLOCKED) or rest:
         raise Bad(line)
     return Lost(name, way, state)
@@ -241,7 +241,7 @@ def count_of(line: str, word: str) -> int:
     return int(found[1])
 
 
-def kept_of(line: str, words: list[str], sign: str) -> tuple[str, ...]:
+def dependencies_of(line: str, words: list[str], sign: str) -> tuple[str, ...]:
     """What an answer depends on: what stands behind a sign, if it stands there."""
     if not words:
         return (COMPUTED,)
@@ -261,7 +261,7 @@ def case_of(line: str, words: list[str], keys: set, sign: str = '') -> Case:
         if not equals or key is None:
             raise Bad(line)
         values[key] = tuple(range_of(line, part) for part in text.split('|'))
-    return Case(values, kept_of(line, words[at:], sign) if sign else ())
+    return Case(values, dependencies_of(line, words[at:], sign) if sign else ())
 
 
 def range_of(line: str, text: str) -> tuple[int, int]:

@@ -9,7 +9,7 @@ from baytools.common.texts import counted, raised
 
 from . import answers
 from .answers import WAYS, Judged
-from .proofs import Shown, completed, told
+from .proofs import Shown, case_text, completed
 from .replays import scans_of
 from .variables import Bay, Thing, all_things
 
@@ -61,7 +61,7 @@ def judgements(file: dict, judged: Sequence[Judged]) -> list[Judgement]:
     """What was found of each operation, in bayctl's order, for the tables of a bay file."""
     things = list(all_things(file))
     names = {raised(it['id']): it['id'] for it in file['switch']}
-    return [Judgement(it, names[it.name], told(it.case, things)) for it in judged]
+    return [Judgement(it, names[it.name], case_text(it.case, things)) for it in judged]
 
 
 def replayed(bay: Bay, judged: Sequence[Judged], bayctl) -> list[Judgement]:
@@ -91,7 +91,7 @@ def lines_of(found: Judgement, diagram: str) -> list[str]:
     if verdict == 'BROKEN':
         first = f'BROKEN: {found.switch} {found.operation()} is released while it is a hazard in ' \
             f'{diagram}'
-        return [first, f'proved: with {found.where}{why_told(answer)}',
+        return [first, f'proved: with {found.where}{why_text(answer)}',
                 *([] if found.shown is None or found.shown.is_so else [DOUBTED])]
     first = f'{verdict}: no command to {found.operation()} {found.switch} while that is a hazard ' \
         f'in {diagram}'
@@ -99,16 +99,16 @@ def lines_of(found: Judgement, diagram: str) -> list[str]:
         return [first, 'there are too many cases to prove it']
     if answer.verdict == answers.OPEN:
         return [first, 'holds, unless the program, by what it keeps or calculates, releases it '
-                       f'with {found.where}{why_told(answer)}']
+                       f'with {found.where}{why_text(answer)}']
     return [first]
 
 
-def why_told(answer: Judged) -> str:
+def why_text(answer: Judged) -> str:
     """The hazard in words, if bayctl prints them."""
     return f': {answer.why}' if answer.why else ''
 
 
-def counts_told(found: Sequence[Judgement], diagram: str) -> str:
+def counts_text(found: Sequence[Judgement], diagram: str) -> str:
     """How many releases are no hazard, how many are, and of how many that is open."""
     verdicts = [it.verdict() for it in found]
     if set(verdicts) <= {'PROVED'}:

@@ -22,7 +22,7 @@ def write_table(bay, table: list, path) -> None:
         writer.writerow([thing.name if names.count(raised(thing.name)) == 1 else
                          f'{thing.name} ({thing.kind})' for thing in bay.things] + heads)
         for combination, releases in table:
-            values = [thing.told(value) for thing, value in zip(bay.things, combination)]
+            values = [thing.value_text(value) for thing, value in zip(bay.things, combination)]
             free = [int(free) for name in bay.switches() for free in releases[raised(name)]]
             writer.writerow(values + free)
 
@@ -68,7 +68,7 @@ def blocks_of(bay, table: list) -> list[Block]:
     return blocks
 
 
-def looked_told(column: Column) -> str:
+def looked_text(column: Column) -> str:
     return f'of {column.looked:,}'
 
 
@@ -84,22 +84,22 @@ def block_of(thing, place, table, masks, count) -> 'Block':
     columns = []
     for found, values in groups.items():
         counts = [len(values) * sum(mask >> at & 1 for mask in found) for at in range(count)]
-        columns.append(Column(group_told(thing, values), len(values) * len(found), counts))
+        columns.append(Column(group_text(thing, values), len(values) * len(found), counts))
     return Block(thing, columns, {at for at in range(count) if differing >> at & 1})
 
 
-def group_told(thing, values) -> str:
-    others = [thing.told(value) for value in thing.values if value not in values]
+def group_text(thing, values) -> str:
+    others = [thing.value_text(value) for value in thing.values if value not in values]
     if thing.kind == SWITCH and others and len(others) < len(values):
         return 'not ' + '|'.join(others)
-    return '|'.join(thing.told(value) for value in values)
+    return '|'.join(thing.value_text(value) for value in values)
 
 
 def notes_of(bay, blocks) -> list:
     """What has no column, in words."""
     shown = [block.thing for block in blocks]
     idle = [it.name for it in bay.things if it not in shown and len(it.values) > 1]
-    held = [f'{it.name} {it.told(it.values[0])}' for it in bay.things if len(it.values) == 1]
+    held = [f'{it.name} {it.value_text(it.values[0])}' for it in bay.things if len(it.values) == 1]
     notes = [f'Held at one value: {", ".join(held)}.'] if held else []
     notes += [f'No release depends on {", ".join(idle)}.'] if idle else []
     return notes + ([f'Not read by the program: {", ".join(bay.unread)}.'] if bay.unread else [])
@@ -158,7 +158,7 @@ def finished(picture, bay, table, blocks, heading, key='') -> str:
 def draw_band(picture, bay, table, blocks, band, is_first) -> None:
     """The releases over some of the blocks; below the first band only those that depend on one."""
     longest = max([room(told) for block in band for column in block.columns
-                   for told in (column.told, looked_told(column))] + [24])
+                   for told in (column.told, looked_text(column))] + [24])
     name_y = picture.y + 24
     picture.y += 24 + longest + 22
     for block in band:
@@ -181,7 +181,7 @@ def draw_head(picture, block, x, y, top) -> None:
     for at, column in enumerate(block.columns):
         middle = x + block.cell * at + block.cell / 2
         picture.upward(middle - 4, top - 8, column.told)
-        picture.upward(middle + 12, top - 8, looked_told(column), FAINT)
+        picture.upward(middle + 12, top - 8, looked_text(column), FAINT)
 
 
 def draw_row(picture, name, way, at, band) -> None:

@@ -41,7 +41,7 @@ class Report:
     def page(self) -> str:
         bay = self.bay.file['bay']
         title = f'Audit of the interlocking of bay {bay["domain"]}'
-        style = A4 % f'Bay {bay["domain"]}, {page_head.moment_told(self.begun)}'
+        style = A4 % f'Bay {bay["domain"]}, {page_head.moment_text(self.begun)}'
         parts = [f'<h1>{escaped(title)}</h1>', self.verdict(), *self.head(),
                  signatures(), self.how(), self.rules(), self.hazards(), self.diagram(),
                  self.conditions(), self.lost(), self.start(), self.uncovered(), self.matrix()]
@@ -66,7 +66,7 @@ class Report:
         read = [page_head.source_of(what, *it) for what, it in self.files.items()]
         about = [('Bay', bay['domain']),
                  ('Device', f'{bay["vendor"]} {bay["model"]}, {bay["revision"]}')]
-        span = page_head.span_told(self.begun, page_head.now())
+        span = page_head.span_text(self.begun, page_head.now())
         return page_head.head('tools/audit', span, about,
                              [*read, page_head.source_at('bayctl', self.bayctl)])
 
@@ -74,14 +74,14 @@ class Report:
         """What proved and tried mean, and what was tried."""
         audit = self.audit
         notes = [PROVED] if audit.answer else []
-        notes.append(self.tried_told() if audit.table else 'Nothing was tried.')
+        notes.append(self.tried_text() if audit.table else 'Nothing was tried.')
         rows = [(escaped(it.name), it.kind, escaped(', '.join(it.words()))
                  + (' (not all)' if it.is_restricted() else '')) for it in self.bay.things]
         shown = table(['Point', 'Kind', 'Values that were tried'], rows) if audit.table else ''
         return ('<h2>What was proved and what was tried</h2>'
                 + ''.join(f'<p>{note}</p>' for note in notes + self.notes()) + shown)
 
-    def tried_told(self) -> str:
+    def tried_text(self) -> str:
         audit, some = self.audit, ''
         if not audit.is_whole():
             some = f' of {audit.bay.count():,}, spread over all'

@@ -25,7 +25,7 @@ class Progress:
         if word in self.done:
             self.done[word] += 1
 
-    def told(self) -> str:
+    def text(self) -> str:
         """How far it is, in words."""
         left = [what for what in self.all if self.done[what] < self.all[what]]
         what = left[0] if left else 'diagram' if self.all['diagram'] else 'release'
@@ -35,7 +35,7 @@ class Progress:
 
 
 @contextlib.contextmanager
-def shown_while(what: str, progress: Progress) -> Iterator[Callable[[bytes], None]]:
+def show_progress(what: str, progress: Progress) -> Iterator[Callable[[bytes], None]]:
     """Shows how far what is done within it is, and for how long it has been at it, where someone
     sees it and it takes longer than a second; takes it away behind. Hands out what takes the lines
     of bayctl."""
@@ -48,7 +48,7 @@ def shown_while(what: str, progress: Progress) -> Iterator[Callable[[bytes], Non
         wait = FIRST
         while not is_over.wait(wait):
             wait = EVERY
-            put(f'\r{what}: {progress.told()}, {time.monotonic() - since:.0f} s\x1b[K')
+            put(f'\r{what}: {progress.text()}, {time.monotonic() - since:.0f} s\x1b[K')
         if wait == EVERY:
             put('\r\x1b[K')
 

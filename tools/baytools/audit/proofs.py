@@ -55,7 +55,7 @@ def moments_of(rule) -> list[int]:
     return [0, rule.since.time if rule.wanted else rule.since.time - 1]
 
 
-def shown(bay: Bay, rule, case: Case, bayctl) -> Shown:
+def replay_case(bay: Bay, rule, case: Case, bayctl) -> Shown:
     """A case that breaks a rule, replayed."""
     things, moments = list(all_things(bay.file)), moments_of(rule)
     state = (example if rule.since else completed)(case, things)
@@ -69,19 +69,19 @@ def shown(bay: Bay, rule, case: Case, bayctl) -> Shown:
     return Shown(state, lines, bool(rule.condition(state) and after(state)) and is_broken)
 
 
-def told(case: Case, things: list[Thing]) -> str:
+def case_text(case: Case, things: list[Thing]) -> str:
     """A case in words."""
     parts = []
     for thing in things:
         ranges = case.values.get(thing.key)
         if ranges is not None:
-            parts.append(f'{thing.name} ' + '|'.join(range_told(thing, *it) for it in ranges))
+            parts.append(f'{thing.name} ' + '|'.join(range_text(thing, *it) for it in ranges))
     return ', '.join(parts) or 'anything'
 
 
-def range_told(thing: Thing, least: int, most: int) -> str:
+def range_text(thing: Thing, least: int, most: int) -> str:
     if thing.kind != MEASURE:
-        return '|'.join(str(thing.told(value)) for value in range(least, most + 1))
+        return '|'.join(str(thing.value_text(value)) for value in range(least, most + 1))
     if least == most:
         return str(least)
     return f'up to {most}' if least == LEAST else f'from {least}' if most == MOST else (
@@ -119,7 +119,7 @@ def variable_of(thing: Thing, cases: list[Case], rules: list[Rule]) -> Variable:
     begins = sorted({LEAST, *(least for least, _ in ranges),
                      *(most + 1 for _, most in ranges if most < MOST)})
     found = tuple(zip(begins, [*(begin - 1 for begin in begins[1:]), MOST]))
-    return Variable(thing.name, tuple(range_told(thing, *it) for it in found), ranges=found)
+    return Variable(thing.name, tuple(range_text(thing, *it) for it in found), ranges=found)
 
 
 def firsts_of(variable: Variable) -> list[int]:
@@ -137,7 +137,7 @@ def cube_of(case: Case, things: list[Thing], variables: list[Variable]) -> tuple
 def asking(rule: Rule, values: dict[tuple, list[int]], state: dict) -> Iterator[dict]:
     """The states in which a rule asks for what it names, each as far as the rule looks at it."""
     try:
-        if rule.asks(state):
+        if rule.applies(state):
             yield state
     except KeyError as unknown:
         key = unknown.args[0]
@@ -145,7 +145,7 @@ def asking(rule: Rule, values: dict[tuple, list[int]], state: dict) -> Iterator[
             yield from asking(rule, values, state | {key: value})
 
 
-def asked_cubes(rule: Rule, things: list[Thing], variables: list[Variable]) -> list[tuple]:
+def rule_cubes(rule: Rule, things: list[Thing], variables: list[Variable]) -> list[tuple]:
     """Where a rule asks for what it names, as cubes; TooLarge where these are too many."""
     values = {thing.key: firsts_of(it) for thing, it in zip(things, variables)}
     cubes = []
@@ -163,7 +163,7 @@ def derived(release: Release, bay_file: dict, rules: list[Rule]) -> Derived:
     named |= {key for rule in rules for key in rule.names}
     things = [thing for thing in all_things(bay_file) if thing.key in named]
     variables = [variable_of(thing, release.cases, rules) for thing in things]
-    asked = [cube for rule in rules for cube in asked_cubes(rule, things, variables)]
+    asked = [cube for rule in rules for cube in rule_cubes(rule, things, variables)]
 
     def condition(kept: tuple) -> Condition:
         cubes = [cube_of(case, things, variables) for case in release.cases if case.kept == kept]

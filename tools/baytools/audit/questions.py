@@ -40,11 +40,11 @@ def can_judge(bayctl) -> bool:
     return b'--diagram' in told.stdout + told.stderr
 
 
-def unseen(line: bytes) -> None:
+def ignore_line(line: bytes) -> None:
     """A line that comes from bayctl, where nobody looks how far it is."""
 
 
-def asked(bayctl, bay, logic, rules, keys: set, each=unseen, diagram=None) -> Answer:
+def run_audit(bayctl, bay, logic, rules, keys: set, each=ignore_line, diagram=None) -> Answer:
     """The answer of bayctl on a bay file, a program, and a file of rules or a diagram or both;
     `keys` are the things of the bay, as rules know them. Each line is handed to `each` when it
     comes."""
@@ -54,10 +54,10 @@ def asked(bayctl, bay, logic, rules, keys: set, each=unseen, diagram=None) -> An
     printed = done.stdout.decode('utf-8', 'backslashreplace')
     refused, drawn = REFUSED.search(printed), REFUSED_DIAGRAM.search(printed)
     if refused:
-        raise Failed(f'{rules}: line {refused[2]}: {refusal_told(refused[1])}')
+        raise Failed(f'{rules}: line {refused[2]}: {refusal_text(refused[1])}')
     if drawn:
         place = f'{drawn[2]}: ' if drawn[2] else ''
-        raise Failed(f'{diagram}: {place}{refusal_told(drawn[1])} (tools/diagnose --diagram shows '
+        raise Failed(f'{diagram}: {place}{refusal_text(drawn[1])} (tools/diagnose --diagram shows '
                      'where)')
     if done.returncode not in (DONE, FOUND):
         said = printed.strip() or done.stderr.decode('utf-8', 'backslashreplace').strip()
@@ -70,7 +70,7 @@ def asked(bayctl, bay, logic, rules, keys: set, each=unseen, diagram=None) -> An
         raise Failed(f'bayctl audit printed what this tool can\'t read: {error}') from None
 
 
-def refusal_told(code: str) -> str:
+def refusal_text(code: str) -> str:
     """A refusal by bayctl, with what its number means and the remedy."""
     fault = faults().get(int(code))
     return f'bayctl refuses it with {code}' + (f': {fault.meaning} {fault.mend}' if fault else '')
@@ -94,12 +94,13 @@ def judged_of(bayctl, bay, logic, diagram, keys: set) -> list[Judged]:
     """What bayctl answers of each release and the hazards in a diagram."""
     if not can_judge(bayctl):
         raise Failed(f'{bayctl}: it has no `audit --diagram`')
-    return asked(bayctl, bay, logic, None, keys, diagram=diagram).judged
+    return run_audit(bayctl, bay, logic, None, keys, diagram=diagram).judged
 
 
-def answer_of(bayctl, bay, logic, rules, keys: set, each=unseen, diagram=None) -> Answer | None:
+def answer_of(bayctl, bay, logic, rules, keys: set, each=ignore_line,
+              diagram=None) -> Answer | None:
     """The answer of bayctl, or None where it can prove nothing."""
-    return asked(bayctl, bay, logic, rules, keys, each, diagram) if can_prove(bayctl) else None
+    return run_audit(bayctl, bay, logic, rules, keys, each, diagram) if can_prove(bayctl) else None
 
 
 def proved_of(bayctl, bay, logic, file: dict) -> Proved | None:
@@ -121,7 +122,7 @@ def any_rule(keys: set) -> str:
     return f'never {name} open when {name} open and {name} closed\n'
 
 
-def releases_of(bayctl, bay, logic, keys: set, each=unseen, diagram=None) -> Answer | None:
+def releases_of(bayctl, bay, logic, keys: set, each=ignore_line, diagram=None) -> Answer | None:
     """What bayctl says of the releases, and of a diagram, if one is given, whatever the rules are;
     None where it can prove nothing."""
     answer = answer_of(bayctl, bay, logic, rules_file(any_rule(keys)).name, keys, each, diagram)

@@ -72,7 +72,7 @@ def timed_scenarios(bay, pairs, offsets, bayctl) -> Iterator:
         yield part, bay.scenario(timed_trace_of(bay, part, offsets))
 
 
-def asked_ahead(bayctl, parts: Iterable[tuple]) -> Iterable[tuple]:
+def replay_ahead(bayctl, parts: Iterable[tuple]) -> Iterable[tuple]:
     """Scenarios, each with what it goes through. The sources of bayctl replay all in one go."""
     if is_tried(bayctl):
         parts = list(parts)

@@ -8,14 +8,14 @@ from collections.abc import Iterator
 from dataclasses import dataclass, field
 
 from baytools.bay.conditions import TooLarge, Variable, condition
-from baytools.common.ending import CalledWrong, Failed
+from baytools.common.ending import Failed, UsageError
 from baytools.common.texts import counted, raised
 
 from . import answers, hazards
 from .answers import Answer, Proof
 from .hazards import Judgement
-from .proofs import Shown, conditions, shown
-from .replays import asked_ahead, scans_of, scenarios, timed_scenarios, timed_trace_of, trace_of
+from .proofs import Shown, conditions, replay_case
+from .replays import replay_ahead, scans_of, scenarios, timed_scenarios, timed_trace_of, trace_of
 from .variables import SWITCH, WAYS
 
 PAIRS = 200_000  # most pairs of combinations that a rule with a time is tried with
@@ -99,8 +99,8 @@ def offsets_of(program, rules: list, pause: int | None) -> list[int]:
     times = [rule.since.time for rule in rules if rule.since]
     longest = max([program.longest(), *times])
     if pause is not None and pause <= longest:
-        raise CalledWrong(f'--pause {pause}: it must be more than {longest:,} ms, the longest time '
-                          'of the timers and the rules')
+        raise UsageError(f'--pause {pause}: it must be more than {longest:,} ms, the longest time '
+                         'of the timers and the rules')
     last = pause if pause is not None else max(60_000, 2 * sum([program.longest(), *times]))
     inner = {*program.moments(), *(at for time in times for at in (time - 1, time))}
     return [0, *sorted(at for at in inner if 0 < at < last), last]
@@ -136,12 +136,12 @@ def audit(bay, rules: list, bayctl, pause: int | None = None, answer: Answer | N
         raise Failed(f'bayctl audit says nothing of the rule of line {missing}')
     for finding in findings:
         if finding.proof and finding.proof.verdict == answers.BROKEN:
-            finding.shown = shown(bay, finding.rule, finding.proof.case, bayctl)
+            finding.shown = replay_case(bay, finding.rule, finding.proof.case, bayctl)
     chosen = chosen_of(bay, findings, answer is None or is_table_asked)
     judged = hazards.replayed(bay, answer.judged if answer else [], bayctl)
     found = Audit(bay, findings, answer, [], offsets, 0, judged=judged, diagram=diagram)
     if chosen:
-        tell_size(bay, len(chosen), offsets)
+        print_size(bay, len(chosen), offsets)
     go_through(found, chosen, bayctl)
     for finding in findings:
         if finding.rule.since and chosen:
@@ -171,7 +171,7 @@ def go_through(found: Audit, chosen: list[tuple], bayctl) -> None:
     """Tries each combination, each reached from the one before it."""
     progress = Progress(len(chosen))
     parts = scenarios(found.bay, chosen, found.offsets, bayctl)
-    for part, octets in asked_ahead(bayctl, parts):
+    for part, octets in replay_ahead(bayctl, parts):
         scans = scans_of(bayctl, octets)
         for place, combination in enumerate(part):
             seen = several(scans, len(found.offsets))
@@ -190,7 +190,7 @@ def several(scans: Iterator, count: int) -> list:
     return seen
 
 
-def tell_size(bay, chosen: int, offsets: list[int]) -> None:
+def print_size(bay, chosen: int, offsets: list[int]) -> None:
     """Tells what is tried."""
     switches = sum(thing.kind == SWITCH for thing in bay.things)
     told = f'{counted(switches, "switch", "switches")}, '
@@ -218,7 +218,7 @@ def judge(finding, bay, part: list, place: int, offsets, seen) -> None:
         finding.breaks(combination, after, lines)
 
 
-def befores_of(bay, rule, combination) -> Iterator[tuple]:
+def earlier_combinations(bay, rule, combination) -> Iterator[tuple]:
     """The combinations in which a rule's condition does not hold, and that differ from this one
     only in what the rule names."""
     named = rule.names | rule.since.names
@@ -236,7 +236,7 @@ def pairs_of(bay, finding: Finding, chosen: list[tuple]) -> list[tuple]:
     for combination in chosen:
         state = bay.state(combination)
         if rule.condition(state) and rule.since.condition(state):
-            found.append((combination, list(befores_of(bay, rule, combination))))
+            found.append((combination, list(earlier_combinations(bay, rule, combination))))
     total = sum(len(befores) for _, befores in found)
     if total > PAIRS:
         most = max(PAIRS // len(found), 1)
@@ -259,7 +259,7 @@ def judge_times(finding, bay, chosen: list[tuple], bayctl, offsets) -> int:
     pairs = pairs_of(bay, finding, chosen)
     progress = Progress(len(pairs))
     parts = timed_scenarios(bay, pairs, offsets, bayctl)
-    for part, octets in asked_ahead(bayctl, parts):
+    for part, octets in replay_ahead(bayctl, parts):
         scans = scans_of(bayctl, octets)
         for before, combination in part:
             seen = several(scans, len(offsets) + 2)[2:]
@@ -358,7 +358,7 @@ def found_uncovered(audit: Audit) -> dict:
     def is_bare(name, way, combination, seen) -> bool:
         state = audit.bay.state(combination)
         is_so = seen[name][way] and not any(
-            rule.switch == name and way in rule.ways and rule.asks(state) for rule in rules)
+            rule.switch == name and way in rule.ways and rule.applies(state) for rule in rules)
         counts[name, way] = counts.get((name, way), 0) + is_so
         return is_so
 

@@ -9,7 +9,7 @@ from baytools.diagram.drawing import in_service, usual_positions
 from baytools.diagram.network import Network
 
 from .answers import WAYS, Answer
-from .hazards import why_told
+from .hazards import why_text
 from .variables import all_things
 
 MOST = 6  # broken rules, and hazards, whose states are drawn
@@ -75,7 +75,7 @@ def drawn_states(audit, network: Network) -> tuple[list[Drawn], int]:
     broken = [(f'The rule of line {it.rule.line} is broken: {it.rule.text}', it.shown.state)
               for it in audit.findings if it.shown]
     broken += [(f'{it.switch} {it.operation()} is released while it is a hazard'
-                f'{why_told(it.answer)}', it.shown.state) for it in audit.judged if it.shown]
+                f'{why_text(it.answer)}', it.shown.state) for it in audit.judged if it.shown]
     states += broken[:MOST]
     names = [switch['id'] for switch in file['switch']]
     return [Drawn(title, positions_of(network, state), {

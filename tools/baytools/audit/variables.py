@@ -36,12 +36,12 @@ class Thing:
         subject = self.name if self.kind != MEASURE else ' '.join(self.name.rsplit('_', 1))
         return f'{moment} {VERBS[self.kind]} {subject} {value}'
 
-    def told(self, value) -> str:
+    def value_text(self, value) -> str:
         return POSITIONS[value] if self.kind == SWITCH else str(value)
 
     def words(self) -> list:
         """Its values in words."""
-        return [self.told(value) for value in self.values]
+        return [self.value_text(value) for value in self.values]
 
     def is_truth(self) -> bool:
         return self.kind == INPUT and self.values == [0, 1]
@@ -87,8 +87,8 @@ class Bay:
     def restricted(self) -> list[Thing]:
         return [thing for thing in self.things if thing.is_restricted()]
 
-    def told(self, combination) -> str:
-        return ', '.join(f'{thing.name} {thing.told(value)}'
+    def combination_text(self, combination) -> str:
+        return ', '.join(f'{thing.name} {thing.value_text(value)}'
                          for thing, value in zip(self.things, combination)) or 'anything'
 
     def scenario(self, lines) -> bytes:

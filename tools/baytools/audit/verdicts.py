@@ -61,7 +61,7 @@ def start_warnings(audit: Audit) -> list[str]:
     return found
 
 
-def ways_told(rule, words: tuple, joint: str) -> str:
+def ways_text(rule, words: tuple, joint: str) -> str:
     return f' {joint} '.join(words[way] for way in sorted(set(rule.ways)))
 
 
@@ -76,21 +76,21 @@ def tail_of(rule) -> str:
 def meaning(rule) -> str:
     """What a rule that is proved says of the switchgear."""
     if rule.wanted:
-        return f'{rule.switch} may always be {ways_told(rule, DONE_WAYS, "and")}{tail_of(rule)}'
-    return f'no command to {ways_told(rule, ("open", "close"), "or")} {rule.switch}{tail_of(rule)}'
+        return f'{rule.switch} may always be {ways_text(rule, DONE_WAYS, "and")}{tail_of(rule)}'
+    return f'no command to {ways_text(rule, ("open", "close"), "or")} {rule.switch}{tail_of(rule)}'
 
 
-def kept_told(audit: Audit, finding: Finding) -> str:
+def kept_text(audit: Audit, finding: Finding) -> str:
     """Why a rule is neither proved nor broken."""
     if finding.proof.verdict == answers.MANY:
         return 'there are too many cases to prove it'
     case = finding.proof.case
-    where = proofs.told(case, list(all_things(audit.bay.file)))
+    where = proofs.case_text(case, list(all_things(audit.bay.file)))
     kept = ' or '.join(case.kept) or 'what the program keeps'
     return f'holds, unless {kept} breaks it with {where}'
 
 
-def tried_told(audit: Audit, finding: Finding) -> str:
+def tried_text(audit: Audit, finding: Finding) -> str:
     """What the trial shows of a rule."""
     if not finding.is_tried:
         return 'not tried'
@@ -109,11 +109,11 @@ def lines_of(audit: Audit, finding: Finding) -> list[str]:
         return [f'PROVED: {meaning(rule)}{by}']
     if verdict == 'OPEN':
         return [f'OPEN: {rule.text}',
-                f'{kept_told(audit, finding)}; {tried_told(audit, finding)}']
+                f'{kept_text(audit, finding)}; {tried_text(audit, finding)}']
     if verdict == 'BROKEN':
         return [f'BROKEN: {rule.text}', *broken_lines(audit, finding)]
     if verdict == 'TRIED':
-        return [f'TRIED: {rule.text}', f'not proved; {tried_told(audit, finding)}']
+        return [f'TRIED: {rule.text}', f'not proved; {tried_text(audit, finding)}']
     how = 'proved' if finding.is_settled() else 'tried'
     return [f'never applies ({how}): {rule.text}']
 
@@ -121,14 +121,14 @@ def lines_of(audit: Audit, finding: Finding) -> list[str]:
 def broken_lines(audit: Audit, finding: Finding) -> list[str]:
     found = []
     if finding.shown:
-        where = proofs.told(finding.proof.case, list(all_things(audit.bay.file)))
+        where = proofs.case_text(finding.proof.case, list(all_things(audit.bay.file)))
         is_run = finding.rule.since and not finding.rule.wanted
         how = "a run from the program's start" if is_run else (
             'every state that the program can reach')
         found.append(f'proved: broken in {how}, with {where}')
     if finding.broken:
         after = f', {finding.after:,} ms after' if finding.after else ''
-        found.append(f'{tried_told(audit, finding)}, first by '
+        found.append(f'{tried_text(audit, finding)}, first by '
                      f'{audit.bay.told(finding.first)}{after}')
     return found + ([DOUBTED] if finding.is_doubted() else [])
 
@@ -162,22 +162,22 @@ def is_unjudged(audit: Audit) -> bool:
     return bool(audit.diagram) and not audit.judged
 
 
-def counts_told(audit: Audit) -> str:
+def counts_text(audit: Audit) -> str:
     """How many rules are proved, broken, open, tried and idle."""
     verdicts = [it.verdict() for it in audit.findings]
     if not verdicts:
-        return judged_told(audit)
-    return '; '.join(filter(None, (rules_told(verdicts), judged_told(audit))))
+        return judged_text(audit)
+    return '; '.join(filter(None, (rules_text(verdicts), judged_text(audit))))
 
 
-def judged_told(audit: Audit) -> str:
+def judged_text(audit: Audit) -> str:
     """What was found of the hazards in a diagram, if one was asked for."""
     if is_unjudged(audit):
         return f'{audit.diagram} is not judged'
-    return hazards.counts_told(audit.judged, audit.diagram) if audit.diagram else ''
+    return hazards.counts_text(audit.judged, audit.diagram) if audit.diagram else ''
 
 
-def rules_told(verdicts: list[str]) -> str:
+def rules_text(verdicts: list[str]) -> str:
     """How many rules have each verdict."""
     kinds = [(verdicts.count(kind), kind) for kind in SENTENCES if kind in verdicts]
     if len(kinds) > 1:
@@ -188,7 +188,7 @@ def rules_told(verdicts: list[str]) -> str:
     return f'the rule {one}' if count == 1 else f'all {count} rules {several}'
 
 
-def how_told(audit: Audit, tried: list) -> str:
+def how_text(audit: Audit, tried: list) -> str:
     """Whether a pass is proved."""
     if not tried:
         return ''
@@ -200,13 +200,13 @@ def verdict(audit: Audit) -> str:
     """The result in a sentence. Under a restriction of what is tried it never reads PASSED."""
     if not audit.findings and not audit.diagram:
         return 'NOTHING AUDITED: there are no rules.'
-    found, told = status(audit), counts_told(audit)
+    found, told = status(audit), counts_text(audit)
     if found == FOUND:
         return f'NOT PASSED: {told}.'
     limits = restrictions(audit)
     tried = [it for it in audit.findings if it.verdict() == 'TRIED']
     if found == DONE and not limits:
-        return f'PASSED{how_told(audit, tried)}: {told}.'
+        return f'PASSED{how_text(audit, tried)}: {told}.'
     if found == DONE and not tried:
         return f'PROVED: {told}; the restriction bears on nothing that is proved.'
     if found == DONE:

@@ -164,12 +164,12 @@ class Condition:
     @classmethod
     def of(cls, parts: list, is_least: bool = True) -> 'Condition':
         """The condition of products, whose parts are variables with bits for their values."""
-        told = [[part_told(*part) for part in product] for product in parts]
+        told = [[part_text(*part) for part in product] for product in parts]
         facts = [[(variable, words_of(variable, values)) for variable, values in product]
                  for product in parts]
         return cls(told, is_least, facts)
 
-    def told(self) -> str:
+    def text(self) -> str:
         return ' or '.join(self.lines())
 
     def lines(self) -> list:
@@ -186,7 +186,7 @@ def words_of(variable: Variable, values: int) -> list[str]:
     return [word for at, word in enumerate(variable.values) if values >> at & 1]
 
 
-def ranges_told(variable: Variable, values: int) -> str:
+def ranges_text(variable: Variable, values: int) -> str:
     """Which ranges of a measure are meant, as comparisons of the rules."""
     merged = []
     for at, (least, most) in enumerate(variable.ranges):
@@ -202,10 +202,10 @@ def ranges_told(variable: Variable, values: int) -> str:
     return told[0] if len(told) == 1 else f'({" or ".join(told)})'
 
 
-def part_told(variable, values) -> str:
+def part_text(variable, values) -> str:
     """One part of a product, in the words of the rules."""
     if variable.ranges:
-        return ranges_told(variable, values)
+        return ranges_text(variable, values)
     chosen = words_of(variable, values)
     if variable.is_truth:
         return variable.name if values == 2 else f'not {variable.name}'

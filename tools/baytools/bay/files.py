@@ -4,7 +4,7 @@ import pathlib
 import tomllib
 from typing import Any
 
-from baytools.common.ending import Failed, told_of
+from baytools.common.ending import Failed, error_text
 
 Path = str | os.PathLike[str]
 MARK, WIDE, NEWLINE = '\ufeff', (b'\xff\xfe', b'\xfe\xff'), b'\n'
@@ -21,7 +21,7 @@ def octets_of(path: Path) -> bytes:
     try:
         return pathlib.Path(path).read_bytes()
     except OSError as error:
-        raise BadFile(told_of(error)) from None
+        raise BadFile(error_text(error)) from None
 
 
 def text_of(path: Path, kind: str = 'text') -> str:
@@ -30,7 +30,7 @@ def text_of(path: Path, kind: str = 'text') -> str:
     try:
         return octets.decode('utf-8-sig')
     except UnicodeDecodeError as error:
-        told = encoding_told(octets, error.start)
+        told = encoding_text(octets, error.start)
         raise BadFile(f'{path}: it can\'t be read as a {kind}: {told}') from None
 
 
@@ -41,7 +41,7 @@ def program_at(path: Path) -> str:
     return text_of(path, 'program')
 
 
-def encoding_told(octets: bytes, at: int, names_line: bool = True) -> str:
+def encoding_text(octets: bytes, at: int, names_line: bool = True) -> str:
     """Why octets are no UTF-8."""
     if octets[:2] in WIDE:
         return 'it is UTF-16: save it as UTF-8'

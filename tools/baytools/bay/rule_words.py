@@ -28,7 +28,7 @@ def word_meant(words: Sequence[str], wanted: Sequence[str]) -> str:
     for known in (JOINS, VERBS, WAYS):
         if known.get(first, '').split(' ')[0].upper() in wanted:
             return f'is {known[first]} meant?'
-    return asked(near(words[0], [it.lower() for it in wanted]))
+    return near_question(near(words[0], [it.lower() for it in wanted]))
 
 
 def name_meant(word: str, names: Iterable[str]) -> str:
@@ -38,7 +38,7 @@ def name_meant(word: str, names: Iterable[str]) -> str:
         switch = raised(word).removesuffix(ending)
         if switch != raised(word) and switch in known:
             return f'write {switch} {position}'
-    return asked(near(word, sorted(known)))
+    return near_question(near(word, sorted(known)))
 
 
 def value_meant(words: Sequence[str], name: str, kind: str, values: Iterable[str]) -> str:
@@ -53,7 +53,7 @@ def value_meant(words: Sequence[str], name: str, kind: str, values: Iterable[str
         return f'write {name} {"not " * (first in UNEQUAL)}{words[1]}'
     if kind == 'switch' and first == 'CLOSE':
         return 'is closed meant?'
-    return asked(near(words[0], [it.lower() for it in values])) if words else ''
+    return near_question(near(words[0], [it.lower() for it in values])) if words else ''
 
 
 def rest_meant(words: Sequence[str], names: Iterable[str], positions: Iterable[str]) -> str:
@@ -69,7 +69,7 @@ def rest_meant(words: Sequence[str], names: Iterable[str], positions: Iterable[s
         return f'several positions are joined by |: write |{words[0]}'
     if first in {raised(it) for it in names}:
         return f'write and, or or, before {words[0]}'
-    return asked(near(words[0], ('and', 'or', 'when')))
+    return near_question(near(words[0], ('and', 'or', 'when')))
 
 
 def time_meant(word: str, comment: str) -> str:
@@ -88,6 +88,6 @@ def time_meant(word: str, comment: str) -> str:
     return f'is {round(found * unit)}ms meant?'
 
 
-def asked(found: str) -> str:
+def near_question(found: str) -> str:
     """The question of `near`, by itself."""
     return found.removeprefix('; ')

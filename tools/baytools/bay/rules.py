@@ -28,9 +28,9 @@ from collections.abc import Callable, Iterator
 from dataclasses import dataclass, field
 
 from baytools.common import positions
-from baytools.common.ending import CalledWrong, Failed
+from baytools.common.ending import Failed, UsageError
 from baytools.common.texts import raised
-from baytools.diagnosis.place import near, shown
+from baytools.diagnosis.place import marked_line, near
 
 from .rule_words import name_meant, rest_meant, time_meant, value_meant, word_meant
 
@@ -74,11 +74,11 @@ class BadRule(Failed):
         """The same with the number of its line, its column, and the line with a mark."""
         column = '' if self.start is None else f', column {self.start + 1}'
         found = self.within(f'line {number}{column}')
-        found.more, found.line = tuple(shown(line, number, self.start, self.end)), number
+        found.more, found.line = tuple(marked_line(line, number, self.start, self.end)), number
         return found
 
 
-class BadOption(CalledWrong):
+class BadOption(UsageError):
     """A value of the command line that can't be read."""
 
 
@@ -127,7 +127,7 @@ class Rule:
         return any(self.condition(dict(zip(sorted(self.names), state)))
                    for state in itertools.product(*values))
 
-    def asks(self, state: dict) -> bool:
+    def applies(self, state: dict) -> bool:
         """Whether it applies in a state, a rule with a time once its condition has held so long."""
         return bool(self.condition(state) and (not self.since or self.since.condition(state)))
 
@@ -161,7 +161,7 @@ class Reader:
         start, end = self.places[at] if at < len(self.places) else (end, end + 1)
         return BadRule(told, start, end, meant)
 
-    def next_told(self) -> str:
+    def next_text(self) -> str:
         return self.words[0] if self.words else 'the end'
 
     def names_of(self, *kinds: str) -> list[str]:
@@ -175,7 +175,7 @@ class Reader:
         """The next word, where it is one of these, or any if none are given."""
         if not self.words or (wanted and self.peek() not in wanted):
             told = ' or '.join(wanted).lower() or 'a word'
-            raise self.bad(f'there must be {told} here, not {self.next_told()}',
+            raise self.bad(f'there must be {told} here, not {self.next_text()}',
                            word_meant(self.words, wanted))
         return raised(self.words.pop(0))
 
@@ -206,7 +206,7 @@ class Reader:
             return None
         condition, names = self.any_of(), set(self.names)
         self.take('FOR')
-        written = self.next_told()
+        written = self.next_text()
         self.take()
         try:
             return Since(condition, names, time_of(raised(written)))
@@ -277,7 +277,7 @@ class Reader:
     def value(self, key) -> int:
         value = value_of(key[0], self.peek())
         if value is None:
-            told = value_told(self.next_told(), *key)
+            told = value_text(self.next_text(), *key)
             if self.words and not re.search('[A-Za-z0-9]', self.words[0]):
                 told = (f'{self.words[0]} can\'t be here: the value of the {key[0]} {key[1]} '
                         f'follows it ({WANTED[key[0]]})')
@@ -289,7 +289,7 @@ class Reader:
         return value
 
 
-def value_told(word: str, kind: str, name: str) -> str:
+def value_text(word: str, kind: str, name: str) -> str:
     """Why a thing can't have a value."""
     return f'{word} is not a value of the {kind} {name}: it can be {WANTED[kind]}'
 
@@ -328,7 +328,7 @@ class Look:
     kinds: tuple = tuple(WANTED)
     written: str = ''
 
-    def told(self, known: set) -> tuple[tuple, list]:
+    def thing_and_values(self, known: set) -> tuple[tuple, list]:
         """The thing that is meant, and its values."""
         kinds = [kind for kind in self.kinds if (kind, self.name) in known]
         if not kinds:
@@ -342,7 +342,7 @@ class Look:
                 break
         else:
             word = self.words[values.index(None)] or 'nothing'
-            raise self.wrong(value_told(word, kind, self.name), word)
+            raise self.wrong(value_text(word, kind, self.name), word)
         twice = next((word for at, word in enumerate(self.words) if values[at] in values[:at]), '')
         if twice:
             raise self.wrong(f'{twice} is given twice')
@@ -362,7 +362,7 @@ def looked_at(looks: list[Look], known: set) -> dict:
     """The values of the things that looks tell of, by kind and name. A name has one look."""
     found, first = {}, {}
     for look in looks:
-        key, values = look.told(known)
+        key, values = look.thing_and_values(known)
         if key in found:
             raise look.wrong(f'{look.name} is in {first[key].where} already')
         found[key], first[key] = values, look

@@ -10,7 +10,7 @@ import tempfile
 from collections.abc import Iterator
 from dataclasses import dataclass
 
-from baytools.common.ending import FOUND, CalledWrong, Failed
+from baytools.common.ending import FOUND, Failed, UsageError
 from baytools.common.texts import in_line
 
 AUTHORITY = 'authority'
@@ -89,7 +89,7 @@ def owned() -> Iterator[None]:
 
 def checked(pattern: re.Pattern[str], text: str, what: str) -> str:
     if not pattern.fullmatch(text):
-        raise CalledWrong(f'{in_line(text[:80])} is no {what}')
+        raise UsageError(f'{in_line(text[:80])} is no {what}')
     return text
 
 
@@ -179,7 +179,7 @@ class Authority:
         """Makes the key and the certificate of a server or a client."""
         self.needs()
         if checked(NAME, name, 'name').lower() == AUTHORITY:
-            raise CalledWrong(f'{name} is the name of the authority\'s own files')
+            raise UsageError(f'{name} is the name of the authority\'s own files')
         if unit:
             checked(WORDS, unit, 'unit')
         also = ','.join(map(alternative, hosts))

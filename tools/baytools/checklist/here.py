@@ -14,7 +14,7 @@ from baytools.common.ending import Failed
 from baytools.common.paths import TOOLS
 from baytools.station.bays import settings_of
 
-from .steps import OPEN, Step, Verdict, asked, judged
+from .steps import OPEN, Step, Verdict, judged, run_program
 
 TRUST = pathlib.Path('/etc/stunnel/bay')  # where stunnel.conf has its certificates
 LISTENS, LOCAL = '0A', ('0100007F',)  # of /proc/net/tcp: a state, and 127.0.0.1
@@ -74,9 +74,9 @@ class Machine:
 
     def clock(self) -> Verdict:
         """The clock is set, and the revocation list is valid."""
-        _, synchronized = asked(['timedatectl', 'show', '-p', 'NTPSynchronized', '--value'])
-        status, told = asked(['openssl', 'crl', '-in', self.trust / 'authority.crl', '-noout',
-                              '-nextupdate'])
+        _, synchronized = run_program(['timedatectl', 'show', '-p', 'NTPSynchronized', '--value'])
+        status, told = run_program(['openssl', 'crl', '-in', self.trust / 'authority.crl', '-noout',
+                                    '-nextupdate'])
         if status:
             raise Failed(told.splitlines()[0])
         until = datetime.datetime.strptime(told.partition('=')[2], DATE).replace(
@@ -93,11 +93,11 @@ class Machine:
         for path in (self.folder / 'key', self.trust / 'server.key'):
             it = path.stat()
             is_own = stat.S_IMODE(it.st_mode) in (0o400, 0o600) and it.st_uid != 0
-            told.append(f'{path}: mode {stat.S_IMODE(it.st_mode):o}, user {user_told(it.st_uid)}'
+            told.append(f'{path}: mode {stat.S_IMODE(it.st_mode):o}, user {user_text(it.st_uid)}'
                         + ('' if is_own else ': must be 400 or 600, of the service\'s user'))
             is_good = is_good and is_own
-        _, found = asked(['find', '/', '-xdev', '-name', 'authority.key', '-not', '-path',
-                          '/proc/*'])
+        _, found = run_program(['find', '/', '-xdev', '-name', 'authority.key', '-not', '-path',
+                                '/proc/*'])
         others = [line for line in found.splitlines() if line.endswith('/authority.key')]
         told += [f'{line}: the key of an authority: it belongs on a machine without a network'
                  for line in others] or ['no authority.key']
@@ -147,8 +147,8 @@ class Machine:
             return judged(False, f'{len(running)} servers at port {self.ports()[0]}')
         if wrong := self.served(*running[0], '--diagram', DIAGRAM):
             return judged(False, '\n'.join(wrong))
-        _, lines = asked(['journalctl', '-u', f'bayctl@{self.folder.name}', '-o', 'cat',
-                          '--no-pager'])
+        _, lines = run_program(['journalctl', '-u', f'bayctl@{self.folder.name}', '-o', 'cat',
+                                '--no-pager'])
         found = SUM.findall(lines)
         if not found:
             return Verdict(OPEN, 'the log has no sum of a diagram')
@@ -162,8 +162,9 @@ class Machine:
         if not self.rules:
             return Verdict(OPEN, 'name the rules of the bay by --rules')
         more = ['--diagram', self.folder / DIAGRAM] if (self.folder / DIAGRAM).exists() else []
-        _, found = asked([sys.executable, '-B', TOOLS / 'audit', self.folder / 'bay.toml',
-                          self.folder / 'logic.il', self.rules, *more, '--bayctl', self.bayctl])
+        _, found = run_program([sys.executable, '-B', TOOLS / 'audit', self.folder / 'bay.toml',
+                                self.folder / 'logic.il', self.rules, *more, '--bayctl',
+                                self.bayctl])
         lines = found.splitlines()
         told = [line for line in lines if line.startswith('WARNING: ')] + lines[-1:]
         return judged(any(line.startswith('PASSED: ') for line in lines), '\n'.join(told))
@@ -171,10 +172,10 @@ class Machine:
     def subject(self) -> Verdict:
         """An operate of today stands in the log beside the subject of a certificate."""
         name = self.folder.name
-        _, lines = asked(['journalctl', '-u', f'bayctl@{name}', '-u', f'bayctl-tls@{name}',
-                          '-o', 'short-iso-precise', '--since', 'today', '--no-pager'])
-        _, found = asked([sys.executable, '-B', TOOLS / 'log', '-', '--day', 'today'],
-                         lines.encode())
+        _, lines = run_program(['journalctl', '-u', f'bayctl@{name}', '-u', f'bayctl-tls@{name}',
+                                '-o', 'short-iso-precise', '--since', 'today', '--no-pager'])
+        _, found = run_program([sys.executable, '-B', TOOLS / 'log', '-', '--day', 'today'],
+                               lines.encode())
         operates = [it[0] for it in map(SUBJECT.search, found.splitlines()) if it]
         if not operates:
             return Verdict(OPEN, 'no operate of today by a certificate: make one, and look again')
@@ -196,11 +197,11 @@ def reached_by(user: int, port: int) -> bool:
             os._exit(status)
     status = os.waitstatus_to_exitcode(os.waitpid(child, 0)[1])
     if status not in (REACHED, REFUSED):
-        raise Failed(f'port {port}: no program of {user_told(user)} could try it')
+        raise Failed(f'port {port}: no program of {user_text(user)} could try it')
     return status == REACHED
 
 
-def user_told(number: int) -> str:
+def user_text(number: int) -> str:
     try:
         return pwd.getpwuid(number).pw_name
     except KeyError:

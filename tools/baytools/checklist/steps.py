@@ -3,7 +3,7 @@ import subprocess
 from collections.abc import Callable, Sequence
 from dataclasses import dataclass
 
-from baytools.common.ending import DONE, FOUND, PARTLY, Failed, told_of
+from baytools.common.ending import DONE, FOUND, PARTLY, Failed, error_text
 
 GOOD, WRONG, OPEN = 'good', 'WRONG', 'OPEN'
 SECONDS = 60  # of a program that is asked
@@ -27,30 +27,30 @@ def judged(is_good: bool, told: str) -> Verdict:
     return Verdict(GOOD if is_good else WRONG, told)
 
 
-def seen(step: Step) -> Verdict:
+def check_step(step: Step) -> Verdict:
     """What comes of a step. One that can't be looked at stays open."""
     try:
         return step.look()
     except Failed as error:
         return Verdict(OPEN, str(error))
     except OSError as error:
-        return Verdict(OPEN, told_of(error))
+        return Verdict(OPEN, error_text(error))
     except subprocess.TimeoutExpired as error:
         return Verdict(OPEN, f'{error.cmd[0]}: no answer within {SECONDS} s')
 
 
-def asked(words: Sequence[object], given: bytes = b'') -> tuple[int, str]:
+def run_program(words: Sequence[object], given: bytes = b'') -> tuple[int, str]:
     """The status of a program, and what it printed."""
     done = subprocess.run([str(word) for word in words], input=given, stdout=subprocess.PIPE,
                           stderr=subprocess.STDOUT, timeout=SECONDS)
     return done.returncode, done.stdout.decode('utf-8', 'backslashreplace').strip()
 
 
-def tell(steps: Sequence[Step]) -> int:
+def print_steps(steps: Sequence[Step]) -> int:
     """Prints each step with its verdict; the exit status."""
     states = []
     for number, step in enumerate(steps, 1):
-        found = seen(step)
+        found = check_step(step)
         states.append(found.state)
         print(f'{number}. {found.state}: {step.wanted}', flush=True)
         for line in found.told.splitlines():

@@ -8,7 +8,7 @@ from dataclasses import dataclass
 
 from baytools.common.ending import Failed
 from baytools.wire import stream, tls
-from baytools.wire.client import Client, connection_told
+from baytools.wire.client import Client, connection_text
 
 from .steps import OPEN, Step, Verdict, judged
 
@@ -70,11 +70,11 @@ class Far:
             client = Client(self.host, self.door, on_report=lambda told: None, timeout=SECONDS,
                             tls=self.old)
         except (Failed, OSError) as error:
-            told = (connection_told(error, self.host, self.door) if isinstance(error, OSError)
+            told = (connection_text(error, self.host, self.door) if isinstance(error, OSError)
                     else str(error))
             return judged(REVOKED in told, told)
         with contextlib.closing(client.socket):
-            return judged(False, f'{self.old.told()} IS SERVED')
+            return judged(False, f'{self.old.subject_text()} IS SERVED')
 
 
 def answered(host: str, port: int) -> bool:

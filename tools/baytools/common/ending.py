@@ -37,7 +37,7 @@ class Failed(Exception):
     more: tuple[str, ...] = ()
 
 
-class CalledWrong(Failed):
+class UsageError(Failed):
     """A command line that makes no sense."""
     status = CALLED_WRONG
 
@@ -157,7 +157,7 @@ def status_of(main: Callable[[], int | None]) -> int:
         assert isinstance(error.__cause__, OSError)
         return without_output(error.__cause__)
     except OSError as error:
-        complain(told_of(error))
+        complain(error_text(error))
         return flushed(UNREACHED)
     except Exception as error:
         if os.environ.get('TOOLS_TRACEBACK'):
@@ -197,6 +197,6 @@ def stop_output() -> None:
     os.dup2(os.open(os.devnull, os.O_WRONLY), 1)
 
 
-def told_of(error: OSError) -> str:
+def error_text(error: OSError) -> str:
     """Which file it was, and why."""
     return f'{error.filename}: {error.strerror}' if error.filename else str(error.strerror or error)

@@ -36,31 +36,31 @@ def date_of(moment: int) -> datetime.datetime:
     return datetime.datetime.fromtimestamp(moment // 1000, datetime.UTC).astimezone()
 
 
-def day_told(moment: int) -> str:
+def day_text(moment: int) -> str:
     """The date with what the clock here is ahead of UTC."""
-    return f'{date_of(moment):%Y-%m-%d} {zone_told(moment)}'
+    return f'{date_of(moment):%Y-%m-%d} {zone_text(moment)}'
 
 
-def zone_told(moment: int) -> str:
+def zone_text(moment: int) -> str:
     """UTC, or how far the clock here is ahead of it or behind it."""
     ahead = f'{date_of(moment):%z}'
     return 'UTC' if ahead == '+0000' else f'UTC{ahead[:3]}:{ahead[3:]}'
 
 
-def clock_told(moment: int) -> str:
+def clock_text(moment: int) -> str:
     """The time of day here, to the millisecond."""
     return f'{date_of(moment):%H:%M:%S}.{moment % 1000:03}'
 
 
-def stamp_told(moment: int) -> str:
+def stamp_text(moment: int) -> str:
     """A moment with its date and what the clock here is ahead of UTC."""
-    zone = zone_told(moment).removeprefix('UTC') or 'Z'
-    return f'{date_of(moment):%Y-%m-%d} {clock_told(moment)}{zone}'
+    zone = zone_text(moment).removeprefix('UTC') or 'Z'
+    return f'{date_of(moment):%Y-%m-%d} {clock_text(moment)}{zone}'
 
 
-def told(moment: int) -> str:
+def moment_text(moment: int) -> str:
     """A moment as it is shown: a time of day, or milliseconds."""
-    return clock_told(moment) if is_clock(moment) else f'{moment} ms'
+    return clock_text(moment) if is_clock(moment) else f'{moment} ms'
 
 
 def warnings(moments: list[int], refused: int) -> list[str]:

@@ -50,14 +50,14 @@ def now() -> int:
     return int(time.time() * 1000)
 
 
-def moment_told(moment: int) -> str:
+def moment_text(moment: int) -> str:
     """A moment with its date and its zone, to the second."""
-    return f'{moments.date_of(moment):%Y-%m-%d %H:%M:%S} {moments.zone_told(moment)}'
+    return f'{moments.date_of(moment):%Y-%m-%d %H:%M:%S} {moments.zone_text(moment)}'
 
 
-def span_told(first: int, last: int) -> str:
+def span_text(first: int, last: int) -> str:
     """From one moment to another, each with its date and its zone."""
-    one, other = moment_told(first), moment_told(last)
+    one, other = moment_text(first), moment_text(last)
     return one if one == other else f'{one} to {other}'
 
 
@@ -105,7 +105,7 @@ def head(command: str, span: str, about: Sequence[tuple[str, str]],
     """The head of a page, as parts of HTML. `span` is the time that the page is of; `about` are
     rows of the tool's own, as text."""
     rows = [*about, ('Time', span), ('Machine', machine()), ('Made by', version(command)),
-            ('Made at', moment_told(now()))]
+            ('Made at', moment_text(now()))]
     files = [(escaped(it.what), code(it.name), f'{it.size:,}', code(it.digest)) for it in sources]
     return [table(['', ''], [(name, escaped(told)) for name, told in rows], ' class="evidence"'),
             '<h2>What was read</h2>',

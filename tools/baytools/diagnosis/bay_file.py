@@ -4,10 +4,10 @@ import re
 import tomllib
 from collections.abc import Iterator
 
-from baytools.bay.files import WIDE, encoding_told
+from baytools.bay.files import WIDE, encoding_text
 from baytools.common.texts import raised
 
-from .dialects import quote_told
+from .dialects import quote_text
 from .language import FIELDS, RESERVED
 from .place import Place, near
 
@@ -51,7 +51,7 @@ def text_of(octets) -> str:
     except UnicodeDecodeError as error:
         line = octets.count(b'\n', 0, error.start) + 1
         wide = octets[:2] in WIDE
-        told = encoding_told(octets, error.start, names_line=False).partition(':')[0]
+        told = encoding_text(octets, error.start, names_line=False).partition(':')[0]
         raise Refused(50, Place(told, line=None if wide else line,
                                 mend='save the file as UTF-8' if wide else '')) from None
 
@@ -79,14 +79,14 @@ def toml_place(place: Place, text: str) -> Place:
             'save the file with lines that end with LF or CR LF')
     elif '//' in line and place.start == line.find('//'):
         place.told, place.mend = 'a key can\'t begin with //', 'begin a comment with #'
-    elif quote := quote_told(line, min(place.start or 0, open_quote(line) or LONGEST)):
+    elif quote := quote_text(line, min(place.start or 0, open_quote(line) or LONGEST)):
         place.start, place.told, place.mend = quote
         place.end = place.start + 1
     elif (opened := open_quote(line)) is not None and '"""' not in line and "'''" not in line:
         place.told, place.start = 'this quote is not closed on its line', opened
         place.end, place.mend = opened + 1, 'put a quote at the end of the text'
     else:
-        twice_told(place, line, text)
+        twice_text(place, line, text)
     return place
 
 
@@ -97,7 +97,7 @@ def open_quote(line: str) -> int | None:
     return found.start() if found else None
 
 
-def twice_told(place: Place, line: str, text: str) -> None:
+def twice_text(place: Place, line: str, text: str) -> None:
     """Of a section that stands twice, where it stood first, perhaps as a list or as none."""
     head = re.match(r'\s*\[\[?\s*([\w-]+)\s*\]', line)
     before = text.split('\n')[:place.line - 1]
@@ -196,11 +196,11 @@ class Judge:
             return []
         if section == 'bay':
             if not isinstance(held, dict):
-                told = 'bay must be one table' + told_as(held)
+                told = 'bay must be one table' + found_instead(held)
                 raise Refused(53, Place(told, 'section bay', line, mend='write [bay]'))
             return [held]
         if not isinstance(held, list) or not all(isinstance(entry, dict) for entry in held):
-            told = f'{section} must be a list of tables{told_as(held)}'
+            told = f'{section} must be a list of tables{found_instead(held)}'
             raise Refused(53, Place(told, f'section {section}', line,
                                     mend=f'write [[{section}]] for each {section}'))
         if len(held) > most:
@@ -293,7 +293,7 @@ def key_of(section) -> str:
     return 'name' if section == 'input' else 'id'
 
 
-def told_as(held) -> str:
+def found_instead(held) -> str:
     """What stands in the place of something else."""
     if isinstance(held, list):
         return ', not a list'
@@ -317,10 +317,10 @@ def value_fault(key, value) -> str | None:
     if key in NUMBERS:
         least, most = NUMBERS[key]
         if isinstance(value, bool) or not isinstance(value, int):
-            return f'the value must be a whole number{told_as(value)}'
+            return f'the value must be a whole number{found_instead(value)}'
         return None if least <= value <= most else f'{value} is not from {least} to {most}'
     if not isinstance(value, str):
-        return f'the value must be a text in quotes{told_as(value)}'
+        return f'the value must be a text in quotes{found_instead(value)}'
     if key in WORDS:
         return word_fault(value, WORDS[key])
     if key in LENGTHS:
@@ -377,7 +377,7 @@ def refusals(octets) -> list[Refused]:
         return [refused]
 
 
-def placed(found: list[Refused], code: int) -> Place | str:
+def locate(found: list[Refused], code: int) -> Place | str:
     """The place of the refusal with this number, or a reason why it can't be told."""
     first = found[0] if found else None
     if first and first.code == code:

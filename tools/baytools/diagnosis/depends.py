@@ -86,7 +86,7 @@ class Flow:
                                             for _, operand in item.arguments)))
         self.result = Value()
 
-    def behind(self, names: set) -> set:
+    def dependencies(self, names: set) -> set:
         """All on which some names depend, through variables and timers."""
         found, left = set(), set(names)
         while left:

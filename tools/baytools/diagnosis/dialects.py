@@ -17,7 +17,7 @@ STRUCTURED = {'IF', 'ELSIF', 'ELSE', 'END_IF', 'CASE', 'END_CASE', 'FOR', 'END_F
 QUOTES = '\u201c\u201d\u201e\u201f\u2018\u2019\u201a\u201b\u00ab\u00bb\u2039\u203a\u00b4`'
 
 
-def operator_told(first: str, rest: list[str]) -> tuple[str, str] | None:
+def operator_text(first: str, rest: list[str]) -> tuple[str, str] | None:
     """What is said of a line that begins with an operator of another dialect, and the remedy."""
     if rest[:1] == [':=']:
         return assigned(first, rest[1:])
@@ -42,13 +42,13 @@ def assigned(name: str, rest: list[str]) -> tuple[str, str]:
             f'write {load}, and ST {name} on the next line')
 
 
-def truth_told(name: str) -> tuple[str, str] | None:
+def truth_text(name: str) -> tuple[str, str] | None:
     """The same of a name that is a truth value in another language."""
     word = TRUTHS.get(raised(name))
     return word and (f'{name} is not a word of the language: here it is {word}', f'write {word}')
 
 
-def quote_told(line: str, start: int) -> tuple[int, str, str] | None:
+def quote_text(line: str, start: int) -> tuple[int, str, str] | None:
     """A typographic quote in the part of a line in which TOML can't be read: its column, what is
     wrong with it, and the remedy."""
     at = next((at for at, it in enumerate(line) if it in QUOTES and at >= start), None)

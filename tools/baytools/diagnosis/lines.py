@@ -1,7 +1,7 @@
 """A program line by line: what each line is, and why one can't stand where it does."""
 from dataclasses import dataclass, field
 
-from .dialects import operator_told, truth_told
+from .dialects import operator_text, truth_text
 from .language import ALONE, COMBINES, JUMPS, LOADS, OPERATORS, RETURNS, STORES, TIMERS, TYPES
 from .place import Place, near
 from .tokens import Token, is_operator, lines_of
@@ -92,7 +92,7 @@ class Reader:
         if len(tokens) < 2:
             raise Misplaced(f'{what} needs a name after it', tokens[0])
         if tokens[1].kind != 'name':
-            raise Misplaced(f'{tokens[1].text} can\'t be a name{reserved_told(tokens[1])}',
+            raise Misplaced(f'{tokens[1].text} can\'t be a name{reserved_text(tokens[1])}',
                             tokens[1])
         self.nothing(tokens[2:], f'{what} and its name')
 
@@ -192,7 +192,7 @@ class Reader:
         """Why no initial value stands behind :=."""
         if len(rest) < 4:
             return Misplaced('a literal must follow :=', rest[2])
-        told, mend = truth_told(rest[3].text) or ('a literal must follow :=', '')
+        told, mend = truth_text(rest[3].text) or ('a literal must follow :=', '')
         return Misplaced(told, rest[3], (), mend)
 
     def body(self, number, tokens) -> None:
@@ -217,7 +217,7 @@ class Reader:
                              f'CAL {first.text}(IN := a, PT := T#5s)', first)
         if len(tokens) > 1 and tokens[1].text == ':':
             return Misplaced('only an instruction may follow a label', tokens[2])
-        other = operator_told(first.text, [token.text for token in tokens[1:]])
+        other = operator_text(first.text, [token.text for token in tokens[1:]])
         if other:
             return Misplaced(other[0], first, (), other[1])
         return Misplaced(f'{first.text} is not an operator{near(first.text, OPERATORS)} (a '
@@ -287,7 +287,7 @@ class Reader:
             raise Misplaced('NOT is an operator, and can\'t be part of an operand', tokens[0], (),
                             f'write {before.text}N instead of {before.text} NOT')
         if tokens[0].kind not in ('literal', 'name'):
-            raise Misplaced(f'{tokens[0].text} can\'t be an operand{reserved_told(tokens[0])}',
+            raise Misplaced(f'{tokens[0].text} can\'t be an operand{reserved_text(tokens[0])}',
                             tokens[0])
         size = 1
         if mend := grouped(tokens):
@@ -345,11 +345,11 @@ def grouped(tokens) -> str:
             else 'write a whole number')
 
 
-def reserved_told(token) -> str:
+def reserved_text(token) -> str:
     return ': it is a reserved word' if token.kind == 'word' else ''
 
 
-def placed(text, line) -> Place | None:
+def locate(text, line) -> Place | None:
     """Why the line of a program can't be read or can't stand there, or None where it is not
     found."""
     reader = Reader(text)
@@ -364,11 +364,11 @@ def placed(text, line) -> Place | None:
                      others=found.others,
                      mend=found.mend)
     if line >= len(reader.lines) and reader.state != 'done':
-        return Place(*ending_told(reader), line=line)
+        return Place(*ending_text(reader), line=line)
     return None
 
 
-def ending_told(reader) -> tuple:
+def ending_text(reader) -> tuple:
     """What is missing at the end of a text."""
     if reader.state == 'start':
         return 'the file is empty: a program begins with PROGRAM and its name', ''

@@ -18,13 +18,13 @@ class Place:
     others: list = field(default_factory=list)
     mend: str = ''
 
-    def line_told(self) -> str:
+    def line_text(self) -> str:
         """What is wrong, with its place, in one line."""
         at = f'line {self.line}: ' if self.line else ''
         return f'{at}{self.where + ": " if self.where else ""}{self.told}'
 
 
-def shown(text_line, number, start=None, end=None, width=88) -> list[str]:
+def marked_line(text_line, number, start=None, end=None, width=88) -> list[str]:
     """A line with its number, and a mark under the offending part; of a long line the piece around
     it."""
     text_line = text_line.rstrip('\r\n').expandtabs(1)

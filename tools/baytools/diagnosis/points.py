@@ -25,7 +25,7 @@ def owner_of(name: str, points) -> str:
                default='')
 
 
-def meant(name: str, names, points) -> str:
+def suggested_name(name: str, names, points) -> str:
     """What is told beside an unknown name: of these names and the points of a bay the one that is
     like it, or that its switch is not in the bay."""
     points = points or {}

@@ -2,11 +2,11 @@
 size once it is compiled."""
 from dataclasses import dataclass, field
 
-from .dialects import truth_told
+from .dialects import truth_text
 from .language import COMBINES, CONVERTS, JUMPS, LOADS, NUMBERS, RETURNS, STORES, TIMERS, TYPES
 from .lines import read
 from .place import Place, near
-from .points import meant
+from .points import suggested_name
 from .tokens import Literal, Token
 
 BOOLEAN = {'AND', 'OR', 'XOR', 'ANDN', 'ORN', 'XORN', '&', '&N'}
@@ -68,10 +68,11 @@ class Checker:
         if kind:
             self.note(70, line, f'{token.text} is a point of the bay, but not declared', token, (),
                       f'add it to VAR_EXTERNAL: {token.text} : {kind};')
-        elif other := truth_told(token.text):
+        elif other := truth_text(token.text):
             self.note(70, line, other[0], token, (), other[1])
         else:
-            told = f'{token.text} is not declared{meant(token.upper, self.written(), self.points)}'
+            meant = suggested_name(token.upper, self.written(), self.points)
+            told = f'{token.text} is not declared{meant}'
             self.note(70, line, told, token)
 
     def written(self) -> list[str]:
@@ -105,9 +106,8 @@ class Checker:
             return True
         kind, writable = self.points.get(it.name.upper, (None, False))
         if kind is None:
-            self.note(70, it.line,
-                      f'the bay has no point {it.name.text}{meant(it.name.upper, (), self.points)}',
-                      it.name)
+            meant = suggested_name(it.name.upper, (), self.points)
+            self.note(70, it.line, f'the bay has no point {it.name.text}{meant}', it.name)
         elif kind != it.kind:
             self.note(72, it.line,
                       f'the point {it.name.text} is {a_kind(kind)}, but declared as {it.kind}',
@@ -391,13 +391,13 @@ def faults_of(text, points) -> list[Fault]:
     return sorted(found, key=lambda fault: (fault.line, fault.code))
 
 
-def placed(faults, code, line) -> Place | None:
+def locate(faults, code, line) -> Place | None:
     """The place of a fault among those that were found, or None."""
     return next((fault.place() for fault in faults if (fault.code, fault.line) == (code, line)),
                 None)
 
 
-def size_told(text) -> str:
+def size_text(text) -> str:
     """What makes a compiled program long: octets of its code by what they are for, roughly."""
     program = read(text)
     sizes = {'parentheses': 0, 'calls of timers': 0, 'jumps and returns': 0,

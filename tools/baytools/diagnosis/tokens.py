@@ -93,17 +93,17 @@ def tokens_of(line) -> Iterator:
         fraction = FRACTION.match(line, found.start())
         if fraction:
             yield Token('bad', fraction[0], found.start(), 'a duration has no fraction',
-                        mend=whole_told(fraction))
+                        mend=whole_text(fraction))
         elif found['word'] is not None:
             yield word_token(found['word'], found.start())
         elif found['mark'] is not None:
             yield Token('mark', found['mark'], found.start())
         elif found['odd'] is not None:
-            told, mend = odd_told(found['odd'])
+            told, mend = odd_text(found['odd'])
             yield Token('bad', found['odd'], found.start(), told, mend=mend)
 
 
-def whole_told(found) -> str:
+def whole_text(found) -> str:
     """How a duration with a fraction is written without one."""
     whole, part, unit = found[1], found[2], dict(UNITS)[raised(found[3])]
     if len(whole + part) > LONG:
@@ -112,7 +112,7 @@ def whole_told(found) -> str:
     return f'write T#{millis}ms' if not rest else 'write whole numbers, as T#1s500ms'
 
 
-def odd_told(character) -> tuple[str, str]:
+def odd_text(character) -> tuple[str, str]:
     """Why no token begins with a character, and the remedy."""
     if character == '\ufeff':
         return ('a program can\'t have a byte order mark',

@@ -54,7 +54,8 @@ class Known:
         if words[0].startswith('\ufeff'):
             return 120, f'the trace {MARKED}'
         if not re.fullmatch(r'0*[0-9]{1,20}', words[0], re.ASCII) or number_of(words[0]) >= 2 ** 64:
-            return 120, f'a line begins with a time in milliseconds, not with {shown(words[0])}'
+            return (120,
+                    f'a line begins with a time in milliseconds, not with {quoted_word(words[0])}')
         verb = words[1] if len(words) > 1 else ''
         found = self.form(verb, words[2:])
         if found or not self.is_replay:
@@ -71,17 +72,18 @@ class Known:
             return self.form_of_loss(rest)
         if verb not in FORMS:
             told = near(verb, [*FORMS, 'lost', *REPLAYED]) if verb else ''
-            return 120, f'contact, input or measure must follow the time, not {shown(verb)}{told}'
+            return (120, 'contact, input or measure must follow the time, not '
+                    f'{quoted_word(verb)}{told}')
         value = rest[-1] if rest else ''
         if len(rest) != len(FORMS[verb].split(' ')) - 2 or '' in rest:
             return 120, f'the form is {FORMS[verb]}, with single spaces'
         if verb == 'measure' and rest[1] not in FIELDS:
-            return 120, field_told(rest[1])
+            return 120, field_text(rest[1])
         if not re.fullmatch(VALUES[verb], value, re.ASCII):
-            return 120, f'the value must be {WHAT[verb]}, not {shown(value)}'
+            return 120, f'the value must be {WHAT[verb]}, not {quoted_word(value)}'
         is_number = verb == 'measure' and value != BAD
         if is_number and not -2 ** 31 <= number_of(value) < 2 ** 31:
-            return 120, f'{shown(value)} does not fit into 32 bits with sign'
+            return 120, f'{quoted_word(value)} does not fit into 32 bits with sign'
         return None
 
     def form_of_loss(self, rest: list[str]) -> tuple[int, str] | None:
@@ -93,7 +95,7 @@ class Known:
         if len(rest) != len(REPLAYED[verb].split(' ')) - 2 or '' in rest:
             return 120, f'the form is {REPLAYED[verb]}, with single spaces'
         if rest and not re.fullmatch('[0-9]+', rest[0], re.ASCII):
-            return 120, f'the association must be a number, not {shown(rest[0])}'
+            return 120, f'the association must be a number, not {quoted_word(rest[0])}'
         if verb == 'recv' and not re.fullmatch('(?:[0-9a-fA-F]{2})+', rest[1]):
             return 120, 'the octets must be two hexadecimal digits each, and at least one'
         return None
@@ -138,13 +140,13 @@ def number_of(digits: str) -> int:
     return int(sign + (digits.lstrip('0')[:30] or '0'))
 
 
-def field_told(word: str) -> str:
+def field_text(word: str) -> str:
     if raised(word) in FIELDS:
         return f'fields must be in upper case: {raised(word)}'
-    return f'{shown(word)} is not a field: {", ".join(FIELDS)} are'
+    return f'{quoted_word(word)} is not a field: {", ".join(FIELDS)} are'
 
 
-def shown(word: str) -> str:
+def quoted_word(word: str) -> str:
     return f'{word[:20]!r}' if word else 'nothing'
 
 

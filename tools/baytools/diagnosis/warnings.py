@@ -59,17 +59,17 @@ def warnings(text: str, points: dict | None, file: dict, proved: Proved | None =
         return found
     uses = Uses(program.items)
     for it in program.declarations:
-        told = declared_told(it, uses, points or {})
+        told = declared_text(it, uses, points or {})
         if told:
             found.append(Place(told, line=it.line, start=it.name.start, end=it.name.end))
-    found += never_asked(program, uses, file)
+    found += never_read(program, uses, file)
     found += release_warnings(program, file)
     flow = Flow(program)
     found += of_no_use(program, uses, flow, proved)
     return found + list(never_released(program, uses, file['switch'], flow, proved))
 
 
-def declared_told(it, uses: Uses, points: dict) -> str:
+def declared_text(it, uses: Uses, points: dict) -> str:
     """What is odd of a declaration, or nothing."""
     name, text = it.name.upper, it.name.text
     if it.scope != 'VAR_EXTERNAL' and name in points:
@@ -82,7 +82,7 @@ def declared_told(it, uses: Uses, points: dict) -> str:
     return '' if name in uses.read else f'{text} is never read'
 
 
-def never_asked(program, uses: Uses, file: dict) -> Iterator[Place]:
+def never_read(program, uses: Uses, file: dict) -> Iterator[Place]:
     """Switches and inputs on which nothing depends, since no line reads them. The key of a switch
     needs no line: the server itself asks for it."""
     keys = {raised(switch.get('remote', '')) for switch in file['switch']}
@@ -100,9 +100,9 @@ def of_no_use(program, uses: Uses, flow: Flow, proved: Proved | None) -> Iterato
     """Points that the program reads, and on which no release depends."""
     external = {it.name.upper: it for it in program.declarations if it.scope == 'VAR_EXTERNAL'}
     outputs = {name for name in external if name.endswith(tuple(ENDINGS))}
-    used = shown = flow.behind(outputs)
+    used = shown = flow.dependencies(outputs)
     if proved and proved.kept <= {it.name.upper for it in program.declarations}:
-        used = proved.points | flow.behind(proved.kept)
+        used = proved.points | flow.dependencies(proved.kept)
     for name, it in external.items():
         if name in uses.read and name not in outputs | used:
             how = ' (proved)' if used is not shown else ''

@@ -51,7 +51,7 @@ TABLES = {'node': NODE_KEYS, 'between': SWITCH_KEYS, 'check': CHECK_KEYS}
 CALLED = {str: 'a text', bool: 'true or false', list: 'a list of two names of nodes'}
 
 
-def meant(name: str, known) -> str:
+def suggested_name(name: str, known) -> str:
     """What may be meant by a name that nothing has."""
     near = difflib.get_close_matches(raised(name), [raised(it) for it in known], 1, 0.6)
     found = next((it for it in known if near and raised(it) == near[0]), None)
@@ -85,7 +85,8 @@ class Reader:
         """The network of the tables of a diagram."""
         for name, rows in tables.items():
             if name not in TABLES:
-                raise self.wrong(name, f'there is no such table: {meant(name, list(TABLES))}')
+                raise self.wrong(
+                    name, f'there is no such table: {suggested_name(name, list(TABLES))}')
             if name == 'check':
                 if not isinstance(rows, dict):
                     raise self.wrong(name, 'it must be a table: write [check]')
@@ -109,7 +110,8 @@ class Reader:
         """Refuses a key that is unknown or whose value has another type."""
         for key, value in row.items():
             if key not in TABLES[table]:
-                raise self.wrong(place, f'there is no key {key}: {meant(key, list(TABLES[table]))}')
+                raise self.wrong(
+                    place, f'there is no key {key}: {suggested_name(key, list(TABLES[table]))}')
             if not isinstance(value, TABLES[table][key]):
                 raise self.wrong(place, f'{key} must be {CALLED[TABLES[table][key]]}')
 
@@ -132,14 +134,14 @@ class Reader:
         name = row.get(key, '')
         if name and raised(name) not in self.inputs:
             raise self.wrong(place, f'{key} = "{name}" is no input of the bay file: '
-                             f'{meant(name, list(self.inputs.values()))}')
+                             f'{suggested_name(name, list(self.inputs.values()))}')
         return self.inputs[raised(name)] if name else ''
 
     def node(self, place: str, row: dict) -> None:
         name = self.named(place, self.needed(place, row, 'name'), self.nodes)
         kind = self.needed(place, row, 'kind')
         if kind not in NODES:
-            raise self.wrong(place, f'kind = "{kind}" is none: {meant(kind, NODES)}')
+            raise self.wrong(place, f'kind = "{kind}" is none: {suggested_name(kind, NODES)}')
         is_source = row.get('source', False)
         if is_source and kind in (EARTH, JUNCTION):
             raise self.wrong(place, f'a node of kind {kind} can\'t be a source: give what is live '
@@ -159,7 +161,8 @@ class Reader:
         known = {raised(it): it for it in self.nodes}
         for name in found:
             if raised(name) not in known:
-                raise self.wrong(place, f'{name} is no node: {meant(name, list(self.nodes))}')
+                raise self.wrong(
+                    place, f'{name} is no node: {suggested_name(name, list(self.nodes))}')
         one, other = (known[raised(it)] for it in found)
         if one == other:
             raise self.wrong(place, f'both its nodes are {one}: a switch has two sides')
@@ -186,7 +189,8 @@ class Reader:
         name = row['switch']
         if raised(name) not in self.own:
             known = [it['id'] for it in self.own.values()]
-            raise self.wrong(place, f'{name} is no switch of the bay file: {meant(name, known)}')
+            raise self.wrong(
+                place, f'{name} is no switch of the bay file: {suggested_name(name, known)}')
         for key in ('kind', 'closed', 'open'):
             if key in row:
                 raise self.wrong(place, f'{key} belongs to a switch of another bay: the bay file '
@@ -202,7 +206,7 @@ class Reader:
     def others_switch(self, place: str, row: dict, ends: tuple[str, str]) -> Switch:
         kind = self.needed(place, row, 'kind')
         if kind not in KINDS:
-            raise self.wrong(place, f'kind = "{kind}" is none: {meant(kind, KINDS)}')
+            raise self.wrong(place, f'kind = "{kind}" is none: {suggested_name(kind, KINDS)}')
         if raised(row['name']) in self.own:
             raise self.wrong(place, f'{row["name"]} is a switch of this bay: write switch')
         return Switch(row['name'], kind, ends, False, self.input(place, row, 'closed'),

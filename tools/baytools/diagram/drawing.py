@@ -21,7 +21,7 @@ OTHER_BAY = 'another bay'
 WORDS = {True: '✓', False: '✕', None: '?'}  # of a release: given, not given, or it depends
 
 
-def told_releases(ways: tuple | None) -> str:
+def release_words(ways: tuple | None) -> str:
     """What is released of a switch, as words beside its symbol."""
     return '' if ways is None else f'open {WORDS[ways[0]]} close {WORDS[ways[1]]}'
 
@@ -308,7 +308,7 @@ class Drawing:
                 if is_shown else '')
         told = state if state in POSITIONS else 'not known'
         drawn = blade(switch) + (query(bool(turn)) if self.is_live else '')
-        frees = told_releases(self.releases.get(switch.name))
+        frees = release_words(self.releases.get(switch.name))
         if self.is_live and not switch.is_own:
             frees = OTHER_BAY
         beside = LETTER * len(switch.name) + 8

@@ -13,7 +13,7 @@ from dataclasses import dataclass, field
 
 from baytools.common.texts import raised
 
-from .diagram_file import Reader, meant
+from .diagram_file import Reader, suggested_name
 from .network import (BREAKER, BUSBAR, CABLE, DISCONNECTOR, EARTH, EARTHING, JUNCTION, LINE,
                       TRANSFORMER, BadDiagram, Network)
 
@@ -126,7 +126,7 @@ class Substation:
             raise self.wrong(f'bay {name}', f'there are several: name one of {", ".join(found)}')
         if not found:
             raise self.wrong(f'bay {name}', f'no bay with equipment has that name: '
-                             f'{meant(name, [it.rpartition("/")[2] for it in bays])}')
+                             f'{suggested_name(name, [it.rpartition("/")[2] for it in bays])}')
         return found[0]
 
     def has_all(self, own_bay: str, own: list[Equipment]) -> None:
@@ -172,7 +172,7 @@ class Substation:
         called = self.called(there, names)
         if unknown := sorted(dead.keys() - {raised(it) for it in called.values()}):
             raise self.wrong('--dead', f'{unknown[0]} is no node: '
-                             f'{meant(unknown[0], list(called.values()))}')
+                             f'{suggested_name(unknown[0], list(called.values()))}')
         tables = {'node': [], 'between': []}
         for node in called:
             kind = EARTH if node == GROUNDED else kinds.get(node, JUNCTION)

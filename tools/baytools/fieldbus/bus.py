@@ -67,7 +67,7 @@ class Address(Protocol):
     def link(self, timeout: float, lines: Lines) -> Link:
         """A link to it, not yet connected."""
 
-    def told(self) -> str:
+    def text(self) -> str:
         """The address in words."""
 
 

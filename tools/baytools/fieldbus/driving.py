@@ -34,7 +34,7 @@ class Driver:
         self.releases: dict[str, tuple[bool, bool]] = {}
         self.pulses: dict[str, tuple[Pulse, asyncio.Task[None]]] = {}
         self.broken = asyncio.Event()
-        process.taken, process.hear = self.taken, self.hear
+        process.taken, process.hear = self.taken, self.receive_line
         process.lives, process.lost = self.lives, self.lost
         process.oldest = self.oldest
         for unit in self.units.values():
@@ -56,7 +56,7 @@ class Driver:
                            if unit.asked_at is not None
                            and now - unit.asked_at <= self.longest(unit.module))])
 
-    def news(self, now: float) -> list[tuple[float, Point, Value]]:
+    def changes(self, now: float) -> list[tuple[float, Point, Value]]:
         """What has changed since it was told, with the moment of its reading. What was read longer
         ago than the server would take waits for its next sample."""
         found = []
@@ -71,14 +71,14 @@ class Driver:
     def oldest(self) -> float:
         """The moment of the oldest reading that is still to be told."""
         now = time.monotonic()
-        return min([self.reading_since(now), *(then for then, _, _ in self.news(now))])
+        return min([self.reading_since(now), *(then for then, _, _ in self.changes(now))])
 
     def publish(self) -> None:
         """Tells what has changed, in the order of time; of one moment what blocks comes before what
         frees."""
         now = time.monotonic()
         since = self.reading_since(now)
-        stamped = [(min(then, since), point, value) for then, point, value in self.news(now)]
+        stamped = [(min(then, since), point, value) for then, point, value in self.changes(now)]
         stamped.sort(key=lambda one: (
             one[0], rank(one[1], one[2], self.alive, self.true_blocks)))
         if stamped and self.process.send(
@@ -133,7 +133,7 @@ class Driver:
 
     # What the server tells.
 
-    def hear(self, line: str) -> None:
+    def receive_line(self, line: str) -> None:
         match line.split(' '):
             case [moment, 'command', name, way] if way in WAYS and moment.isdecimal():
                 self.command(Command(int(moment), raised(name), way, self.process.number))
@@ -204,7 +204,7 @@ class Driver:
         now = time.monotonic()
         if now - asked > self.longest(module):
             raise ModuleFault(f'reading it takes {1000 * (now - asked):.0f} ms')
-        if unit.sampled.stands(registers, now):
+        if unit.sampled.is_counter_stuck(registers, now):
             raise ModuleRefused(f'its counter {module.counter} stands still, so its data are old')
         if asked <= unit.doubted_until:
             raise ModuleRefused('it is in doubt: a write to it was not answered')

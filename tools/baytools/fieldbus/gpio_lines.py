@@ -67,7 +67,7 @@ class Chip:
     def link(self, timeout: float, lines: Lines) -> 'GpioLink':
         return GpioLink(self, lines)
 
-    def told(self) -> str:
+    def text(self) -> str:
         low = f', {" and ".join(sorted(self.low))} active low' if self.low else ''
         return f'{self.path}{low}, bias of its contacts {self.bias}'
 

@@ -37,7 +37,7 @@ class ModbusAddress:
     def link(self, timeout: float, lines: Lines) -> 'ModbusLink':
         return ModbusLink(self, timeout)
 
-    def told(self) -> str:
+    def text(self) -> str:
         return f'{self.host}, port {self.port}, unit {self.unit}'
 
 

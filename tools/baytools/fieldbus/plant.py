@@ -4,7 +4,7 @@ import time
 from collections.abc import Callable
 
 from baytools.common import positions
-from baytools.common.ending import CalledWrong
+from baytools.common.ending import UsageError
 from baytools.common.texts import raised
 
 from .wiring import TYPES, Measure, Module, Switch
@@ -16,7 +16,7 @@ THERE = {'open': 'open', 'close': 'closed'}
 TRUTHS = {'0': False, '1': True}
 
 
-class Mistyped(CalledWrong):
+class Mistyped(UsageError):
     """A line that means nothing here."""
 
 
@@ -27,7 +27,7 @@ class Moving:
         self.one, self.at, self.target, self.end = one, 'open', 'open', 0.0
         self.is_stuck = False
 
-    def go(self, target: str) -> bool:
+    def start_moving(self, target: str) -> bool:
         """Begins to move; whether it does."""
         self.arrives()
         if self.is_stuck or target == self.target:
@@ -90,7 +90,7 @@ class PlayedModule:
             if all(it in self.on for it in one.coils.values()) and one.coils:
                 self.say(f'both coils of {one.id} are on')
             for way, at in one.coils.items():
-                if at == coil and self.moving[one.id].go(THERE[way]):
+                if at == coil and self.moving[one.id].start_moving(THERE[way]):
                     self.say(f'{one.id} moves')
 
     def all_off(self, by: str) -> None:
@@ -134,7 +134,7 @@ class Plant:
             case [meter, name, value] if self.is_measure(meter, name, value):
                 self.say(f'{meter} {name} is {value}')
             case ['STATE']:
-                self.tell_all()
+                self.print_all()
             case _:
                 raise Mistyped('type `QA1 close`, `QA1 stuck`, `QA1 local`, `INPUT 1`, '
                                '`M1 AA 212`, `MODULE off` or `state`')
@@ -151,7 +151,7 @@ class Plant:
             raise Mistyped(f'{way} is none of open, close, stuck, free, local, remote')
         elif self.is_blocked(one.one):
             raise Mistyped(f'the magnet of {name} blocks it')
-        elif one.go(THERE[way]):
+        elif one.start_moving(THERE[way]):
             self.say(f'{name} moves by hand')
             return
         self.say(f'{name}: {way}')
@@ -186,7 +186,7 @@ class Plant:
                     return True
         return False
 
-    def tell_all(self) -> None:
+    def print_all(self) -> None:
         for name, one in self.moving.items():
             self.say(f'{name} is {one.at}')
         for module in self.modules:

@@ -189,7 +189,7 @@ class Played:
         """Plays until it is cancelled."""
         for station in self.stations.values():
             await station.switch_on()
-        names = ', '.join(f'{one.module.name} at {one.module.address.told()}'
+        names = ', '.join(f'{one.module.name} at {one.module.address.text()}'
                           for one in self.plant.modules)
         say(f'played: {names}')
         try:  # (a file, which is always ready, or none, is not read)

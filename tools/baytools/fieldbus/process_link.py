@@ -80,7 +80,7 @@ class ProcessLink:
                 await self.one()
             except (OSError, EOFError) as error:
                 if self.number != was_taken or not was_said:
-                    self.say(f'process port {self.port}: {told(error)}')
+                    self.say(f'process port {self.port}: {loss_text(error)}')
                 was_said = True
             finally:
                 self.end()
@@ -154,17 +154,17 @@ class ProcessLink:
         """Reads until the server ends the connection."""
         try:
             while line := await reader.readline():
-                self.heard(line.decode('utf-8', 'backslashreplace').rstrip('\r\n'))
+                self.on_line(line.decode('utf-8', 'backslashreplace').rstrip('\r\n'))
         except ValueError:
             raise EOFError('a line without an end') from None
         raise EOFError('the server has closed the connection')
 
-    def heard(self, line: str) -> None:
+    def on_line(self, line: str) -> None:
         moment = moment_of(line)
         if moment is not None and self.clock:
-            self.clock.hears(moment)
+            self.clock.on_moment(moment)
         if line.split(' ')[1:] == ['alive']:
-            self.life.hears()
+            self.life.on_alive()
             return
         self.say(f'< {line}')
         self.hear(line)
@@ -181,6 +181,6 @@ class ProcessLink:
                 self.writer.write(f'{self.clock.stamp(self.oldest())} alive\n'.encode())
 
 
-def told(error: Exception) -> str:
+def loss_text(error: Exception) -> str:
     """Why the connection was lost, or is none."""
     return unconnected(error) if isinstance(error, OSError) else str(error)

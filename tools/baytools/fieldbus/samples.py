@@ -81,7 +81,7 @@ class Sampled:
         """Whether a switch may be operated from here, as far as its key tells."""
         return one.remote is None or (one.remote.at in self.bits and self.truth(one.remote))
 
-    def stands(self, registers: dict[int, int], now: float) -> bool:
+    def is_counter_stuck(self, registers: dict[int, int], now: float) -> bool:
         """Whether the module's own counter, if it has one, stands still: it answers, and its data
         are old."""
         module = self.module

@@ -103,7 +103,7 @@ def head_of(module: Module) -> list[str]:
     """What is to be known of a module."""
     alive = (f'input {module.alive} is TRUE while it is heard' if module.alive
              else 'no input says whether it is heard')
-    found = [module.address.told(),
+    found = [module.address.text(),
              f'read each {millis(module.every)}; bad when it does not answer within '
              f'{millis(module.timeout)}; bad for {millis(module.doubt)} when a write is not '
              'answered', alive]

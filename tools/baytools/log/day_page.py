@@ -36,35 +36,36 @@ def page_of(digest: Digest, bay: str = NOT_NAMED, files: Sequence[page_head.Sour
     logs."""
     title = 'Who asked, what was refused, which links came and went'
     parts = [f'<h1>{title}</h1>',
-             *page_head.head('tools/log', digest.time_told(),
+             *page_head.head('tools/log', digest.time_text(),
                             [('Bay', bay), ('Logged by', digest.programs())],
                             [*digest.files, *files]),
              *(f'<p class="warning">{escaped(it)}</p>' for it in digest.warnings()),
-             *asked(digest), *kept_out(digest), '<h2>The process</h2>',
+             *controls_section(digest), *refused_section(digest), '<h2>The process</h2>',
              f'<p>{escaped(digest.process())}</p>', *happened(digest)]
     return page(title, STYLE, parts)
 
 
-def shown(heads: list[str], rows: Sequence[Sequence[object]], none: str) -> str:
+def table_html(heads: list[str], rows: Sequence[Sequence[object]], none: str) -> str:
     cells = [[escaped(it) for it in row] for row in rows]
     return table(heads, cells) if rows else f'<p>{none}</p>'
 
 
-def asked(digest: Digest) -> list[str]:
+def controls_section(digest: Digest) -> list[str]:
     """Who asked, and why what was refused."""
     rows = [[it.who, it.places, it.links, it.done, it.refused] for it in digest.askers()]
     parts = ['<h2>Who asked</h2>',
-             shown(['Certificate', 'From', '#Associations', '#Done', '#Refused'], rows, 'Nobody.'),
+             table_html(['Certificate', 'From', '#Associations', '#Done', '#Refused'], rows,
+                        'Nobody.'),
              '<h2>Why controls were refused</h2>',
-             shown(['Why', '#Times'], digest.refusals(), 'None was.')]
+             table_html(['Why', '#Times'], digest.refusals(), 'None was.')]
     if ends := digest.ends():
-        parts += ['<h2>How operates ended</h2>', shown(['How', '#Times'], ends, '')]
+        parts += ['<h2>How operates ended</h2>', table_html(['How', '#Times'], ends, '')]
     return parts
 
 
-def kept_out(digest: Digest) -> list[str]:
-    rows = [[why, hosts, count] for why, count, hosts in digest.kept_out()]
-    return ['<h2>Who was not let in</h2>', shown(['Why', 'From', '#Times'], rows, 'Nobody.')]
+def refused_section(digest: Digest) -> list[str]:
+    rows = [[why, hosts, count] for why, count, hosts in digest.refused_clients()]
+    return ['<h2>Who was not let in</h2>', table_html(['Why', 'From', '#Times'], rows, 'Nobody.')]
 
 
 def happened(digest: Digest) -> list[str]:

@@ -37,10 +37,10 @@ class Span:
         return ((self.behind is None or first is None or first < self.behind)
                 and (self.first is None or last is None or last >= self.first))
 
-    def told(self) -> str:
+    def text(self) -> str:
         """The span in words."""
         ends = [('from', self.first), ('to', self.behind)]
-        told = ' '.join(f'{word} {moments.stamp_told(moment)}' for word, moment in ends
+        told = ' '.join(f'{word} {moments.stamp_text(moment)}' for word, moment in ends
                         if moment is not None)
         return told or 'all that the log has'
 
@@ -83,12 +83,12 @@ class Digest:
         found: dict[str, list[Link]] = {}
         for link in self.links():
             found.setdefault(link.who(), []).append(link)
-        done, refused = self.asked()
-        askers = [Asker(who, len(links), done[who], refused[who], places_told(links))
+        done, refused = self.control_counts()
+        askers = [Asker(who, len(links), done[who], refused[who], places_text(links))
                   for who, links in found.items()]
         return sorted(askers, key=lambda it: (-it.done - it.refused, it.who))
 
-    def asked(self) -> tuple[Counter[str], Counter[str]]:
+    def control_counts(self) -> tuple[Counter[str], Counter[str]]:
         """How many controls of each were done, and how many refused."""
         done: Counter[str] = Counter()
         refused: Counter[str] = Counter()
@@ -101,14 +101,14 @@ class Digest:
         """The connections that no association came of: those that were not let in, and more."""
         return [it for it in self.story.strangers() if self.span.has(it.accepted)]
 
-    def kept_out(self) -> list[tuple[str, int, str]]:
+    def refused_clients(self) -> list[tuple[str, int, str]]:
         """Who was not let in: why, how often, and from where."""
         found: dict[str, list[Connection]] = {}
         for it in self.strangers():
             if it.local:
                 continue
-            found.setdefault(refusal_told(it), []).append(it)
-        return [(why, len(those), hosts_told([it.peer for it in those]))
+            found.setdefault(refusal_text(it), []).append(it)
+        return [(why, len(those), hosts_text([it.peer for it in those]))
                 for why, those in sorted(found.items(), key=lambda it: -len(it[1]))]
 
     def refusals(self) -> list[tuple[str, int]]:
@@ -162,23 +162,23 @@ class Digest:
         found = dict.fromkeys(event.source.partition('[')[0] for event, _ in self.story.events)
         return ', '.join(filter(None, found)) or 'not told'
 
-    def time_told(self) -> str:
+    def time_text(self) -> str:
         """The span that was asked for, and the first and the last line that lie in it."""
         found = [it.moment for it in self.rows() if moments.is_clock(it.moment)]
         if not found:
-            return f'{self.span.told()}; no line in it has a date'
-        first, last = moments.stamp_told(found[0]), moments.stamp_told(found[-1])
-        return f'{self.span.told()}; its first line is of {first}, its last of {last}'
+            return f'{self.span.text()}; no line in it has a date'
+        first, last = moments.stamp_text(found[0]), moments.stamp_text(found[-1])
+        return f'{self.span.text()}; its first line is of {first}, its last of {last}'
 
     def times(self, rows: list[Row]) -> Callable[[int], str]:
         """How the moments of rows are told: with the date where there are several days."""
         days = {moments.date_of(it.moment).date() for it in rows if moments.is_clock(it.moment)}
-        return stamped if len(days) > 1 else moments.told
+        return stamped if len(days) > 1 else moments.moment_text
 
     def rows(self) -> list[Row]:
         """All of the span in its order."""
         found = [row_of(event, link) for event, link in self.story.events]
-        found += [Row(it.accepted, f'from {hosts_told([it.peer])}', stranger_told(it), BAD)
+        found += [Row(it.accepted, f'from {hosts_text([it.peer])}', stranger_text(it), BAD)
                   for it in self.story.strangers()]
         found += [Row(it.moment, '', it.told, BAD if it.is_bad else QUIET) for it in self.notes]
         found += [Row(it.moment or 0, it.source, it.text) for it in self.also]
@@ -187,10 +187,10 @@ class Digest:
 
 def stamped(moment: int) -> str:
     """A moment with its date, where it is of our days."""
-    return moments.stamp_told(moment) if moments.is_clock(moment) else moments.told(moment)
+    return moments.stamp_text(moment) if moments.is_clock(moment) else moments.moment_text(moment)
 
 
-def refusal_told(one: Connection) -> str:
+def refusal_text(one: Connection) -> str:
     """Why a connection came to nothing, with the certificate that it showed."""
     if one.local:
         return f'no association of bayctl fits, though it was let in as {one.subject}'
@@ -198,19 +198,19 @@ def refusal_told(one: Connection) -> str:
     return one.refusal() + shown
 
 
-def stranger_told(one: Connection) -> str:
-    return refusal_told(one) if one.local else f'not let in: {refusal_told(one)}'
+def stranger_text(one: Connection) -> str:
+    return refusal_text(one) if one.local else f'not let in: {refusal_text(one)}'
 
 
-def hosts_told(places: list[str]) -> str:
+def hosts_text(places: list[str]) -> str:
     """The hosts of some addresses, each once."""
     return ', '.join(dict.fromkeys(it.rpartition(':')[0].removeprefix('::ffff:') for it in places
                                    if it))
 
 
-def places_told(links: list[Link]) -> str:
+def places_text(links: list[Link]) -> str:
     """From where the clients of some links came."""
-    return hosts_told([it.place() for it in links])
+    return hosts_text([it.place() for it in links])
 
 
 def row_of(event: Event, link: Link | None) -> Row:
@@ -225,9 +225,9 @@ def row_of(event: Event, link: Link | None) -> Row:
             told = f'association {event.association} closed ({event.code}){why}'
             kind = QUIET if event.code == '0' else BAD
         case lines.CONTROL if event.is_good():
-            told, kind = f'{event.asked()}: done', GOOD
+            told, kind = f'{event.control_text()}: done', GOOD
         case lines.CONTROL:
-            told, kind = f'{event.asked()}: refused ({event.code}): {event.words}', BAD
+            told, kind = f'{event.control_text()}: refused ({event.code}): {event.words}', BAD
         case _:
             told, kind = without_link(event)
     return Row(event.moment, link.who(), told, kind)
@@ -280,7 +280,7 @@ def text_of(digest: Digest) -> list[str]:
     """A digest as lines of text."""
     rows = digest.rows()
     told = digest.times(rows)
-    found = [f'{digest.span.told()}', '', 'Who asked']
+    found = [f'{digest.span.text()}', '', 'Who asked']
     found += [f'  {it.who}: {counted(it.links, "association")}, {it.done} done, {it.refused} '
               f'refused{", from " + it.places if it.places else ""}' for it in digest.askers()
               ] or ['  nobody']
@@ -292,7 +292,7 @@ def text_of(digest: Digest) -> list[str]:
                                               for how, count in ends)]
     found += ['', 'Who was not let in']
     found += [f'  {counted(count, "time")} from {hosts}: {why}'
-              for why, count, hosts in digest.kept_out()] or ['  nobody']
+              for why, count, hosts in digest.refused_clients()] or ['  nobody']
     found += ['', 'The process', f'  {digest.process()}', '', 'What happened']
     found += [f'  {told(it.moment)}  {f"[{it.who}] " if it.who else ""}{it.told}'
               for it in rows] or ['  nothing']

@@ -12,7 +12,7 @@ from baytools.common.page_head import Source
 
 from .entries import Entry, entries_of
 from .links import Joining, Story
-from .server_lines import DIAGRAM, LOADED, RULES, Event, event_of, told_once
+from .server_lines import DIAGRAM, LOADED, RULES, Event, event_of, without_duplicates
 from .stunnel_lines import Door
 
 
@@ -29,7 +29,7 @@ class Read:
     def story(self) -> Story:
         """What all of it tells."""
         joining = Joining(self.door.connections)
-        for event in sorted(told_once(self.events), key=lambda it: it.moment):
+        for event in sorted(without_duplicates(self.events), key=lambda it: it.moment):
             joining.takes(event)
         return joining.story
 

@@ -73,7 +73,7 @@ class Event:
         """Whether a control was done."""
         return not self.code
 
-    def asked(self) -> str:
+    def control_text(self) -> str:
         """What a control asks, in words."""
         way = f' {self.way}' if self.way else ''
         by = f' (orIdent {self.identity})' if self.identity else ''
@@ -105,7 +105,7 @@ def made(entry: Entry, kind: str, found: re.Match[str], moment: int) -> Event:
                  WAYS.get(part('way'), part('way')), part('identity'))
 
 
-def told_once(events: Iterable[Event]) -> list[Event]:
+def without_duplicates(events: Iterable[Event]) -> list[Event]:
     """What is printed and logged is told once, with the words of the log."""
     kept = list(events)
     worded = {key_of(it) for it in kept if it.kind in TWICE and it.words}

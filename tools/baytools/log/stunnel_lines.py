@@ -98,7 +98,7 @@ class Door:
             self.connections.append(one)
             self.current[source, number] = one
         elif (source, number) in self.current:
-            told(self.current[source, number], moment, text)
+            note_line(self.current[source, number], moment, text)
 
 
 def noted(moment: int, found: re.Match[str]) -> list[Note]:
@@ -111,7 +111,7 @@ def noted(moment: int, found: re.Match[str]) -> list[Note]:
     return []
 
 
-def told(one: Connection, moment: int, text: str) -> None:
+def note_line(one: Connection, moment: int, text: str) -> None:
     """Notes what a line says of a connection."""
     if found := SHOWN.fullmatch(text):
         one.subject = found['subject']

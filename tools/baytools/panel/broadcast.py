@@ -5,15 +5,15 @@ import threading
 WAITING = 8  # states that wait for one who looks
 
 
-class Telling:
-    """Hands what `told` gives to all who look, each time that it is published."""
+class Publisher:
+    """Hands what `state_json` gives to all who look, each time that it is published."""
 
     def __init__(self) -> None:
         self.queues: set[queue.Queue[str]] = set()
         self.queues_lock = threading.Lock()
         self.is_over = threading.Event()
 
-    def told(self) -> str:
+    def state_json(self) -> str:
         """The state, as JSON."""
         raise NotImplementedError
 
@@ -33,7 +33,7 @@ class Telling:
         found: queue.Queue[str] = queue.Queue(WAITING)
         with self.queues_lock:
             self.queues.add(found)
-        found.put(self.told())
+        found.put(self.state_json())
         return found
 
     def unsubscribe(self, found: queue.Queue[str]) -> None:
@@ -42,7 +42,7 @@ class Telling:
 
     def publish(self) -> None:
         """Hands the state to all; who is slow misses what is older."""
-        told = self.told()
+        told = self.state_json()
         with self.queues_lock:
             for found in self.queues:
                 while True:

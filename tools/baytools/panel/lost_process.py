@@ -15,7 +15,7 @@ def is_process_lost(switches: Sequence[dict], measures: Sequence[dict] = ()) -> 
             and not any(it['quality'] == 'good' for it in measures))
 
 
-def process_told(switches: Sequence[dict], measures: Sequence[dict] = ()) -> str:
+def process_text(switches: Sequence[dict], measures: Sequence[dict] = ()) -> str:
     """What positions say of the process, or nothing."""
     if is_process_lost(switches, measures):
         last = max(switches, key=lambda it: it.get('moment', 0))

@@ -34,7 +34,7 @@ class Operator:
         self.watcher, self.control, self.end, self.refusal = watcher, None, 0, ''
         self.pages: collections.Counter[str] = collections.Counter()
         self.pages_lock = threading.Lock()
-        watcher.on_said.append(self.said)
+        watcher.on_said.append(self.on_report)
         watcher.on_read.append(self.read)
 
     def act(self, verb: str, switch: str, way: str, page: str = '',
@@ -157,7 +157,7 @@ class Operator:
             return answer(True, f'operate {switch} {way}: given up')
         return self.outcome(control.cancel(WAYS[way]))
 
-    def said(self, said) -> None:
+    def on_report(self, said) -> None:
         """A report of the server, or None where the connection is lost."""
         if said is None:
             self.control = None
@@ -180,7 +180,7 @@ class Operator:
             elif is_late and not self.control.is_selected_first():
                 self.finish(False, f'{told}: it was not confirmed within {CONFIRMING:g} s')
         elif switch['position'] == ENDS[state['way']] and (
-                is_late or not self.control.is_told_its_end()):
+                is_late or not self.control.has_termination()):
             self.finish(True, f'{told} has ended: done')
         elif is_late:
             self.finish(False, f'{told}: it is {switch["position"]}, and its time is over')

@@ -28,13 +28,13 @@ class Seen:
         for variable, allowed in product:
             value = self.value(variable)
             if value is None:
-                unseen.append(input_told(variable, allowed))
+                unseen.append(input_text(variable, allowed))
             elif value not in allowed:
-                broken.append(fact_told(variable, value, allowed))
+                broken.append(fact_text(variable, value, allowed))
         return broken, unseen
 
 
-def fact_told(variable, value, allowed) -> str:
+def fact_text(variable, value, allowed) -> str:
     """A fact that is wanted, with what is so."""
     lead, named = 'be', allowed
     if 2 * len(allowed) > len(variable.values):
@@ -43,12 +43,12 @@ def fact_told(variable, value, allowed) -> str:
     return f'{variable.name} is {value}{unit} and must {lead} {" or ".join(named)}'
 
 
-def input_told(variable, allowed) -> str:
+def input_text(variable, allowed) -> str:
     """An input that is wanted."""
     return f'input {variable.name} must be {" or ".join(allowed)}'
 
 
-def product_told(broken: list[str], unseen: list[str], kept: tuple) -> str:
+def product_text(broken: list[str], unseen: list[str], kept: tuple) -> str:
     """A product as a whole: what of it does not hold, what nobody sees here, and the timers and
     variables of the program on which it depends besides."""
     further = [f'then it depends on {", ".join(kept)}'] if kept else []
@@ -81,6 +81,6 @@ def why_not(condition: Condition | Derived | None, seen: Seen) -> str:
         if kept and not broken and not unseen:
             return f'{STILL} yet: it depends on {", ".join(kept)}'
     visible, hidden = [it for it in found if it[0]], [it for it in found if not it[0] and it[1]]
-    told = [product_told(*min(some, key=lambda it: (len(it[0]), len(it[1]), len(it[2]))))
+    told = [product_text(*min(some, key=lambda it: (len(it[0]), len(it[1]), len(it[2]))))
             for some in (visible, hidden) if some]
     return ', or '.join(told) if told else f'{STILL} yet: a timer may still run'

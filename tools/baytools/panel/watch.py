@@ -17,8 +17,8 @@ from baytools.wire.same_bay import compared
 from baytools.wire.sockets import unconnected
 from baytools.wire.tls import server_of
 
-from .broadcast import Telling
-from .lost_process import REFUSED, is_process_lost, process_told
+from .broadcast import Publisher
+from .lost_process import REFUSED, is_process_lost, process_text
 from .reasons import Seen, why_not
 
 READ = ('CSWI', 'MMXU')  # the nodes of which nothing may be missing
@@ -41,7 +41,7 @@ def now() -> int:
     return time.time_ns() // 1_000_000
 
 
-class Watcher(Telling):
+class Watcher(Publisher):
     """Reads a bay. `lock` is held by whoever uses the association; `conditions` are those of the
     audit by switch and way, once they are known. Where the server has another bay than the file,
     `state['barred']` says that nothing is operated, unless it is to be operated anyway. Where the
@@ -64,7 +64,7 @@ class Watcher(Telling):
 
     # ---- those who look
 
-    def told(self) -> str:
+    def state_json(self) -> str:
         """The state and the events, as JSON."""
         with self.lock:
             events = sorted(self.events, key=lambda it: it['moment'])
@@ -102,7 +102,7 @@ class Watcher(Telling):
     def connect(self) -> None:
         client = Client(self.host, self.port, Names(self.text), on_report=lambda told: None,
                         tls=self.tls)
-        client.on_said = self.said
+        client.on_said = self.on_report
         held = compared(client, self.file)
         if any(node.startswith(READ) for node in held.absent):
             client.close()
@@ -139,7 +139,7 @@ class Watcher(Telling):
                 act(None)
         self.publish()
 
-    def said(self, said) -> None:
+    def on_report(self, said) -> None:
         """A report of the server."""
         for act in self.on_said:
             act(said)
@@ -163,7 +163,7 @@ class Watcher(Telling):
             self.explain(found, measures)
             self.compare(found)
             self.state.update(switches=found, measures=measures,
-                              process=process_told(found, measures),
+                              process=process_text(found, measures),
                               lost=is_process_lost(found, measures))
             self.last_read = now()
             for act in self.on_read:
@@ -193,10 +193,10 @@ class Watcher(Telling):
         """Notes what has changed since the last read."""
         for old, new in zip(self.state['switches'] or [{}] * len(found), found):
             if (old.get('position'), old.get('quality')) != (new['position'], new['quality']):
-                self.event(f'{new["id"]} is {place_told(new)}', 'position', new['moment'])
+                self.event(f'{new["id"]} is {place_text(new)}', 'position', new['moment'])
             if old and old['selected'] != new['selected']:
                 self.event(f'{new["id"]} is {"" if new["selected"] else "no longer "}selected')
-            for told in may_told(old, new) if old else ():
+            for told in may_text(old, new) if old else ():
                 self.event(f'{new["id"]} {told}')
 
     def stop(self) -> None:
@@ -209,10 +209,10 @@ class Watcher(Telling):
 
 def stamp(moment: int) -> str:
     """The date and the time of day here."""
-    return f'{moments.date_of(moment):%Y-%m-%d} {moments.clock_told(moment)}'
+    return f'{moments.date_of(moment):%Y-%m-%d} {moments.clock_text(moment)}'
 
 
-def place_told(switch: dict) -> str:
+def place_text(switch: dict) -> str:
     """Where a switch is, with a quality that is not good."""
     if not switch['known']:
         return 'not known: not reported yet'
@@ -220,7 +220,7 @@ def place_told(switch: dict) -> str:
     return switch['position'] + quality
 
 
-def may_told(old: dict, new: dict) -> list[str]:
+def may_text(old: dict, new: dict) -> list[str]:
     """What of a switch's releases was gained, and what was lost."""
     ways = [(done, old[way]['free'], new[way]['free'])
             for way, done in (('open', 'opened'), ('close', 'closed'))]
@@ -243,13 +243,13 @@ def switch_of(switch, position, opened, closed) -> dict:
             'position': words.POSITIONS[value], 'quality': validity,
             'known': (value, validity) != UNREPORTED,
             'moment': moment if isinstance(moment, int) else 0,
-            'time': time_told(moment) if isinstance(moment, int) and moment else '',
+            'time': time_text(moment) if isinstance(moment, int) and moment else '',
             'selected': bool(selected and selected[0]),
             'open': {'free': opened.value}, 'close': {'free': closed.value}}
 
 
-def time_told(moment: int) -> str:
-    return stamp(moment) if moments.is_clock(moment) else moments.told(moment)
+def time_text(moment: int) -> str:
+    return stamp(moment) if moments.is_clock(moment) else moments.moment_text(moment)
 
 
 def measures_of(meter, value) -> list:

@@ -12,10 +12,10 @@ import threading
 import time
 from collections.abc import Iterable
 
-from baytools.common.moments import zone_told
+from baytools.common.moments import zone_text
 from baytools.common.paths import DATA
 
-from .broadcast import Telling
+from .broadcast import Publisher
 from .expiry import Request, Turns, is_closed, moment, request_of
 from .operating import answer
 
@@ -40,7 +40,7 @@ class Site(http.server.ThreadingHTTPServer):
     request_queue_size = 64  # connections that wait; one too many is tried again after a second
     refusal = 'this page only shows'
 
-    def __init__(self, port: int, watcher: Telling, page: pathlib.Path,
+    def __init__(self, port: int, watcher: Publisher, page: pathlib.Path,
                  files: Iterable[pathlib.Path]) -> None:
         super().__init__(('127.0.0.1', port), Handler)
         self.watcher, self.template = watcher, page
@@ -56,7 +56,7 @@ class Site(http.server.ThreadingHTTPServer):
 
     def parts(self) -> dict[str, str]:
         """What stands in the page in the place of each @NAME@, as text."""
-        return {'ZONE': zone_told(time.time_ns() // 1_000_000), 'START': self.start}
+        return {'ZONE': zone_text(time.time_ns() // 1_000_000), 'START': self.start}
 
     def drawn(self) -> dict[str, str]:
         """The same, as HTML."""
@@ -80,7 +80,7 @@ class Pages(Site):
         bay, tls = self.watcher.file['bay'], self.watcher.tls
         return {**super().parts(), 'TITLE': bay['domain'], 'TOKEN': self.token,
                 'DEVICE': f'{bay["vendor"]} {bay["model"]}',
-                'WHO': f'as {tls.told()}, by TLS' if tls else '',
+                'WHO': f'as {tls.subject_text()}, by TLS' if tls else '',
                 'OPERATES': 'true' if self.operator else 'false'}
 
     def drawn(self) -> dict[str, str]:
@@ -139,7 +139,7 @@ class Handler(http.server.BaseHTTPRequestHandler):
             path = self.server.files[name]
             self.send(200, TYPES[path.suffix], path.read_bytes())
         elif name == 'state':
-            self.send(200, 'application/json', self.server.watcher.told().encode())
+            self.send(200, 'application/json', self.server.watcher.state_json().encode())
         elif name == 'events':
             self.stream(page)
         else:
@@ -154,12 +154,12 @@ class Handler(http.server.BaseHTTPRequestHandler):
         self.send_header('Cache-Control', 'no-store')
         self.end_headers()
         if not self.server.streams.acquire(blocking=False):
-            return self.tell('full', FULL)
+            return self.write_event('full', FULL)
         operator = self.server.operator
         try:
             if operator:
                 operator.page_comes(page)
-            self.tell('start', self.server.start, f'retry: {AGAIN}\n')
+            self.write_event('start', self.server.start, f'retry: {AGAIN}\n')
             self.follow()
         except OSError:
             pass
@@ -180,14 +180,14 @@ class Handler(http.server.BaseHTTPRequestHandler):
                     state = ''
                 if state or time.monotonic() > beat:
                     life = {'moment': moment(), 'silent': watcher.silent_since()}
-                    self.tell('life', json.dumps(life))
+                    self.write_event('life', json.dumps(life))
                     beat = time.monotonic() + BEAT
                 if state:
-                    self.tell('', state)
+                    self.write_event('', state)
         finally:
             watcher.unsubscribe(states)
 
-    def tell(self, kind: str, data: str, before: str = '') -> None:
+    def write_event(self, kind: str, data: str, before: str = '') -> None:
         """Writes an event, whose kind is empty for a state."""
         named = f'event: {kind}\n' if kind else ''
         self.wfile.write(f'{before}{named}data: {data}\n\n'.encode())

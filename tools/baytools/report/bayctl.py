@@ -67,7 +67,7 @@ def run(bayctl: str | pathlib.Path, *words: object, given: bytes = b'') -> Answe
     """The answer to one ask."""
     ask = Ask(tuple(map(str, words)), given)
     if is_tried(bayctl):
-        return USUAL.ahead.pop(ask, None) or asked_of_sources([ask])[0]
+        return USUAL.ahead.pop(ask, None) or run_from_sources([ask])[0]
     try:
         done = subprocess.run([bayctl, *ask.words], input=given, capture_output=True)
     except OSError as error:
@@ -103,10 +103,10 @@ def run_lines(bayctl: str | pathlib.Path, *words: object,
 def ask_ahead(bayctl: str | pathlib.Path, asks: Sequence[Ask]) -> None:
     """Asks in one go what will be asked one by one. A built program is not asked ahead."""
     if asks and is_tried(bayctl):
-        USUAL.ahead |= zip(asks, asked_of_sources(asks))
+        USUAL.ahead |= zip(asks, run_from_sources(asks))
 
 
-def asked_of_sources(asks: Sequence[Ask]) -> list[Answer]:
+def run_from_sources(asks: Sequence[Ask]) -> list[Answer]:
     """The answers to several asks, by one run of `rt try`; says so once."""
     if not USUAL.is_said:
         complain(SAID)

@@ -2,7 +2,7 @@
 from collections.abc import Iterator
 from dataclasses import dataclass, field
 
-from baytools.wire.conversation import Said
+from baytools.wire.conversation import Description
 
 FEW, PAUSE = 3, 10_000  # repeats that are told one by one; milliseconds that end a repetition
 
@@ -46,7 +46,7 @@ class Repeat:
     answered: list[str] = field(default_factory=list)
     ticks: list[tuple[int, list[str]]] = field(default_factory=list)
 
-    def hear(self, moment: int, words: list[str]) -> None:
+    def extend(self, moment: int, words: list[str]) -> None:
         self.end = max(self.end, moment)
         if self.count <= FEW:
             self.ticks.append((moment, words))
@@ -80,26 +80,26 @@ class Client:
         self.last, self.waiting = {}, {}
         self.open.set(moment, is_open)
 
-    def asks(self, moment: int, said: Said) -> None:
+    def add_request(self, moment: int, said: Description) -> None:
         """What it asks. A read that was asked before, and not long ago, is a repeat."""
         if said.kind != 'read' or said.invoke is None:
-            return self.tick(moment, said.told())
+            return self.tick(moment, said.text_lines())
         key = tuple(said.lines)
         found = self.last.get(key)
         if found is None or moment - found.end > PAUSE:
             found = self.last[key] = Repeat(moment, moment)
             self.repeats.append(found)
         found.count += 1
-        found.asked, self.waiting[said.invoke] = said.told(), found
-        found.hear(moment, said.told())
+        found.asked, self.waiting[said.invoke] = said.text_lines(), found
+        found.extend(moment, said.text_lines())
 
-    def is_told(self, moment: int, said: Said) -> None:
+    def add_report(self, moment: int, said: Description) -> None:
         """What it is told."""
         found = self.waiting.pop(said.invoke, None) if said.kind == 'read' else None
         if found is None or not said.good:
-            return self.tick(moment, said.told())
-        found.answered = said.told()
-        found.hear(moment, said.told())
+            return self.tick(moment, said.text_lines())
+        found.answered = said.text_lines()
+        found.extend(moment, said.text_lines())
 
     def tick(self, moment: int, words: list[str]) -> None:
         self.others.setdefault(moment, []).extend(words)

@@ -5,7 +5,7 @@ from collections.abc import Sequence
 from dataclasses import dataclass
 
 from baytools.common import moments
-from baytools.common.ending import CalledWrong, Parser
+from baytools.common.ending import Parser, UsageError
 from baytools.common.texts import raised
 
 
@@ -57,13 +57,13 @@ def picked_by(chosen: argparse.Namespace, known: Sequence[str] = ()) -> Picked:
     clients = [it for text in chosen.client for it in text.split(',') if it]
     odd = next((it for it in clients if not re.fullmatch('[0-9]{1,9}', it)), None)
     if odd:
-        raise CalledWrong(f'--client {odd}: it is the number of an association, as 2')
+        raise UsageError(f'--client {odd}: it is the number of an association, as 2')
     names = {raised(it) for it in known}
     unknown = next((it for it in switches if known and raised(it) not in names), None)
     if unknown:
-        raise CalledWrong(f'--switch {unknown}: the bay has no such switch; it has '
-                          f'{", ".join(known)}')
+        raise UsageError(f'--switch {unknown}: the bay has no such switch; it has '
+                         f'{", ".join(known)}')
     if None not in (chosen.first, chosen.behind) and chosen.first >= chosen.behind:
-        raise CalledWrong('--from is not before --to')
+        raise UsageError('--from is not before --to')
     return Picked(frozenset(map(raised, switches)), frozenset(map(int, clients)), chosen.first,
                   chosen.behind)

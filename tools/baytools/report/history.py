@@ -4,9 +4,9 @@ from baytools.common import moments
 from baytools.common.positions import POSITIONS, WAYS
 from baytools.common.texts import raised
 from baytools.diagnosis.trace import BAD
-from baytools.wire.captured import conversation_of, first_stream, go_on_behind
+from baytools.wire.captured import continue_after_gap, conversation_of, first_stream
 from baytools.wire.conversation import Conversation, got_of
-from baytools.wire.words import cause_told
+from baytools.wire.words import cause_text
 
 from .clients import Client, Mark, Track
 from .filters import Picked
@@ -40,7 +40,7 @@ class History:
         for step in replay.steps():
             if history.begins(step.moment):
                 history.step(step, replay.bay)
-        history.ending = replay.ending_told()
+        history.ending = replay.ending_text()
         return history.of_picked()
 
     def begins(self, moment) -> bool:
@@ -103,16 +103,16 @@ class History:
             return
         conversation = self.conversations[event.place]
         if event.kind == 'client':
-            for got in conversation.hear(event.octets):
-                client.asks(event.moment, conversation.asks(got))
+            for got in conversation.receive(event.octets):
+                client.add_request(event.moment, conversation.describe_message(got))
         elif event.kind == 'server':
             for got in servers[event.place].feed(event.octets):
                 said = conversation.answers(got)
-                client.is_told(event.moment, said)
+                client.add_report(event.moment, said)
                 self.control(event.moment, client.place, said, (event.place, ''))
         else:
             client.tick(event.moment, ['octets are missing in the capture'])
-            go_on_behind(event, conversation, servers)
+            continue_after_gap(event, conversation, servers)
 
     def client_of(self, event) -> Client:
         """The client of a connection of a capture. Its number is free once it has closed."""
@@ -147,7 +147,7 @@ class History:
         elif verb == 'lost':
             self.lose(step.moment)
         elif verb != 'scan':
-            self.heard(step, int(rest[0]), bay)
+            self.add_client_step(step, int(rest[0]), bay)
         self.printed(step)
 
     def event(self, moment, words) -> None:
@@ -178,12 +178,12 @@ class History:
         for label in self.measures:
             self.measure(moment, label, BAD)
 
-    def heard(self, step, place, bay) -> None:
+    def add_client_step(self, step, place, bay) -> None:
         """What a client sent, or that it came or went."""
         client = self.clients.setdefault(place, Client(place))
         if step.words[0] == 'recv':
             for got in step.heard:
-                client.asks(step.moment, self.conversations[place].asks(got))
+                client.add_request(step.moment, self.conversations[place].describe_message(got))
             return
         client.connect(step.moment, step.words[0] == 'open')
         self.conversations[place] = Conversation(bay)
@@ -195,7 +195,7 @@ class History:
             if not self.picked.has_client(place):
                 continue
             said = self.conversations[place].answers(got_of(octets))
-            self.clients[place].is_told(step.moment, said)
+            self.clients[place].add_report(step.moment, said)
             self.control(step.moment, place, said, place)
         if step.command:
             name, way = step.command
@@ -224,7 +224,7 @@ class History:
             self.mark(moment, place, said.title(), said.good, self.causes.pop(talk, None), told)
 
     def mark(self, moment, place, label, good, cause, words='') -> None:
-        told = cause_told(cause) if cause is not None else words
+        told = cause_text(cause) if cause is not None else words
         who = self.clients[place].name()
         number = None if good else self.refuse(moment, f'client {who}: {label}: {told}')
         self.clients[place].marks.append(Mark(moment, label, number))

@@ -32,7 +32,7 @@ def check_whole(events: list) -> None:
                            'it can\'t be replayed')
 
 
-def placed(events) -> Iterator:
+def with_associations(events) -> Iterator:
     """The events with the number that a server gives their association: the lowest that is free."""
     free, places = list(range(1, PLACES + 1)), {}
     for event in events:
@@ -49,7 +49,7 @@ def lines_of(events) -> Iterator:
     """The lines of a trace that the session is: a scan stands before each piece of a client. An
     association that its client has ended is not closed once more."""
     streams = {}
-    for event, place in placed(events):
+    for event, place in with_associations(events):
         if event.kind == 'client':
             yield event.moment, 'scan'
             yield event.moment, f'recv {place} {event.octets.hex()}'
@@ -128,7 +128,7 @@ def scenario_at(path: str | os.PathLike[str]) -> bytes:
 def sent_of(events) -> dict:
     """What the server sent to each association, piece by piece."""
     sent = {}
-    for event, place in placed(events):
+    for event, place in with_associations(events):
         if event.kind == 'server':
             sent[place] = sent.get(place, b'') + event.octets
     return sent

@@ -68,7 +68,7 @@ class Replay:
                       'input': {raised(i['name']) for i in self.file.get('input', [])},
                       'measure': {raised(m['id']) for m in self.file.get('meter', [])}}
 
-    def ending_told(self) -> str:
+    def ending_text(self) -> str:
         """How the replay ended where that was early: what happened, and where."""
         if not self.ending:
             return ''
@@ -143,7 +143,7 @@ class Replay:
         elif verb == 'close':
             del self.conversations[place]
         elif verb == 'recv':
-            step.heard = self.conversations[place].hear(bytes.fromhex(rest[1]))
+            step.heard = self.conversations[place].receive(bytes.fromhex(rest[1]))
             self.take_replies(step, place)
         elif verb == 'scan' and self.is_next(step, 'scan'):
             step.scan = ' '.join(self.line('scan'))

@@ -153,15 +153,15 @@ class Demands:
                 continue
             source = self.network.nodes[path.nodes[0]]
             parts = both(isolating(path.switches))
-            why = f'{switch.name} would earth the source {source.name}: {path.told()}'
+            why = f'{switch.name} would earth the source {source.name}: {path.text()}'
             if not isolating(path.switches):
                 if not source.dead:
-                    raise BadDiagram(f'{self.network.title}: {switch.name} earths {path.told()}, '
+                    raise BadDiagram(f'{self.network.title}: {switch.name} earths {path.text()}, '
                                      f'and no disconnector parts it from the source {source.name}: '
                                      f'give the node {source.name} a key dead, with the input that '
                                      'is TRUE only while it is dead, or add the disconnector')
                 parts = (Part(source.name, NOT_DEAD, f'not {source.dead}'),)
-                why = f'no disconnector parts {switch.name} from the source: {path.told()}'
+                why = f'no disconnector parts {switch.name} from the source: {path.text()}'
             yield Demand(EARTHS, switch.name, CLOSE, parts, why=[why])
 
     def joining(self) -> Iterator[Demand]:
@@ -172,7 +172,7 @@ class Demands:
                 if switch.is_own:
                     parts = earthing.not_open() + both(isolating(path.others(switch)))
                     yield Demand(JOINS, switch.name, CLOSE, tuple(dict.fromkeys(parts)), why=[
-                        f'the source {path.nodes[0]} would be earthed: {whole.told()}'])
+                        f'the source {path.nodes[0]} would be earthed: {whole.text()}'])
 
     def current(self) -> Iterator[Demand]:
         """A disconnector, and each path of a current through it. On a path with breakers one of
@@ -187,14 +187,14 @@ class Demands:
         others = path.others(switch)
         breakers = [it for it in others if it.kind == BREAKER]
         if self.network.is_earth(path.nodes[-1]):
-            why = f'the current to earth would flow through it: {path.told()}'
+            why = f'the current to earth would flow through it: {path.text()}'
             return Demand(CURRENT if breakers else ALONE, switch.name, BOTH, both(others),
                           why=[why])
         if breakers:
             return Demand(CURRENT, switch.name, BOTH, both(breakers), self.unless(switch),
-                          [f'a current could flow: {path.told()}'])
+                          [f'a current could flow: {path.text()}'])
         return Demand(ALONE, switch.name, BOTH, both(others), self.unless(switch),
-                      [f'no breaker is in the path: {path.told()}'])
+                      [f'no breaker is in the path: {path.text()}'])
 
     def meeting(self) -> Iterator[Demand]:
         """A breaker that closes, and a disconnector on a path of its current: of one from a
@@ -216,7 +216,7 @@ class Demands:
                 rest = both(it for it in path.others(breaker) if it.kind == BREAKER)
                 yield Demand(MEETS, breaker.name, CLOSE, switch.not_at_rest() + rest,
                              self.unless(switch, breaker),
-                             [f'{switch.name} would make the current: {path.told()}'])
+                             [f'{switch.name} would make the current: {path.text()}'])
 
     def staying(self) -> Iterator[Demand]:
         """A switch that opens, and a disconnector beside which it closes a path; while a current
@@ -239,7 +239,7 @@ class Demands:
             rest = [it for it in (*breakers, *beside.switches) if it is not mine]
             yield Demand(STAYS, mine.name, OPEN, switch.not_at_rest() + both(rest),
                          self.unless(switch, mine),
-                         [f'{switch.name} would break the current of {beside.told()}'])
+                         [f'{switch.name} would break the current of {beside.text()}'])
 
     def systems(self) -> Iterator[Demand]:
         """A disconnector on a path between two sources of unlike systems, all else on it closed."""
@@ -252,7 +252,7 @@ class Demands:
                 for switch in path.switches:
                     if switch.is_own and switch.kind == DISCONNECTOR:
                         yield Demand(SYSTEMS, switch.name, CLOSE, both(path.others(switch)), why=[
-                            f'{one.system} would be joined to {other.system}: {path.told()}'])
+                            f'{one.system} would be joined to {other.system}: {path.text()}'])
 
 
 def demands_of(network: Network) -> list[Demand]:
@@ -260,7 +260,7 @@ def demands_of(network: Network) -> list[Demand]:
     return Demands(network).all()
 
 
-def kept_elsewhere(network: Network) -> list[str]:
+def inputs_of_other_bays(network: Network) -> list[str]:
     """The inputs of other bays by which a path beside a disconnector is known to be closed."""
     found = Demands(network)
     return list(dict.fromkeys(it.closed for switch in network.own(DISCONNECTOR)
@@ -279,7 +279,7 @@ def text_of(network: Network, domain: str) -> str:
     lines = noted(f'What the single line diagram {network.title} asks of bay {domain}; written by '
                   'tools/rules. A position that is not known counts as the worse of both, and only '
                   'an open disconnector keeps apart.')
-    inputs = kept_elsewhere(network)
+    inputs = inputs_of_other_bays(network)
     if inputs:
         lines += noted('While a disconnector of this bay moves beside a closed path, the programs '
                        f'of other bays must keep it closed: {", ".join(inputs)}.')

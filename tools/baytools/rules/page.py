@@ -9,14 +9,14 @@ from baytools.common import page_head
 from baytools.common.html_page import A4, code, escaped, page, signatures, table
 from baytools.diagram.network import Network
 
-from .demands import demands_of, kept_elsewhere
+from .demands import demands_of, inputs_of_other_bays
 
 
 def page_of(network: Network, bay: dict[str, Any], picture: str,
             sources: Sequence[page_head.Source], judged: Sequence[Judgement] = ()) -> str:
     """The page. `bay` is the table of the bay file, `picture` the drawn diagram, and `sources` are
     the files that were read. `judged` is what was proved of a program in the diagram."""
-    title, moment = f'Rules of the diagram of bay {bay["domain"]}', page_head.moment_told(
+    title, moment = f'Rules of the diagram of bay {bay["domain"]}', page_head.moment_text(
         page_head.now())
     about = [('Bay', bay['domain']),
              ('Device', f'{bay["vendor"]} {bay["model"]}, {bay["revision"]}'),
@@ -32,7 +32,7 @@ def page_of(network: Network, bay: dict[str, Any], picture: str,
 
 def elsewhere(network: Network) -> list[str]:
     """What the programs of other bays must keep."""
-    inputs = kept_elsewhere(network)
+    inputs = inputs_of_other_bays(network)
     return [f'<p class="bad">While a disconnector of this bay moves beside a closed path, the '
             f'programs of other bays must keep it closed: {code(", ".join(inputs))}.</p>'
             ] if inputs else []

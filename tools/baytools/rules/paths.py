@@ -13,7 +13,7 @@ class Path:
     nodes: tuple[str, ...]
     switches: tuple[Switch, ...]
 
-    def told(self) -> str:
+    def text(self) -> str:
         """The path as a line: node - switch - node."""
         words = [self.nodes[0]]
         for switch, node in zip(self.switches, self.nodes[1:]):

@@ -6,7 +6,7 @@ from typing import Any
 
 from baytools.bay.accepted import accepted_bay_at
 from baytools.bay.files import BadFile, text_of
-from baytools.common.ending import CalledWrong, Failed
+from baytools.common.ending import Failed, UsageError
 from baytools.wire.sockets import port_of
 
 BAY, SETTINGS, PORT = 'bay.toml', 'env', 'PORT'  # of a bay's folder: files, and what one sets
@@ -28,7 +28,7 @@ def pair(path: str, port: str) -> Listed:
     try:
         number = port_of(port)
     except argparse.ArgumentTypeError as error:
-        raise CalledWrong(f'--bay: {error}') from None
+        raise UsageError(f'--bay: {error}') from None
     text, file = accepted_bay_at(path)
     return Listed(file['bay']['domain'], file, text, number)
 
@@ -69,9 +69,9 @@ def all_of(pairs: list[list[str]], folder: str | None) -> list[Listed]:
     """All bays of the page, each with a port of its own."""
     found = [pair(*one) for one in pairs] + (folders_of(folder) if folder else [])
     if not found:
-        raise CalledWrong('name a FOLDER of bays, or bays by --bay FILE PORT')
+        raise UsageError('name a FOLDER of bays, or bays by --bay FILE PORT')
     ports = [one.port for one in found if not one.trouble]
     twice = sorted({port for port in ports if ports.count(port) > 1})
     if twice:
-        raise CalledWrong(f'two bays have port {twice[0]}')
+        raise UsageError(f'two bays have port {twice[0]}')
     return found

@@ -8,7 +8,7 @@ from typing import Any
 from baytools.log import server_lines as lines
 from baytools.log.entries import Entry
 from baytools.log.server_lines import Event, event_of
-from baytools.panel.watch import time_told
+from baytools.panel.watch import time_text
 
 UNIT, LINES = 'bayctl@{}.service', 20_000  # a bay's service; lines that are read of its past
 AGAIN, KEPT = 5.0, 4  # seconds until the journal is asked again; commands that are shown
@@ -22,7 +22,7 @@ class Journal:
         self.links: dict[int, str] = {}
         self.process, self.is_logged, self.moment = '', False, 0
 
-    def hears(self, line: str) -> None:
+    def add_line(self, line: str) -> None:
         """The next line that a server printed or logged."""
         event = event_of(Entry(line.rstrip('\r\n')), self.moment)
         if event is None:
@@ -39,10 +39,10 @@ class Journal:
             case lines.DONE if event.words != lines.REACHED:
                 self.notes(event, event.words, False)
             case lines.CONNECTED:
-                self.process = f'process connected since {time_told(event.moment)}'
+                self.process = f'process connected since {time_text(event.moment)}'
             case lines.PARTED:
                 why = f': {event.words}' if event.words else ''
-                told = time_told(event.moment)
+                told = time_text(event.moment)
                 self.process = f'process gone since {told} ({event.code}{why})'
             case lines.OPEN if event.association is not None:
                 self.links[event.association] = event.address
@@ -51,10 +51,10 @@ class Journal:
 
     def notes(self, event: Event, told: str, is_good: bool) -> None:
         way = f' {event.way}' if event.way else ''
-        self.commands.append({'time': time_told(event.moment), 'good': is_good,
+        self.commands.append({'time': time_text(event.moment), 'good': is_good,
                               'told': f'{event.switch}{way}: {told}'})
 
-    def told(self) -> dict[str, Any]:
+    def state(self) -> dict[str, Any]:
         return {'commands': list(self.commands), 'process': self.process,
                 'links': sorted(self.links.items()) if self.is_logged else None}
 
@@ -91,7 +91,7 @@ class Follower:
             for line in reading.stdout or ():
                 with self.lock:
                     self.trouble = ''
-                    self.journal.hears(line)
+                    self.journal.add_line(line)
                 self.changed.set()
             complaints = reading.stderr.read().splitlines() if reading.stderr else []
             return complaints[-1] if complaints else ''
@@ -101,10 +101,10 @@ class Follower:
             self.trouble = f'the journal can\'t be read: {self.words[0]}: {why}'
         self.changed.set()
 
-    def told(self) -> dict[str, Any]:
+    def state(self) -> dict[str, Any]:
         """What the page shows."""
         with self.lock:
-            return self.journal.told() | {'trouble': self.trouble}
+            return self.journal.state() | {'trouble': self.trouble}
 
     def stop(self) -> None:
         self.is_over.set()

@@ -6,8 +6,8 @@ import time
 from dataclasses import dataclass
 from typing import Any
 
-from baytools.panel.broadcast import Telling
-from baytools.panel.lost_process import process_told
+from baytools.panel.broadcast import Publisher
+from baytools.panel.lost_process import process_text
 from baytools.panel.watch import PARTING, Watcher, now
 
 from .bays import Listed
@@ -53,7 +53,7 @@ class BayWatcher(Watcher):
                        key=operator.itemgetter('moment'))
         return {'connected': is_there, 'told': self.state['told'], 'barred': bool(self.differs),
                 'switches': switches,
-                'process': process_told(switches, self.state['measures'] if switches else []),
+                'process': process_text(switches, self.state['measures'] if switches else []),
                 'moves': [{'time': it['time'], 'told': it['told']} for it in moves[-MOVES:]]}
 
 
@@ -64,10 +64,10 @@ class Shown:
     watcher: BayWatcher | None
     follower: Follower | None
 
-    def told(self) -> dict[str, Any]:
+    def state(self) -> dict[str, Any]:
         """What the page shows of it."""
         found = {'name': self.bay.name, 'port': self.bay.port, 'device': '', 'read': 0,
-                 'journal': self.follower.told() if self.follower else None}
+                 'journal': self.follower.state() if self.follower else None}
         if not self.watcher:
             return found | NOTHING | {'told': self.bay.trouble}
         plate = self.bay.file['bay']
@@ -78,7 +78,7 @@ class Shown:
         return [one for one in (self.watcher, self.follower) if one]
 
 
-class Station(Telling):
+class Station(Publisher):
     """All bays of the page. Each has a thread of its own that reads it, so none waits for one that
     does not answer. `journal` is the program that reads the journal, or empty."""
 
@@ -89,8 +89,8 @@ class Station(Telling):
                            Follower(journal, bay.name, self.changed) if journal else None)
                      for bay in bays]
 
-    def told(self) -> str:
-        return json.dumps({'now': now(), 'bays': [bay.told() for bay in self.bays]})
+    def state_json(self) -> str:
+        return json.dumps({'now': now(), 'bays': [bay.state() for bay in self.bays]})
 
     def following(self) -> list[BayWatcher | Follower]:
         return [one for bay in self.bays for one in bay.following()]

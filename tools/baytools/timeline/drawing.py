@@ -48,7 +48,7 @@ class Scale:
 
     def name(self, moment) -> str:
         if self.is_clock:
-            clock = moments.clock_told(int(moment))
+            clock = moments.clock_text(int(moment))
             return clock.removesuffix('.000')
         seconds, rest = divmod(moment, 1000)
         return f'{seconds}.{rest:03}'.rstrip('0').rstrip('.') + ' s'
@@ -78,7 +78,7 @@ def draw_axis(picture) -> None:
                      fill=FAINT)
     if scale.is_clock:
         days = [f'{moments.date_of(int(moment)):%Y-%m-%d}' for moment in scale.ticks()]
-        picture.text(12, picture.y + 12, moments.day_told(int(scale.start)), fill=FAINT)
+        picture.text(12, picture.y + 12, moments.day_text(int(scale.start)), fill=FAINT)
         for before, day, moment in zip(days, days[1:], scale.ticks()[1:]):
             if day != before:
                 picture.text(scale.x(moment), picture.y + 26, day, anchor='middle', fill=FAINT)
@@ -108,7 +108,8 @@ def draw_events(picture, history) -> None:
     for moment in history.scans:
         x = scale.x(moment)
         picture.path([(x - 4, middle - 5), (x + 4, middle - 5), (x, middle + 5),
-                      (x - 4, middle - 5)], FAINT, 1, '#d0d0d0', f'scan at {moments.told(moment)}')
+                      (x - 4, middle - 5)], FAINT, 1, '#d0d0d0',
+                     f'scan at {moments.moment_text(moment)}')
     picture.y += 24
     draw_losses(picture, history.losses)
     if not history.events:
@@ -129,7 +130,7 @@ def draw_losses(picture, losses) -> None:
     picture.lane('Process lost', f'{len(losses)}', picture.y + 8)
     for moment in losses:
         draw_saltire(picture, picture.scale.x(moment), picture.y + 8,
-                     f'the process is lost at {moments.told(moment)}: all is bad')
+                     f'the process is lost at {moments.moment_text(moment)}: all is bad')
     picture.y += 24
 
 
@@ -152,9 +153,9 @@ def draw_client(picture, history, client) -> None:
     for start, end, value in client.open.spells(scale.start, scale.end):
         if value:
             picture.path([(scale.x(start), line), (scale.x(end), line)], INK, 1.5,
-                         tip=f'{label} is connected from {moments.told(start)}')
+                         tip=f'{label} is connected from {moments.moment_text(start)}')
     for moment, words in client.ticks().items():
-        tip = f'{moments.told(moment)}: {label} ' + '; '.join(word.strip() for word in words)
+        tip = f'{moments.moment_text(moment)}: {label} ' + '; '.join(word.strip() for word in words)
         picture.path([(scale.x(moment), line - 4), (scale.x(moment), line + 4)], INK, 1.5, tip=tip)
     draw_repeats(picture, label, list(client.bars()))
     line = picture.y + 8
@@ -173,8 +174,8 @@ def draw_repeats(picture, label, repeats) -> None:
         y = picture.y + 18 + 16 * min(row, ROWS)
         words = '; '.join(word.strip() for word in [*repeat.asked, *repeat.answered])
         picture.box(x, y, far - x, 10, READS, FAINT,
-                    f'{moments.told(repeat.start)} to {moments.told(repeat.end)}: {label}, '
-                    f'{repeat.count:,} times, the last: {words}')
+                    f'{moments.moment_text(repeat.start)} to {moments.moment_text(repeat.end)}: '
+                    f'{label}, {repeat.count:,} times, the last: {words}')
         picture.text(text_x, y + 9, repeat.label(), fill=FAINT)
     picture.y += 16 * min(max(rows, default=-1) + 1, ROWS + 1)
 
@@ -205,7 +206,7 @@ def draw_mark(picture, history, mark, y) -> None:
     behind = x + 8
     if mark.number is None:
         picture.path([(x, y - 4), (x + 4, y), (x, y + 4), (x - 4, y), (x, y - 4)], FREE, 1, FREE,
-                     f'{mark.label} at {moments.told(mark.moment)}')
+                     f'{mark.label} at {moments.moment_text(mark.moment)}')
     else:
         draw_cross(picture, x, y, mark.number, history.refusals[mark.number][1])
         behind += room(str(mark.number + 1)) + 6
@@ -219,7 +220,7 @@ def draw_commands(picture, label, commands) -> None:
     for moment, way in commands:
         x, y = picture.scale.x(moment), picture.y
         picture.path([(x, y + 14 + BAND), (x, y + 2), (x + 8, y + 6), (x, y + 10)], COMMAND, 1.5,
-                     COMMAND, f'command: {way} {label} at {moments.told(moment)}')
+                     COMMAND, f'command: {way} {label} at {moments.moment_text(moment)}')
         picture.text(x + 11, y + 11, way, fill=COMMAND, weight='bold')
     picture.y += 14 if commands else 0
 
@@ -237,7 +238,7 @@ def draw_switch(picture, history, key) -> None:
                      fill=FAINT)
         for start, end, value in releases.spells(scale.start, scale.end):
             x, far = scale.x(start), scale.x(end)
-            since = f'from {moments.told(start)}'
+            since = f'from {moments.moment_text(start)}'
             tip = f'{track.label} {"" if value else "not: "}{releases.label}, {since}'
             if value:
                 picture.box(x, picture.y + 1, far - x, STRIP - 2, FREE, tip=tip)
@@ -252,7 +253,7 @@ def draw_position(picture, label, start, end, value) -> None:
     x, far = picture.scale.x(start), picture.scale.x(end)
     dash = '2 3' if value == UNKNOWN else ''
     picture.box(x, picture.y, far - x, BAND, FILLS[value], FAINT,
-                f'{label} {value} from {moments.told(start)}', dash)
+                f'{label} {value} from {moments.moment_text(start)}', dash)
     if room(value) + 6 <= far - x:
         plain = value in (UNKNOWN, 'open', 'closed')
         if not plain:
@@ -271,7 +272,7 @@ def draw_input(picture, track) -> None:
         level = high if value else low
         if value:
             picture.box(scale.x(start), high, scale.x(end) - scale.x(start), low - high, '#cfe8e4',
-                        tip=f'{track.label} 1 from {moments.told(start)}')
+                        tip=f'{track.label} 1 from {moments.moment_text(start)}')
         points += [(scale.x(start), level), (scale.x(end), level)]
     picture.path(points, '#00695c', tip=f'input {track.label}')
     picture.y += 24
@@ -284,7 +285,7 @@ def draw_measure(picture, track, doubt) -> None:
     for start, end, is_bad in doubt.spells(scale.start, scale.end):
         if is_bad:
             picture.box(scale.x(start), picture.y + 14, scale.x(end) - scale.x(start), height,
-                        FILLS['bad'], tip=f'{track.label} bad from {moments.told(start)}')
+                        FILLS['bad'], tip=f'{track.label} bad from {moments.moment_text(start)}')
     values = [0] + [value for _, value in track.changes]
     low, high = min(values), max(max(values), min(values) + 1)
     base = picture.y + 14 + height
@@ -389,18 +390,18 @@ def page_of(picture, history, heading, top, bottom) -> str:
     grid = [f'<path d="M {scale.x(m):.1f} {top} V {bottom - 8}" stroke="{GRID}"/>'
             for m in scale.ticks()]
     picture.parts = grid + picture.parts
-    return picture.page(WIDTH, picture.y + 10, heading, all_told(history), PATTERNS)
+    return picture.page(WIDTH, picture.y + 10, heading, all_text(history), PATTERNS)
 
 
-def all_told(history) -> str:
+def all_text(history) -> str:
     """The description for readers."""
     names = ', '.join(track.label for track in history.switches.values())
     told = (f'Positions of {names} over time, what the interlocking of each allowed after each of '
             f'{counted(len(history.scans), "scan")}, inputs and measures') if names else 'A session'
-    return told + talk_told(history)
+    return told + talk_text(history)
 
 
-def talk_told(history) -> str:
+def talk_text(history) -> str:
     """The last words of the description: clients, commands, refusals."""
     commands = sum(map(len, history.commands.values()))
     controls = sum(len(it.marks) for it in history.clients.values())

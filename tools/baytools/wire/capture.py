@@ -3,7 +3,7 @@ import heapq
 from collections.abc import Iterator
 from dataclasses import dataclass, field
 
-from .packets import Segment, address_told, packets, segment_in
+from .packets import Segment, address_text, packets, segment_in
 
 SYN, FIN, RST, ACK = 0x02, 0x01, 0x04, 0x10
 HALF, WHOLE = 1 << 31, 1 << 32
@@ -206,7 +206,7 @@ class Capture:
 
 def events_of(connection: Connection, place: int) -> Iterator:
     """The events of a connection, each with the number of its packet."""
-    who = address_told(connection.client[0])
+    who = address_text(connection.client[0])
     kind = 'open' if connection.begins() else 'middle'
     yield connection.first, Event(connection.opened, place, kind, who=who)
     for (at, moment), end, kind, octets in connection.events:

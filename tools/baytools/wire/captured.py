@@ -8,7 +8,7 @@ from .stream import Stream
 
 def first_stream(event: Event) -> Stream:
     """The stream of one direction, as a connection begins in a capture."""
-    return Stream() if event.kind == 'open' else Stream.behind_a_gap()
+    return Stream() if event.kind == 'open' else Stream.after_gap()
 
 
 def conversation_of(event: Event, bay: Names) -> Conversation:
@@ -17,9 +17,9 @@ def conversation_of(event: Event, bay: Names) -> Conversation:
     return found
 
 
-def go_on_behind(event: Event, conversation: Conversation, servers: dict) -> None:
+def continue_after_gap(event: Event, conversation: Conversation, servers: dict) -> None:
     """Goes on behind octets that are missing."""
     if event.side == 'client':
-        conversation.stream = Stream.behind_a_gap()
+        conversation.stream = Stream.after_gap()
     else:
-        servers[event.place] = Stream.behind_a_gap()
+        servers[event.place] = Stream.after_gap()

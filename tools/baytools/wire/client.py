@@ -9,7 +9,7 @@ from baytools.common.ending import FOUND, Failed
 
 from . import mms, stream, words
 from .ber import Unreadable
-from .conversation import Conversation, Said
+from .conversation import Conversation, Description
 from .mms import Data, Failure
 from .sockets import is_taken, unconnected
 from .tls import ALERT, Tls, connected, refusal_in
@@ -103,9 +103,9 @@ class Client:
                        'of the clients') from None
         except TimeoutError:
             if self.came:
-                raise Lost(f'{what}: it sends {told(self.came)}, and no whole answer to a '
+                raise Lost(f'{what}: it sends {octets_text(self.came)}, and no whole answer to a '
                            'connection request') from None
-            raise Lost(f'{what}: {silence_told(is_taken(self.socket), bool(self.tls))}') from None
+            raise Lost(f'{what}: {silence_text(is_taken(self.socket), bool(self.tls))}') from None
 
     def begin(self) -> None:
         """From now on an answer may take its time."""
@@ -126,7 +126,7 @@ class Client:
             self.receive()
         got = self.waiting.pop(0)
         if got.kind != kind:
-            came = f' ({told(self.came)})' if got.kind == 'fault' else ''
+            came = f' ({octets_text(self.came)})' if got.kind == 'fault' else ''
             raise self.lost(f'sends {got.words or got.kind}{came} instead of {kind}')
         return got
 
@@ -158,7 +158,7 @@ class Client:
         octets = request(self.invoke, *more)
         if not is_begun:
             self.begin()
-        self.conversation.asks_mms(octets)
+        self.conversation.describe_mms(octets)
         try:
             self.send(stream.wrapped(stream.data_tsdu(octets), self.size))
             pdu = self.response()
@@ -181,7 +181,7 @@ class Client:
                 raise Refused('\n'.join(said.lines))
             return pdu
 
-    def pdu(self) -> tuple[mms.Pdu, Said]:
+    def pdu(self) -> tuple[mms.Pdu, Description]:
         """The next PDU, and its words; a report is handed on."""
         octets = self.next('mms').octets
         try:
@@ -195,7 +195,7 @@ class Client:
             self.on_said(said)
         return pdu, said
 
-    def wait_for_report(self, seconds: float) -> Said | None:
+    def wait_for_report(self, seconds: float) -> Description | None:
         """What a report says that came within so many seconds, or None."""
         self.end = time.monotonic() + seconds
         try:
@@ -250,7 +250,7 @@ class Client:
         """One value, which is to have this type."""
         (_, found), = self.read([item])
         if isinstance(found, Failure):
-            raise Refused(f'{item}: {words.told("", found)}')
+            raise Refused(f'{item}: {words.value_text("", found)}')
         return self.typed(item, found, tag)
 
     def typed(self, item: str, found: Data, tag: int) -> object:
@@ -287,7 +287,7 @@ class Client:
         self.socket.close()
 
 
-def told(octets: bytes) -> str:
+def octets_text(octets: bytes) -> str:
     """Some octets, as digits and as text where they are one."""
     first = octets[:SHOWN]
     more = ' ..' if len(octets) > SHOWN else ''
@@ -296,7 +296,7 @@ def told(octets: bytes) -> str:
     return first.hex(' ').upper() + more + shown
 
 
-def silence_told(is_taken_there: bool | None, is_tls: bool) -> str:
+def silence_text(is_taken_there: bool | None, is_tls: bool) -> str:
     """What is said of a port on which nothing comes, taken by a program or not, or unknown."""
     if is_taken_there is False:
         return ('the connection waits, and what listens there does not take it: a bay\'s server '
@@ -308,6 +308,6 @@ def silence_told(is_taken_there: bool | None, is_tls: bool) -> str:
             'eight associations taken?')
 
 
-def connection_told(error: OSError, host: str, port: int) -> str:
+def connection_text(error: OSError, host: str, port: int) -> str:
     """Why there is no connection."""
     return f'port {port} of {host}: {unconnected(error)}'

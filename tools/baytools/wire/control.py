@@ -40,7 +40,7 @@ class Control:
         item = f'{self.node}$CF$Pos$ctlModel'
         (_, model), = client.read([item])
         if isinstance(model, Failure):
-            raise Refused(f'{self.name}: {words.told("", model)}')
+            raise Refused(f'{self.name}: {words.value_text("", model)}')
         self.model = client.typed(item, model, mms.INTEGER)
 
     def item(self, word: str) -> str:
@@ -55,7 +55,7 @@ class Control:
     def is_selected_first(self) -> bool:
         return self.model in (SELECTED, ENHANCED)
 
-    def is_told_its_end(self) -> bool:
+    def has_termination(self) -> bool:
         return self.model == ENHANCED
 
     def outcome(self, verb: str, is_good: bool, answer=None, done: str = 'done') -> Outcome:
@@ -64,7 +64,7 @@ class Control:
             return Outcome(True, f'{verb} {self.name}: {done}')
         if self.client.cause is not None:
             return Outcome(False)
-        told = words.told('', answer) if isinstance(answer, Failure) else 'refused'
+        told = words.value_text('', answer) if isinstance(answer, Failure) else 'refused'
         return Outcome(False, f'{verb} {self.name}: {told}')
 
     def select(self, on: bool = True) -> Outcome:
@@ -132,7 +132,7 @@ class Control:
                 for way, free in (('opened', opened), ('closed', closed))]
         there = ' already' if position == ENDS[on] else ''
         told = f'{self.name} is {words.POSITIONS[position]}{there}, {" and ".join(ways)}'
-        if (key := self.client.bay.key(self.name)) and not self.is_told_its_end():
+        if (key := self.client.bay.key(self.name)) and not self.has_termination():
             told += f'; its key {key} must be at remote, which is not seen here'
         moving = [name for name, found in others.items() if found == (INTERMEDIATE, GOOD)]
         return told + (f'; still moving: {", ".join(moving)}' if moving else '')

@@ -13,7 +13,7 @@ REFUSED_READ = mms.Data(mms.TEXT, '')
 
 
 @dataclass
-class Said:
+class Description:
     """One thing that was said. `kind` is connect, identify, names, attributes, read, write, select,
     operate, cancel, refused (a LastApplError), ended (the end of an operate) or end; `lead` and
     `lines` are the words for it, `switch` and `way` (open, close or nothing) are those of a
@@ -27,7 +27,7 @@ class Said:
     good: bool = True
     cause: int | None = None
 
-    def told(self) -> list:
+    def text_lines(self) -> list:
         """The words, line by line."""
         return [f'{self.lead} {self.lines[0]}', *self.lines[1:]]
 
@@ -65,51 +65,53 @@ class Conversation:
         self.bay, self.stream, self.asked = bay, Stream(), {}
         self.on_answer = lambda request, answer: None
 
-    def hear(self, piece) -> list:
+    def receive(self, piece) -> list:
         """The messages of the client that a piece of its octets completes."""
         return list(self.stream.feed(piece))
 
-    def asks(self, got) -> 'Said':
+    def describe_message(self, got) -> 'Description':
         """A message of the client, in words."""
         if got.kind == 'CR':
-            return Said('connect', 'asks for', [f'a transport connection, {sized(got.size)}'])
+            return Description('connect', 'asks for',
+                               [f'a transport connection, {sized(got.size)}'])
         if got.kind == 'associate':
-            return Said('connect', 'asks for', ['an association' + proposed(got.octets)])
+            return Description('connect', 'asks for', ['an association' + proposed(got.octets)])
         if got.kind == 'mms':
-            return self.asks_mms(got.octets)
+            return self.describe_mms(got.octets)
         told = {'finish': ('ends', 'its association (FINISH)'),
                 'release': ('asks for', 'the release of its association'),
                 'abort': ('aborts', 'its association'),
                 'end': ('ends', f'its connection ({got.words})'),
                 'fault': ('sends', f'what can\'t be read: {got.words}')}
         lead, line = told.get(got.kind, ('sends', got.kind))
-        return Said('end', lead, [line], good=got.kind != 'fault')
+        return Description('end', lead, [line], good=got.kind != 'fault')
 
-    def asks_mms(self, octets) -> 'Said':
+    def describe_mms(self, octets) -> 'Description':
         try:
             pdu = mms.read_pdu(octets)
         except Unreadable as error:
-            return Said('read', 'sends', [f'a PDU that can\'t be read: {error}'], good=False)
-        said = self.asked_of(pdu)
+            return Description('read', 'sends', [f'a PDU that can\'t be read: {error}'], good=False)
+        said = self.describe_request(pdu)
         if pdu.kind == 'request':
             self.asked.setdefault(pdu.invoke, []).append((pdu, said))
         return said
 
-    def asked_of(self, pdu) -> 'Said':
+    def describe_request(self, pdu) -> 'Description':
         """A request in words."""
         if pdu.kind == 'conclude':
-            return Said('end', 'asks', ['to conclude'])
+            return Description('end', 'asks', ['to conclude'])
         if pdu.kind != 'request':
-            return Said('read', f'asks{numbered(pdu)}', [pdu.service or pdu.kind], pdu.invoke)
+            return Description('read', f'asks{numbered(pdu)}', [pdu.service or pdu.kind],
+                               pdu.invoke)
         switch, kind = self.controlled(pdu)
         if switch:
-            return Said(kind, f'asks{numbered(pdu)}', [self.control_told(kind, switch, pdu)],
-                        pdu.invoke, switch, asked_way(pdu))
-        tell = {'names': self.asked_names, 'read': self.asked_read, 'write': self.asked_write,
-                'attributes': self.asked_type}.get(pdu.service)
+            return Description(kind, f'asks{numbered(pdu)}', [self.control_text(kind, switch, pdu)],
+                               pdu.invoke, switch, operation_word(pdu))
+        tell = {'names': self.names_lines, 'read': self.read_lines, 'write': self.write_lines,
+                'attributes': self.type_lines}.get(pdu.service)
         lines = tell(pdu) if tell else ['who the server is' if pdu.service == 'identify'
                                         else pdu.service]
-        return Said(pdu.service, f'asks{numbered(pdu)}', lines, pdu.invoke)
+        return Description(pdu.service, f'asks{numbered(pdu)}', lines, pdu.invoke)
 
     def controlled(self, pdu) -> tuple:
         """The switch and the kind of a request that selects, operates or cancels, and asks nothing
@@ -121,121 +123,124 @@ class Conversation:
             return '', ''
         return self.bay.switch(pdu.names[0]), ASKED[path[3]]
 
-    def control_told(self, kind, switch, pdu) -> str:
+    def control_text(self, kind, switch, pdu) -> str:
         """A select, an operate or a cancel."""
         if pdu.service == 'read' or not pdu.data:
             return f'{kind} {switch}'
         value = pdu.data[0]
         shape = words.CANCEL if kind == 'cancel' else words.OPER
         if not words.fits(shape, value):
-            return f'{kind} {switch} with {words.told(self.bay.item(pdu.names[0]), value)}'
+            return f'{kind} {switch} with {words.value_text(self.bay.item(pdu.names[0]), value)}'
         on, origin, count, _, test, *check = (part.value for part in value.value)
         category, ident = (part.value for part in origin)
         by = f'originator {category}'
         if 0 <= category < len(words.ORIGINATORS):
             by = words.ORIGINATORS[category]
-        more = [by + (f' {words.octets_told(ident)}' if ident else ''), f'number {count}']
+        more = [by + (f' {words.octets_text(ident)}' if ident else ''), f'number {count}']
         more += ['a test'] if test else []
         if check and check[0] != '00':
             more.append(f'checks: {words.CHECKS.get(check[0], check[0])}')
         return f'{kind} {switch} {way_of(on)} ({", ".join(more)})'
 
-    def asked_names(self, pdu) -> list:
+    def names_lines(self, pdu) -> list:
         what = f'the names of {pdu.names[0]}' if pdu.names else 'the names of the server'
         kind = {0: '', 9: ', domains'}.get(pdu.code[0], f', class {pdu.code[0]}')
         return [what + kind + (f', behind {pdu.after}' if pdu.after is not None else '')]
 
-    def asked_read(self, pdu) -> list:
+    def read_lines(self, pdu) -> list:
         return listed('read', [self.bay.titled(name) for name in pdu.names])
 
-    def asked_write(self, pdu) -> list:
+    def write_lines(self, pdu) -> list:
         return listed('write',
-                      [f'{self.bay.titled(name)} := {words.told(self.bay.item(name), value)}'
+                      [f'{self.bay.titled(name)} := {words.value_text(self.bay.item(name), value)}'
                        for name, value in zip(pdu.names, pdu.data)])
 
-    def asked_type(self, pdu) -> list:
+    def type_lines(self, pdu) -> list:
         return [f'the type of {self.bay.titled(pdu.names[0])}']
 
-    def answers(self, got) -> 'Said':
+    def answers(self, got) -> 'Description':
         """A message of the server, in words."""
         if got is None:
-            return Said('end', 'is sent', ['a part of a message'], good=False)
+            return Description('end', 'is sent', ['a part of a message'], good=False)
         if got.kind == 'CC':
-            return Said('connect', 'is connected,', [sized(got.size)])
+            return Description('connect', 'is connected,', [sized(got.size)])
         if got.kind == 'accept':
-            return Said('connect', 'is given', ['an association' + proposed(got.octets)])
+            return Description('connect', 'is given', ['an association' + proposed(got.octets)])
         if got.kind == 'mms':
             return self.answers_mms(got.octets)
         if got.kind == 'released':
-            return Said('end', 'is given', ['its release'])
-        return Said('end', 'is sent', [got.words or got.kind], good=False)
+            return Description('end', 'is given', ['its release'])
+        return Description('end', 'is sent', [got.words or got.kind], good=False)
 
-    def answers_mms(self, octets) -> 'Said':
+    def answers_mms(self, octets) -> 'Description':
         try:
             pdu = mms.read_pdu(octets)
         except Unreadable as error:
-            return Said('read', 'is sent', [f'a PDU that can\'t be read: {error}'], good=False)
+            return Description('read', 'is sent', [f'a PDU that can\'t be read: {error}'],
+                               good=False)
         if pdu.kind == 'report':
             return self.reported(pdu)
         if pdu.kind == 'concluded':
-            return Said('end', 'is answered:', ['concluded'])
+            return Description('end', 'is answered:', ['concluded'])
         waiting = self.asked.get(pdu.invoke)
         request, asked = waiting.pop(0) if waiting else (None, None)
         kind, *control = pdu.service or 'read', '', ''
         if asked:
             kind, *control = asked.kind, asked.switch, asked.way
         if pdu.kind in ('error', 'reject'):
-            return Said(kind, f'is answered{numbered(pdu)}', [words.error_told(pdu.kind, pdu.code)],
-                        pdu.invoke, *control, False)
+            return Description(kind, f'is answered{numbered(pdu)}',
+                               [words.error_text(pdu.kind, pdu.code)],
+                               pdu.invoke, *control, False)
         if request and request.service == pdu.service:
             self.on_answer(request, pdu)
-        lines, good = self.response_told(pdu, request, asked)
-        return Said(kind, f'is answered{numbered(pdu)}', lines, pdu.invoke, *control, good)
+        lines, good = self.response_text(pdu, request, asked)
+        return Description(kind, f'is answered{numbered(pdu)}', lines, pdu.invoke, *control, good)
 
-    def response_told(self, pdu, request, asked) -> tuple:
+    def response_text(self, pdu, request, asked) -> tuple:
         """A response in words, and whether it is what was wanted."""
         if asked and asked.switch and len(pdu.data) == 1:
             return control_answer(asked, pdu.data[0])
         if pdu.service == 'names':
-            return [names_told(pdu)], True
+            return [names_text(pdu)], True
         if pdu.service == 'identify':
             named = zip(('vendor', 'model', 'revision'), pdu.names)
             return [', '.join(f'{word} {words.quoted(name)}' for word, name in named)], True
         if pdu.service == 'attributes':
-            return [type_told(pdu.shape)], True
+            return [type_text(pdu.shape)], True
         names = [''] * len(pdu.data)
         if request and len(request.names) == len(pdu.data):
             names = request.names
         good = not any(isinstance(value, Failure) for value in pdu.data)
         if pdu.service == 'write':
-            told = ['done' if value is None else words.told('', value) for value in pdu.data]
+            told = ['done' if value is None else words.value_text('', value) for value in pdu.data]
         else:
-            told = [words.told(self.bay.item(name), value) for name, value in zip(names, pdu.data)]
+            told = [words.value_text(self.bay.item(name), value)
+                    for name, value in zip(names, pdu.data)]
         return listed('',
                       [f'{self.bay.titled(name)} = {value}' if name else value
                        for name, value in zip(names, told)]), good
 
-    def reported(self, pdu) -> 'Said':
+    def reported(self, pdu) -> 'Description':
         """A LastApplError, or the end of an operate."""
         control = next((name for name in pdu.names if name.endswith('$Oper')), None)
         cause = next((cause_in(value) for name, value in zip(pdu.names, pdu.data)
                       if name == 'LastApplError'), None)
         if control and pdu.data and words.fits(words.OPER, pdu.data[-1]):
             switch, asked = self.bay.switch(control), self.bay.item(control) + '$ctlVal'
-            way = words.told(asked, pdu.data[-1].value[0])
-            told = 'done' if cause is None else words.cause_told(cause[1])
-            return Said('ended', 'is told:', [f'operate {switch} {way} has ended: {told}'], None,
-                        switch, way, cause is None, cause and cause[1])
+            way = words.value_text(asked, pdu.data[-1].value[0])
+            told = 'done' if cause is None else words.cause_text(cause[1])
+            return Description('ended', 'is told:',
+                               [f'operate {switch} {way} has ended: {told}'], None, switch, way,
+                               cause is None, cause and cause[1])
         if cause is None:
-            return Said('refused', 'is told:', [', '.join(pdu.names)])
+            return Description('refused', 'is told:', [', '.join(pdu.names)])
         verb = ASKED.get(cause[0].rpartition('$')[2], 'control')
         switch = self.bay.switch(cause[0])
-        return Said('refused', 'is told:',
-                    [f'{verb} {switch} is refused: {words.cause_told(cause[1])}'], None, switch, '',
-                    False, cause[1])
+        text = f'{verb} {switch} is refused: {words.cause_text(cause[1])}'
+        return Description('refused', 'is told:', [text], None, switch, '', False, cause[1])
 
 
-def asked_way(pdu) -> str:
+def operation_word(pdu) -> str:
     """Whether a control is to open or to close its switch, where it says so."""
     if not pdu.data or pdu.data[0].tag != mms.STRUCTURE or not pdu.data[0].value:
         return ''
@@ -247,7 +252,7 @@ def control_answer(asked, value) -> tuple:
     """What became of a select, an operate or a cancel."""
     subject = f'{asked.kind} {asked.switch}'
     if isinstance(value, Failure):
-        return [f'{subject}: {words.told("", value)}'], False
+        return [f'{subject}: {words.value_text("", value)}'], False
     if value == REFUSED_READ:
         return [f'{subject}: refused'], False
     return [f'{subject}: done'], True
@@ -273,7 +278,7 @@ def proposed(initiate) -> str:
     return f', PDUs of at most {size} octets' if size else ''
 
 
-def names_told(pdu) -> str:
+def names_text(pdu) -> str:
     if not pdu.names:
         return 'no names'
     span = f'{len(pdu.names)} names, {pdu.names[0]} to {pdu.names[-1]}'
@@ -281,10 +286,10 @@ def names_told(pdu) -> str:
     return span + (', and there are more' if pdu.more else '')
 
 
-def type_told(shape) -> str:
+def type_text(shape) -> str:
     if isinstance(shape, str):
         return shape
-    return '{' + ', '.join(f'{name} {type_told(part)}' for name, part in shape) + '}'
+    return '{' + ', '.join(f'{name} {type_text(part)}' for name, part in shape) + '}'
 
 
 def sized(size) -> str:

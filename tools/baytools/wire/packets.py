@@ -156,13 +156,13 @@ def segment_in(packet: Packet) -> Segment | None:
         if octets[9] == TCP and is_first and start >= 20:
             return segment_of((octets[12:16], octets[16:20]), octets[start:whole], whole - start)
     if version == 6 and len(octets) >= 40:
-        start, whole = behind_extensions(octets), 40 + int.from_bytes(octets[4:6])
+        start, whole = after_extensions(octets), 40 + int.from_bytes(octets[4:6])
         if start:
             return segment_of((octets[8:24], octets[24:40]), octets[start:whole], whole - start)
     return None
 
 
-def behind_extensions(octets: bytes) -> int:
+def after_extensions(octets: bytes) -> int:
     """Where TCP begins in a packet of IPv6, behind its extension headers; 0 for none."""
     kind, at = octets[6], 40
     while at + 8 <= len(octets) and kind != TCP:
@@ -188,5 +188,5 @@ def segment_of(addresses, octets, whole) -> Segment | None:
                    octets[13], octets[start:], max(whole - start, 0))
 
 
-def address_told(address: bytes) -> str:
+def address_text(address: bytes) -> str:
     return str(ipaddress.ip_address(address))

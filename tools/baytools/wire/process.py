@@ -86,7 +86,7 @@ def moment_of(line: str) -> int | None:
 class WallClock:
     """The time of this machine's clock, by which a process goes that nobody supervises."""
 
-    def hears(self, moment: int) -> None:
+    def on_moment(self, moment: int) -> None:
         pass
 
     def now(self) -> int:
@@ -106,7 +106,7 @@ class ServerClock:
         """The milliseconds since the last line."""
         return (time.monotonic() - self.since) * 1000
 
-    def hears(self, moment: int) -> None:
+    def on_moment(self, moment: int) -> None:
         """A line with this time has come. A server's clock goes at least SLOWER as fast."""
         least = self.moment + int(self.passed() * SLOWER)
         self.moment, self.since = max(moment, least), time.monotonic()
@@ -146,7 +146,7 @@ class Life:
         self.told = time.monotonic()
         return True
 
-    def hears(self) -> None:
+    def on_alive(self) -> None:
         """The server has said that it lives."""
         self.heard = time.monotonic()
 

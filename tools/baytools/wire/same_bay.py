@@ -61,27 +61,27 @@ class Comparison:
         return [*pairs, 'LLN0$DC', 'LPHD1$DC', *settings, *(f'{it}$MX' for it in self.meters[-1:]),
                 *beyond, f'CSWI{len(self.own) + 1}$ST', f'MMXU{len(self.meters) + 1}$MX']
 
-    def hears(self, request: Pdu, answer: Pdu) -> None:
+    def add_answer(self, request: Pdu, answer: Pdu) -> None:
         """One answer of the server, with what was asked."""
         if answer.service == 'names':
-            self.hears_names(request, answer.names)
+            self.add_names(request, answer.names)
         elif answer.service == 'identify':
             for key, name in zip(PLATE, answer.names):
                 self.compare(f'LLN0$DC$NamPlt${PLATE[key]}', Data(mms.TEXT, name))
         elif answer.service == 'read' and len(request.names) == len(answer.data):
             positions = {}
             for name, value in zip(request.names, answer.data):
-                positions |= dict(self.hears_value(name, value))
-            self.hears_positions(positions)
+                positions |= dict(self.add_value(name, value))
+            self.add_positions(positions)
 
-    def hears_names(self, request, names) -> None:
+    def add_names(self, request, names) -> None:
         if not request.names:
             self.domains += names if request.code == (9,) else []
         elif request.names == [self.bay.domain]:
             for name in names:
                 self.is_there(name.split('$')[0])
 
-    def hears_value(self, name, value) -> Iterator[tuple[str, Data]]:
+    def add_value(self, name, value) -> Iterator[tuple[str, Data]]:
         """A value that was read; what it holds of positions."""
         item = self.bay.item(name)
         node = item.split('$')[0]
@@ -108,11 +108,11 @@ class Comparison:
         """A row of the server and that of the file."""
         key, wanted = self.rows.get(row, ('', None))
         told = WORDS.get(key, {}).get(value.value) if value.tag == mms.INTEGER else None
-        told = told or words.told('', value)
+        told = told or words.value_text('', value)
         if key and told != wanted:
             self.other[row] = told
 
-    def hears_positions(self, found) -> None:
+    def add_positions(self, found) -> None:
         """The positions of one answer: both of a switch are the same at any time."""
         for place, own in enumerate(self.own, 1):
             pairs = [(found.get(f'CSWI{place}$ST$Pos${part}'), found.get(f'{own}$ST$Pos${part}'))
@@ -125,7 +125,8 @@ class Comparison:
         domain, own = self.bay.domain, set(self.domains) - {self.bay.domain}
         if own and domain not in self.domains:
             return [f'the server has domain {", ".join(sorted(own))}, the bay file has {domain}']
-        found = [self.told(row, *self.rows[row], other) for row, other in self.other.items()]
+        found = [self.difference_text(row, *self.rows[row], other)
+                 for row, other in self.other.items()]
         found += [f'the server has no {node}, the bay file\'s {self.bay.ids[node]}'
                   if node in self.bay.ids else f'the server has no {item}'
                   for node, item in self.absent.items()]
@@ -136,7 +137,7 @@ class Comparison:
                   f'{self.bay.ids[node]} is both' for node, own in self.apart.items()]
         return list(dict.fromkeys(found))
 
-    def told(self, row, key, wanted, other) -> str:
+    def difference_text(self, row, key, wanted, other) -> str:
         node = row.split('$')[0]
         if node not in self.bay.ids:
             return f'the server has {key} {other}, the bay file has {wanted}'
@@ -164,7 +165,7 @@ def compared(client: Client, file: dict) -> Comparison:
     """The bay file that a client knows, held against its server. One read asks for it, of a bay
     with up to eight switches."""
     held = Comparison(client.bay, file)
-    client.conversation.on_answer = held.hears
+    client.conversation.on_answer = held.add_answer
     client.read(held.asked)
     if 'LLN0' in held.absent:
         client.domains()

@@ -6,7 +6,7 @@ import socket
 import ssl
 import struct
 
-from .tls import failure_told
+from .tls import failure_text
 
 RESET = struct.pack('ii', 1, 0)  # for SO_LINGER: what waits is dropped, and the connection reset
 TABLES = {socket.AF_INET: '/proc/net/tcp', socket.AF_INET6: '/proc/net/tcp6'}
@@ -83,5 +83,5 @@ def unconnected(error: OSError) -> str:
     if isinstance(error, TimeoutError):
         return 'nothing is answered'
     if isinstance(error, ssl.SSLError):
-        return failure_told(error)
+        return failure_text(error)
     return error.strerror or str(error)

@@ -39,7 +39,7 @@ class Stream:
     seeks: bool = False
 
     @classmethod
-    def behind_a_gap(cls) -> 'Stream':
+    def after_gap(cls) -> 'Stream':
         """A stream of which some octets are missing at its beginning."""
         return cls(connected=True, seeks=True)
 
@@ -103,7 +103,7 @@ class Stream:
         if not tpdu[2] & 0x80:
             return None
         tsdu, self.group = self.group, b''
-        return heard(tsdu)
+        return tsdu_meaning(tsdu)
 
 
 def agreed_size(tpdu) -> int | None:
@@ -150,7 +150,7 @@ def session_item(octets, at) -> tuple:
     return code, octets[at:at + size], at + size
 
 
-def heard(tsdu) -> 'Got':
+def tsdu_meaning(tsdu) -> 'Got':
     """What a TSDU says."""
     if tsdu[:4] == b'\x01\x00\x01\x00':
         return user_data(tsdu[4:])

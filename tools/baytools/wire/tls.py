@@ -6,7 +6,7 @@ import socket
 import ssl
 from dataclasses import dataclass
 
-from baytools.common.ending import CalledWrong, Failed
+from baytools.common.ending import Failed, UsageError
 from baytools.common.texts import in_line
 
 from . import ber
@@ -55,9 +55,9 @@ class Tls:
         finally:
             connection.close()  # which does nothing once TLS has taken its descriptor
 
-    def told(self) -> str:
+    def subject_text(self) -> str:
         """Whose the own certificate is."""
-        return subject_told(self.subject)
+        return subject_text(self.subject)
 
     def identity(self) -> str:
         """The CN of the own certificate, as far as an orIdent takes it; or nothing."""
@@ -83,13 +83,13 @@ def tls_of(chosen: argparse.Namespace) -> Tls | None:
              if getattr(chosen, name) is not None}
     if not chosen.tls:
         for name in given:
-            raise CalledWrong(f'--{name.replace("_", "-")} says nothing without --tls')
+            raise UsageError(f'--{name.replace("_", "-")} says nothing without --tls')
         return None
     for name in ('cert', 'ca'):
         if name not in given:
-            raise CalledWrong(f'--tls needs --{name} FILE')
+            raise UsageError(f'--tls needs --{name} FILE')
     if not HOST.fullmatch(chosen.server_name or 'x'):
-        raise CalledWrong(f'{in_line(chosen.server_name[:80])} is no name of a server')
+        raise UsageError(f'{in_line(chosen.server_name[:80])} is no name of a server')
     return read(chosen.cert, chosen.key, chosen.ca, chosen.crl, chosen.server_name)
 
 
@@ -101,7 +101,7 @@ def read(cert: str, key: str | None, authority: str, crl: str | None = None,
     context.set_ciphers(CIPHERS)
     subject = subject_in(cert)
     try:
-        context.load_cert_chain(cert, key, lambda: unasked(key or cert))
+        context.load_cert_chain(cert, key, lambda: refuse_passphrase(key or cert))
     except ssl.SSLError as error:
         why = 'its key is not that of the certificate' if error.reason == 'KEY_VALUES_MISMATCH' \
             else 'no key can be read'
@@ -116,7 +116,7 @@ def read(cert: str, key: str | None, authority: str, crl: str | None = None,
     return Tls(context, subject, name)
 
 
-def unasked(path: str) -> str:
+def refuse_passphrase(path: str) -> str:
     raise Failed(f'{path}: its key has a passphrase, which is not asked for')
 
 
@@ -141,10 +141,10 @@ def connected(host: str, port: int, timeout: float, tls: Tls | None = None) -> s
 def server_of(connection: socket.socket) -> str:
     """Whose certificate the server of a connection has, or nothing without TLS."""
     der = connection.getpeercert(True) if isinstance(connection, ssl.SSLSocket) else None
-    return subject_told(subject_of(der)) if der else ''
+    return subject_text(subject_of(der)) if der else ''
 
 
-def failure_told(error: ssl.SSLError) -> str:
+def failure_text(error: ssl.SSLError) -> str:
     """Why a connection of TLS failed."""
     if isinstance(error, ssl.SSLCertVerificationError):
         why = error.verify_message.rstrip('.')
@@ -162,7 +162,7 @@ def refusal_in(connection: socket.socket, error: OSError) -> str:
     except ssl.SSLEOFError:
         pass
     except ssl.SSLError as alert:
-        return failure_told(alert)
+        return failure_text(alert)
     except OSError:
         pass
     return (f'the server ended the connection behind the handshake ({error.strerror or error}): '
@@ -203,7 +203,7 @@ def attribute(octets: bytes) -> tuple[str, str]:
     return ATTRIBUTES.get(name, f'oid.{name.hex()}'), text
 
 
-def subject_told(subject: list[tuple[str, str]]) -> str:
+def subject_text(subject: list[tuple[str, str]]) -> str:
     """A subject in one line, as openssl and stunnel have it: O=Station, CN=operator."""
     return ', '.join(f'{name}={quoted(in_line(value))}' for name, value in subject)
 

@@ -100,7 +100,7 @@ def fits(shape, value) -> bool:
             and len(shape) == len(value.value) and all(map(fits, shape.values(), value.value)))
 
 
-def told(item, value) -> str:
+def value_text(item, value) -> str:
     """A value or a failure in words; `item` is its name without the domain."""
     if isinstance(value, Failure):
         return f'{ACCESS_ERRORS.get(value.code, "error")} ({value.code})'
@@ -113,33 +113,33 @@ def told(item, value) -> str:
 def shaped(words, value, shape) -> str:
     """A value in words, its parts by the names of its shape, where there is one."""
     if value.tag != mms.STRUCTURE:
-        return leaf_told(words, value)
+        return leaf_text(words, value)
     names = list(shape) if shape else [''] * len(value.value)
     parts = [f'{name} {shaped([*words, name], part, shape and shape[name])}'.lstrip()
              for name, part in zip(names, value.value)]
     return '{' + ', '.join(parts) + '}'
 
 
-def leaf_told(words, value) -> str:
+def leaf_text(words, value) -> str:
     """A value without parts, by the last word of its name."""
     word, owner = words[-1] if words else '', words[-2] if len(words) > 1 else ''
     tag, it = value.tag, value.value
     if tag == mms.BITS:
-        return bits_told(word, it)
+        return bits_text(word, it)
     if tag == mms.BOOLEAN:
         return positions.way_of(it) if word == 'ctlVal' else 'TRUE' if it else 'FALSE'
     if tag == mms.TIME:
-        return moment_told(it)
+        return moment_text(it)
     if tag == mms.TEXT:
         return quoted(it)
     if tag == mms.INTEGER and word in ('ctlModel', 'orCat', 'stVal'):
         named = {'ctlModel': CONTROL_MODELS, 'orCat': dict(enumerate(ORIGINATORS)),
                  'stVal': STATES.get(owner, {})}[word].get(it)
         return f'{it} ({named})' if named else str(it)
-    return octets_told(it) if isinstance(it, bytes) else str(it)
+    return octets_text(it) if isinstance(it, bytes) else str(it)
 
 
-def bits_told(word, bits) -> str:
+def bits_text(word, bits) -> str:
     if word == 'Check':
         return CHECKS.get(bits, bits)
     if len(bits) == 2:
@@ -150,17 +150,17 @@ def bits_told(word, bits) -> str:
     return bits
 
 
-def moment_told(moment) -> str:
+def moment_text(moment) -> str:
     """A moment in milliseconds, and as a date where it is one of our days; octets of another length
     as they are."""
     if isinstance(moment, bytes):
-        return octets_told(moment)
+        return octets_text(moment)
     if not moments.is_clock(moment):
         return f'{moment} ms'
-    return moments.stamp_told(moment)
+    return moments.stamp_text(moment)
 
 
-def octets_told(octets) -> str:
+def octets_text(octets) -> str:
     printable = all(0x20 <= octet < 0x7f for octet in octets)
     if printable:
         return quoted(octets.decode('ascii'))
@@ -172,13 +172,13 @@ def quoted(text) -> str:
     return "'" + text.replace("'", "\\'") + "'"
 
 
-def cause_told(code) -> str:
+def cause_text(code) -> str:
     """An AddCause."""
     here = f': {HERE[code]}' if code in HERE else ''
     return f'{ADD_CAUSES.get(code, "cause")} ({code}){here}'
 
 
-def error_told(kind, code) -> str:
+def error_text(kind, code) -> str:
     """The class and the code of a confirmed error, or of a reject."""
     if kind == 'reject':
         return f'rejected: {REJECTS.get(code, "reason {}, {}".format(*code))}'
