@@ -118,8 +118,8 @@ class Network:
     def is_earth(self, name: str) -> bool:
         return self.kind(name) == EARTH
 
-    def asks_for_more(self) -> bool:
-        """Whether a key asks for hazards that count in no other diagram."""
+    def selects_more(self) -> bool:
+        """Whether a key selects hazards that count in no other diagram."""
         return self.live_parts or self.fed_earths or any(
             it.synchro or it.is_coupler for it in self.switches)
 

@@ -283,9 +283,9 @@ def text_of(network: Network, domain: str) -> str:
     if inputs:
         lines += noted('While a disconnector of this bay moves beside a closed path, the programs '
                        f'of other bays must keep it closed: {", ".join(inputs)}.')
-    if network.asks_for_more():
-        lines += noted('The diagram asks for hazards by the keys live_parts, fed_earths, synchro or '
-                       'coupler: no rule covers these. An audit with --diagram judges them.')
+    if network.selects_more():
+        lines += noted('The diagram selects hazards by the keys live_parts, fed_earths, synchro '
+                       'or coupler: no rule covers these. An audit with --diagram judges them.')
     head = ''
     for one in demands_of(network):
         if one.head != head:
