@@ -350,7 +350,7 @@ pub const TRANSFORMER: Texts = Texts {
     faults: &TRANSFORMER_FAULTS,
 };
 
-const ASKED_BAY: &str =
+const KEYED_BAY: &str =
     "bay = { domain = \"B\", vendor = \"V\", model = \"M\", revision = \"1\", scan_max_age_ms = 0 }
 switch = [
  { id = \"QA0\", kind = \"breaker\", control = \"status\" },
@@ -364,7 +364,7 @@ switch = [
 input = [{ name = \"VT_DEAD\" }, { name = \"SYNC\" }]
 ";
 
-const ASKED_DIAGRAM: &str = "check = { live_parts = true, fed_earths = true }
+const KEYED_DIAGRAM: &str = "check = { live_parts = true, fed_earths = true }
 node = [
  { name = \"BB1\", kind = \"busbar\", source = true },
  { name = \"BB2\", kind = \"busbar\", source = true },
@@ -384,8 +384,8 @@ between = [
 ]
 ";
 
-const ASKED_PROGRAM: [&str; 33] = [
-    "PROGRAM asked_bay",
+const KEYED_PROGRAM: [&str; 33] = [
+    "PROGRAM keyed_bay",
     "VAR_EXTERNAL",
     "SYNC : BOOL;",
     "QA1_OPEN : BOOL;",
@@ -420,7 +420,7 @@ const ASKED_PROGRAM: [&str; 33] = [
     "END_PROGRAM",
 ];
 
-const ASKED_FAULTS: [Fault; 4] = [
+const KEYED_FAULTS: [Fault; 4] = [
     // LD QB1_OPEN: disconnectors alone may bridge QA0.
     Fault {
         line: 12,
@@ -448,9 +448,9 @@ const ASKED_FAULTS: [Fault; 4] = [
 ];
 
 /// A bay whose diagram selects further hazards.
-pub const ASKED: Texts = Texts {
-    bay: ASKED_BAY,
-    diagram: ASKED_DIAGRAM,
-    program: &ASKED_PROGRAM,
-    faults: &ASKED_FAULTS,
+pub const KEYED: Texts = Texts {
+    bay: KEYED_BAY,
+    diagram: KEYED_DIAGRAM,
+    program: &KEYED_PROGRAM,
+    faults: &KEYED_FAULTS,
 };

@@ -335,7 +335,7 @@ fn the_diagram_of_a_file(rt: HostRuntime) -> Result<(), Fail> {
 
 // Shows P-151.
 #[test]
-fn keys_that_ask_for_hazards(rt: HostRuntime) -> Result<(), Fail> {
+fn keys_that_request_hazards(rt: HostRuntime) -> Result<(), Fail> {
     let alloc = rt.alloc();
     let bay = read_bay(alloc, BAY)?;
     let without = text_of(alloc)?;
@@ -343,13 +343,16 @@ fn keys_that_ask_for_hazards(rt: HostRuntime) -> Result<(), Fail> {
         "check = {{ live_parts = true, fed_earths = false }}\n{}",
         without.as_str()
     )?;
-    for (text, is_asked) in [(without.as_str(), false), (with.as_str(), true)] {
+    for (text, is_requested) in [(without.as_str(), false), (with.as_str(), true)] {
         let network = match read_diagram(alloc, &bay, text) {
             Ok(network) => network,
             Err(fault) => return Err(Fail::from(fault.kind)),
         };
         let checks = network.checks;
-        assert_eq!(rt; (checks.live_parts, checks.fed_earths), (is_asked, false));
+        assert_eq!(rt;
+            (checks.live_parts, checks.fed_earths),
+            (is_requested, false)
+        );
         for branch in network.branches.as_slice() {
             assert_eq!(rt; (branch.synchro, branch.is_coupler), (None, false));
         }

@@ -1,5 +1,5 @@
 // The releases of bays, judged by the hazards in their diagrams.
-use crate::bays::{ASKED, Fault, LINE, TRANSFORMER, Texts};
+use crate::bays::{Fault, KEYED, LINE, TRANSFORMER, Texts};
 use bay_audit::effort::{EFFORT, PassBudget};
 use bay_audit::program::AuditedProgram;
 use bay_audit::release::find_release;
@@ -158,5 +158,5 @@ fn releases_of_a_transformer_bay(rt: HostRuntime) -> Result<(), Fail> {
 // Shows P-143, P-150, P-152.
 #[test]
 fn releases_of_a_bay_with_keys(rt: HostRuntime) -> Result<(), Fail> {
-    check_bay(&rt, rt.alloc(), ASKED)
+    check_bay(&rt, rt.alloc(), KEYED)
 }

@@ -1,7 +1,7 @@
 // Hazards in words: states of the line bay and of a bay whose diagram selects further hazards, the
 // hazard that an operation is there, and the walks that show it. A person found the words by the
 // definitions.
-use crate::bays::{ASKED, LINE, Texts};
+use crate::bays::{KEYED, LINE, Texts};
 use crate::diagrams::known_of;
 use bay_base::switch::Operation;
 use bay_config::read::read_bay;
@@ -102,7 +102,7 @@ const ROWS: [Row; 9] = [
 ];
 
 // QA0, QA1, QB1, QB2, QB9, QC1, QC9; VT_DEAD, SYNC.
-const ASKED_ROWS: [Row; 16] = [
+const KEYED_ROWS: [Row; 16] = [
     // QA1 joins BB1 and a live line.
     Row {
         switches: "oococoo",
@@ -265,5 +265,5 @@ fn words_of_hazards(rt: HostRuntime) -> Result<(), Fail> {
 // Shows P-143, P-152.
 #[test]
 fn words_of_hazards_with_keys(rt: HostRuntime) -> Result<(), Fail> {
-    check_words(&rt, rt.alloc(), ASKED, &ASKED_ROWS)
+    check_words(&rt, rt.alloc(), KEYED, &KEYED_ROWS)
 }
