@@ -1,5 +1,4 @@
 pub mod DigitLemmas
-pub mod PairLemmas
 pub mod PlacingLemmas
 pub mod PutLemmas
 pub mod RecordLemmas
