@@ -131,7 +131,7 @@ class Trial(unittest.TestCase):
     def test_a_broken_rule_is_shown_by_a_replay(self):
         for verdict, is_so, wrong in ((answers.BROKEN, True, None), (answers.HOLDS, False, None),
                                       (answers.BROKEN, False, 'a broken rule is not shown')):
-            with mock.patch.object(TRIAL, 'shown', return_value=Shown({}, [], is_so)):
+            with mock.patch.object(TRIAL, 'replay_case', return_value=Shown({}, [], is_so)):
                 proof = Proof(1, 'QA1', 0, verdict)
                 self.assertEqual(self.trial.not_shown(self.rule, proof, None), wrong)
 

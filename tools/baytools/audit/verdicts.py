@@ -129,7 +129,7 @@ def broken_lines(audit: Audit, finding: Finding) -> list[str]:
     if finding.broken:
         after = f', {finding.after:,} ms after' if finding.after else ''
         found.append(f'{tried_text(audit, finding)}, first by '
-                     f'{audit.bay.told(finding.first)}{after}')
+                     f'{audit.bay.combination_text(finding.first)}{after}')
     return found + ([DOUBTED] if finding.is_doubted() else [])
 
 
