@@ -1,7 +1,8 @@
 // Serves a device, turn by turn.
-ghost use Rattle.std.specs.Prelude.{◌≡◌};
+ghost use Rattle.std.specs.Prelude.{◌≡◌, ◌⊎◌};
 ghost use Rattle.bay_server.specs.ConnectionLines.{no_lines};
 ghost use Rattle.bay_server.specs.Cycle.{TurnsLast};
+ghost use Rattle.bay_server.specs.Host.{Pauses};
 ghost use Rattle.bay_report.specs.TextLines.{lines_of};
 ghost use Rattle.bay_server.specs.ServeReport.{AwaitsTurn, ReportsAndPolls, ServesTurns, numbered_lines};
 ghost use Rattle.bay_server.specs.Serving.{TriesTurn, with_host};
@@ -141,16 +142,24 @@ fn try_turn<L: Link, H: Host<L>, W: Sink>(
     }
 }
 
+// Pauses if there is nothing to do at once.
+fn pause_if_idle<L, H: Host<L>>(host: &mut H, was_idle: bool)
+    ensures { (host.new ≡ host.old) ⊎ H.does host.old Pauses host.new }
+{
+    if was_idle {
+        host.pause();
+    }
+}
+
 // Waits for the next turn: pauses if there is nothing to do at once, and then waits until the end
 // of the turn, if turns have a least length.
 fn await_turn<L, H: Host<L>>(host: &mut H, was_idle: bool, end: Option<u64>)
     ensures { AwaitsTurn H.does end host.old host.new }
 {
-    if was_idle {
-        host.pause();
-    }
-    if let Some(end) = end {
-        host.wait_until(end);
+    pause_if_idle::<L, H>(host, was_idle);
+    match end {
+        Some(end) => host.wait_until(end),
+        None => {}
     }
 }
 

@@ -271,7 +271,8 @@ fn start_record<'a, F: FileSystem>(
 ) -> Result<(), ServeStartFault<'a>>
     ensures server { server.new ≡ server.old }
     ensures files { is_recorded (options_view options.entry) ≡ false → files.new ≡ files.old }
-    ensures fault { IfErr result (IsRecordFault (is_recorded (options_view options.entry))) }
+    ensures fault { IfErr result
+        (λ why. IsRecordFault (is_recorded (options_view options.entry)) why) }
 {
     let Some(name) = options.record_file else {
         return Ok(());
