@@ -69,7 +69,7 @@ agreed-sized : (p : Proposal)
 agreed-sized p = agreed-by (agreed_size p.size) _ (λ n. refl) (size-is p.size)
 
 agreement-sized : (contexts : List Context) (user : ValueInContext)
-    → OkIs (λ (x : ContextIds × AgreedLimits). IsPduSize x.1.size) (agreement contexts user).answers
+    → OkIs (λ (x : ContextIds × AgreedLimits). IsPduSize x.1.size) (agreement contexts user).result
 unfolding agreement
 agreement-sized contexts user =
     let P : ContextIds × AgreedLimits → Type 0 = λ x. IsPduSize x.1.size in
@@ -98,16 +98,16 @@ HeardOpen aborted phase = Unit {0}
 abbrev IsHeard : TsduMeaning × Phase → Type 0
 IsHeard x = IsSized x.1 × HeardOpen x.0 x.1
 
-connected-sized : (user : List ℕ) → OkIs IsHeard (connection_request user).answers
+connected-sized : (user : List ℕ) → OkIs IsHeard (connection_request user).result
 unfolding connection_request
 connected-sized user =
     bound IsHeard (or_fault fault.BadPresentation (request.reads user)) _ (λ r.
     bound-by (λ (x : ContextIds × AgreedLimits). IsPduSize x.1.size) IsHeard
-    (agreement r.contexts r.user).answers _ (agreement-sized r.contexts r.user)
+    (agreement r.contexts r.user).result _ (agreement-sized r.contexts r.user)
     (λ x is. (is, tt)))
 
 finished-sized : (terms : AssociationTerms) (user : Option (List ℕ))
-    → OkIs IsHeard (release_request terms user).answers
+    → OkIs IsHeard (release_request terms user).result
 unfolding release_request
 finished-sized terms None = (tt, tt)
 finished-sized terms (Some user) =
@@ -116,13 +116,13 @@ finished-sized terms (Some user) =
     bound IsHeard (or_fault fault.BadAcse (release.reads value)) _ (λ ignored. (tt, tt))))
 
 transferred-sized : (terms : AssociationTerms) (user : List ℕ) → IsPduSize terms.size
-    → OkIs IsHeard (data_transfer terms user).answers
+    → OkIs IsHeard (data_transfer terms user).result
 unfolding data_transfer
 transferred-sized terms user is =
     bound IsHeard (or_fault fault.BadPresentation (user_data.reads user)) _ (λ c.
     bound IsHeard (mms_value terms.contexts c) _ (λ pdu. (is, is)))
 
-idle-sized : (s : Spdu) → OkIs IsHeard (idle_meaning s).answers
+idle-sized : (s : Spdu) → OkIs IsHeard (idle_meaning s).result
 idle-sized (connect user) = connected-sized user
 idle-sized accept = tt
 idle-sized (finish user) = tt
@@ -131,7 +131,7 @@ idle-sized abort = (tt, tt)
 idle-sized (transfer user) = tt
 
 open-sized : (terms : AssociationTerms) (s : Spdu) → IsPduSize terms.size
-    → OkIs IsHeard (open_meaning terms s).answers
+    → OkIs IsHeard (open_meaning terms s).result
 open-sized terms (connect user) is = tt
 open-sized terms accept is = tt
 open-sized terms (finish user) is = finished-sized terms user
@@ -143,10 +143,10 @@ hearing-sized : (phase : Phase) (tsdu : List ℕ) → IsSized phase
     → OkIs IsHeard (tsdu_meaning phase tsdu)
 unfolding verdict
 hearing-sized phases.Idle tsdu is =
-    bound IsHeard (or_fault fault.BadSession (spdu_in tsdu)) (λ s. (idle_meaning s).answers)
+    bound IsHeard (or_fault fault.BadSession (spdu_in tsdu)) (λ s. (idle_meaning s).result)
     idle-sized
 hearing-sized (phases.Open terms) tsdu is =
-    bound IsHeard (or_fault fault.BadSession (spdu_in tsdu)) (λ s. (open_meaning terms s).answers)
+    bound IsHeard (or_fault fault.BadSession (spdu_in tsdu)) (λ s. (open_meaning terms s).result)
     (λ s. open-sized terms s is)
 hearing-sized phases.Over tsdu is = tt
 hearing-sized phases.Failed tsdu is = tt
