@@ -161,7 +161,7 @@ module _ (bay : Bay) where
   said-there line ts s (Spells.rule {kind = kind} {named = named} ways {timed = timed} {c = c} a b)
       h =
       let written : RuleLine =
-      record { kind = kind; named = named; ways = ways; timed = timed; when = c } in
+      record { kind = kind; named = named; directions = ways; timed = timed; when = c } in
       by-template (template_of line written) (template-there line written h.1.0)
     where
       by-template : (o : Option Rule) → IfSome o (λ rule. rule.switch < count)

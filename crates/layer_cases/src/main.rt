@@ -30,7 +30,7 @@
 //   octets, `decode_image OCTETS` that of an image. `report LINES` and `image OCTETS` are the
 //   instructions, the depth and the budget of a program and of an image, or the number, the offset
 //   and the message of its fault; the next scans run it. `scan MS INPUTS` is the steps and the
-//   outputs of a scan, with commas between the numbers of the inputs. `count_changed OCTETS` counts
+//   outputs of a scan, with commas between the numbers of the inputs. `changed OCTETS` counts
 //   the results for an image with each octet changed to each other value: an image, or refused with
 //   80, 81, 82 or 83.
 // - `controls`: calls of a bay's controls (the file `controls` has their forms), which `start`
