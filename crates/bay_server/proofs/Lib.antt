@@ -1,6 +1,5 @@
 pub mod ChangeLemmas
 pub mod ClockLemmas
-pub mod CycleLemmas
 pub mod LineCountLemmas
 pub mod LogLemmas
 pub mod ServeLemmas

@@ -86,7 +86,7 @@ const OPEN: &str =
 const CANCEL: &str =
     "0300005f02f0800100010061523050020103a04ba049020105a544a021301fa01da11b1a04424159311a13435357493124434f24506f732443616e63656ca01fa21d8301ffa20785010289024101860200ff9108000000000000002a830100";
 
-const ROWS: [ServedCase; 23] = [
+const ROWS: [ServedCase; 22] = [
     ServedCase {
         trace: "\n9 contact X 1\r\n\n9 contact Q 1\n",
         status: 0,
@@ -177,29 +177,6 @@ fault 114
 | 1970-01-01T00:00:03.000Z association 1 closed 0: its client ended it
 3000 closed 1 0
 | 1970-01-01T00:00:03.000Z all turns are served
-",
-        ..ENDING
-    },
-    // With a cycle, 100 ms and one reading of the clock are between the starts of two turns.
-    ServedCase {
-        words: "serve --log --bay bay --logic logic --port 7 --turns 3 --cycle 100",
-        clients: Some(3),
-        step: 10,
-        status: 0,
-        wanted: "instructions=2 depth=1 budget=2
-| 1970-01-01T00:00:00.010Z clients on 127.0.0.1:7
-| 1970-01-01T00:00:00.010Z bay SHA-256 039109cc180841997e6c30d729870d020103592c027cddd03bd60221d0cb410f
-| 1970-01-01T00:00:00.010Z program SHA-256 191643a54f5dd1f9a729a29e20b4c496ac41c7d182285acc1f461dd8a2d01fee
-| 1970-01-01T00:00:00.020Z association 1 open from 127.0.0.1:40000
-| 1970-01-01T00:00:00.020Z association 1 closed 0: its client ended it
-20 closed 1 0
-| 1970-01-01T00:00:00.130Z association 1 open from 127.0.0.1:40000
-| 1970-01-01T00:00:00.130Z association 1 closed 0: its client ended it
-130 closed 1 0
-| 1970-01-01T00:00:00.240Z association 1 open from 127.0.0.1:40000
-| 1970-01-01T00:00:00.240Z association 1 closed 0: its client ended it
-240 closed 1 0
-| 1970-01-01T00:00:00.240Z all turns are served
 ",
         ..ENDING
     },
