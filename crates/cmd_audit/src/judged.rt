@@ -102,7 +102,7 @@ pub(crate) fn judge_releases(
     budget: &mut PassBudget,
 ) -> Result<Vec<JudgedRelease>, AllocError>
     ensures right { IfOk result (λ releases. AreJudged program.now network.now releases.items) }
-    ensures all { IfOk result (λ releases. map judged_way releases.items ≡ directions.now) }
+    ensures all { IfOk result (λ releases. map judged_way releases.items ≡ ways.now) }
 {
     let mut releases = Vec::new(alloc);
     for way in ways {
