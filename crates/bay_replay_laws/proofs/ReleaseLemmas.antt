@@ -97,8 +97,8 @@ scan-alone e t = simp append-nil
 
 -- the answer of a scan
 abbrev scan_answer : Option Sent → ℕ → Result Step StepFault
-scan_answer with_ends steps = Ok (record {
-  with_ends = with_ends;
+scan_answer ended steps = Ok (record {
+  ended = ended;
   sent = [];
   commands = [];
   decisions = [];
