@@ -231,7 +231,7 @@ moves_of (Polls t s script ∷ us) p =
 pub record Follows (moves : List BufferStep) (c : RemovedLines) (buffer all : List ℕ)
     (lines_read : List (List ℕ))
     : Type 0 where
-  pub keeps : c.buffer ≡ buffer
+  pub keeps : c.kept ≡ buffer
   pub had_is : lines_read ≡ filter has_process_event c.lines
   pub all_is : arrived_octets moves ≡ all
 
@@ -254,7 +254,7 @@ had-told line lines_read lines e = by-told (has_process_event line) refl
 -- what a turn takes, and the uses behind it
 record TakeFollows (c : RemovedLines) (moves : List BufferStep) (us : List Use) (t : PortReading)
     : Type 0 where
-  keeps : c.buffer ≡ (after_uses us t.port).buffer
+  keeps : c.kept ≡ (after_uses us t.port).buffer
   had_is : option_to_list t.line ++ all_lines_read us t.port ≡ filter has_process_event c.lines
   all_is : arrived_octets moves ≡ all_octets_read us t.port
 
@@ -305,7 +305,7 @@ uses-follow (Takes s now jump ∷ us) p here stays =
     (subst (λ (t : PortReading). UseFollows us t.port) is later)) in
     let cut = cut-is r f p.buffer moves refl in
     record {
-      keeps = ap (λ (c : RemovedLines). c.buffer) cut ∙ t.keeps;
+      keeps = ap (λ (c : RemovedLines). c.kept) cut ∙ t.keeps;
       had_is = t.had_is ∙ ap (λ (c : RemovedLines). filter has_process_event c.lines) (sym cut);
       all_is = t.all_is;
     }
@@ -315,7 +315,7 @@ uses-follow (Polls t s script ∷ us) p here stays =
     let later : UseFollows us q = uses-follow us q stays.0 stays.1 in
     let same = attends-keep t s script p here stays.0 in
     record {
-      keeps = ap (λ k. (removed_lines (moves_of us q) k).buffer) (sym same) ∙ later.keeps;
+      keeps = ap (λ k. (removed_lines (moves_of us q) k).kept) (sym same) ∙ later.keeps;
       had_is =
           later.had_is ∙ ap (λ k. filter has_process_event (removed_lines (moves_of us q) k).lines)
           same;
@@ -337,7 +337,7 @@ starts-follow sends settings (Polls t s script ∷ us) stays =
     let same =
     comes-keep sends settings t.now s script.accepted (script.heard, script.again) stays.0 in
     record {
-      keeps = ap (λ k. (removed_lines (moves_of us q) k).buffer) (sym same) ∙ later.keeps;
+      keeps = ap (λ k. (removed_lines (moves_of us q) k).kept) (sym same) ∙ later.keeps;
       had_is =
           later.had_is ∙ ap (λ k. filter has_process_event (removed_lines (moves_of us q) k).lines)
           same;
