@@ -60,21 +60,21 @@ close_value buffer start =
 
 -- the position is the length of the text, if there is one
 abbrev pub IsTextLength : ℕ → Option (List ℕ) → Type 0
-IsTextLength place None = Unit {0}
-IsTextLength place (Some text) = place ≡ length text
+IsTextLength position None = Unit {0}
+IsTextLength position (Some text) = position ≡ length text
 
 -- the position is the end of the text, if there is one
 unfoldable pub IsTextEnd : ℕ → EncoderBuffer → Type 0
-IsTextEnd place buffer = IsTextLength place buffer.text
+IsTextEnd position buffer = IsTextLength position buffer.text
 
 -- the text, if there is one, has two octets at the position
 abbrev pub HasTwoAt : ℕ → Option (List ℕ) → Type 0
-HasTwoAt place None = Unit {0}
-HasTwoAt place (Some text) = place + 2 ≤ length text
+HasTwoAt position None = Unit {0}
+HasTwoAt position (Some text) = position + 2 ≤ length text
 
 -- the text, if there is one, has room at the position for a tag and the placeholder of the length
 unfoldable pub IsOpen : ℕ → EncoderBuffer → Type 0
-IsOpen place buffer = HasTwoAt place buffer.text
+IsOpen position buffer = HasTwoAt position buffer.text
 
 -- the text after the headers, if there is one
 abbrev pub with_headers : List ℕ → Option (List ℕ) → Option (List ℕ)

@@ -15,26 +15,26 @@ use Rattle.bay_connection.specs.Feeding.{and_then}
 
 heard-cut : (s : Stream) (h : TsduMeaning) (terms : Terms) (piece : List ℕ)
     (longer later : ConnectionStep)
-    → longer ≡ and_then later (connection_step later.left piece)
+    → longer ≡ and_then later (connection_step later.state piece)
     → step_on_tsdu (after s piece) h terms longer
     ≡ and_then (step_on_tsdu s h terms later)
-    (connection_step (step_on_tsdu s h terms later).left piece)
+    (connection_step (step_on_tsdu s h terms later).state piece)
 heard-cut s (answer tsdu) terms piece longer later e =
     ap (λ (t : ConnectionStep). let r : ConnectionStep =
-    record { indications = answers (data_tpdus terms.size tsdu) ∷ t.indications; left = t.left } in
+    record { indications = answers (data_tpdus terms.size tsdu) ∷ t.indications; state = t.state } in
     r) e
 heard-cut s (mms pdu) terms piece longer later e =
     ap (λ (t : ConnectionStep). let r : ConnectionStep =
-    record { indications = delivers terms pdu ∷ t.indications; left = t.left } in r) e
+    record { indications = delivers terms pdu ∷ t.indications; state = t.state } in r) e
 heard-cut s (released tsdu) terms piece longer later e = refl
 heard-cut s aborted terms piece longer later e = refl
 
 hearing-cut : (s : Stream) (r : Result (TsduMeaning × Phase) AssocFault) (size : Option ℕ)
     (piece : List ℕ) (longer later : Phase → ConnectionStep)
-    → ((p : Phase) → longer p ≡ and_then (later p) (connection_step (later p).left piece))
+    → ((p : Phase) → longer p ≡ and_then (later p) (connection_step (later p).state piece))
     → step_on_tsdu_result size (after s piece) r longer
     ≡ and_then (step_on_tsdu_result size s r later)
-    (connection_step (step_on_tsdu_result size s r later).left piece)
+    (connection_step (step_on_tsdu_result size s r later).state piece)
 hearing-cut s (Ok x) size piece longer later e =
     heard-cut s x.0 (record { size = size; phase = x.1 }) piece (longer x.1) (later x.1) (e x.1)
 hearing-cut s (Err fault) size piece longer later e = refl
@@ -43,12 +43,12 @@ told-cut : (s : Stream) (ds : List Doing) (size : Option ℕ) (phase : Phase) (p
     → size_agreed s ≡ size_after size ds
     → after_doings (after s piece) (ds ++ doings s piece) size phase
     ≡ and_then (after_doings s ds size phase)
-    (connection_step (after_doings s ds size phase).left piece)
+    (connection_step (after_doings s ds size phase).state piece)
 told-cut s [] size phase piece e =
     ap (λ (z : Option ℕ). after_doings (after s piece) (doings s piece) z phase) (sym e)
 told-cut s (Answers n reply ∷ ds) size phase piece e =
     ap (λ (t : ConnectionStep). let r : ConnectionStep =
-    record { indications = answers reply ∷ t.indications; left = t.left } in r)
+    record { indications = answers reply ∷ t.indications; state = t.state } in r)
     (told-cut s ds (Some n) phase piece e)
 told-cut s (Delivers tsdu ∷ ds) size phase piece e =
     hearing-cut s (tsdu_meaning phase tsdu) size piece
@@ -81,7 +81,7 @@ indications-append t octets piece =
 pub left_by-append : (t : ConnectionState) (octets piece : List ℕ)
     → connection_after t (octets ++ piece) ≡ connection_after (connection_after t octets) piece
 left_by-append t octets piece =
-    ap (λ (r : ConnectionStep). r.left) (comes_to-append t octets piece)
+    ap (λ (r : ConnectionStep). r.state) (comes_to-append t octets piece)
 
 pub indications-take : (t : ConnectionState) (piece : List ℕ) (used : ℕ)
     → indications t piece ≡ indications t (take used piece)

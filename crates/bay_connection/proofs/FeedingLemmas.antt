@@ -52,7 +52,7 @@ agreed-joined (Going connection rest) phase some = tt
 agreed-joined left phase some = absurd (cc)
 
 pub sized-joined : (t : ConnectionState) → IsSome (size_agreed t.stream) → IsJoined t
-sized-joined t some = agreed-joined t.stream.left t.phase some
+sized-joined t some = agreed-joined t.stream.state t.phase some
 
 going-joined : (old new : StreamState) (phase : Phase) → AreJoined old phase → AcceptsOctets old
     → AcceptsOctets new
@@ -63,10 +63,10 @@ going-joined (Going connection rest) new phase joined a b e = absurd b
 going-joined old new phase joined a b e = absurd a
 
 -- what octets that do nothing leave
-pub quiet-joined : (s : Stream) (phase : Phase) (octets : List ℕ) → AreJoined s.left phase
-    → AcceptsOctets s.left → doings s octets ≡ [] → AreJoined (after s octets).left phase
+pub quiet-joined : (s : Stream) (phase : Phase) (octets : List ℕ) → AreJoined s.state phase
+    → AcceptsOctets s.state → doings s octets ≡ [] → AreJoined (after s octets).state phase
 quiet-joined s phase octets joined going quiet =
-    going-joined s.left (after s octets).left phase joined going (quiet-going s octets going quiet)
+    going-joined s.state (after s octets).state phase joined going (quiet-going s octets going quiet)
     (after-size s octets ∙ rw quiet refl)
 
 -- ---- one doing
@@ -100,7 +100,7 @@ pub record FedSo (t : ConnectionState) (piece : List ℕ) (used : ℕ) (heard : 
     : Type 0 where
   pub within : used ≤ length piece
   pub fed : Feeds t piece used heard
-  pub left : new ≡ connection_after t (take used piece)
+  pub state : new ≡ connection_after t (take used piece)
 
 completes-comes : (t : ConnectionState) (piece : List ℕ) (used : ℕ) (i : Indication)
     → CompletesIndication t piece used i → Completes t piece used i
@@ -109,7 +109,7 @@ completes-comes t piece used i h = h
 
 quiet-told : (t : ConnectionState) (octets : List ℕ) → doings t.stream octets ≡ []
     → connection_step t octets ≡ record
-    { indications = []; left = record { stream = after t.stream octets; phase = t.phase } }
+    { indications = []; state = record { stream = after t.stream octets; phase = t.phase } }
 quiet-told t octets e =
     ap (λ (ds : List Doing). after_doings (after t.stream octets) ds (size_agreed t.stream) t.phase)
     e
@@ -124,9 +124,9 @@ going-done : (t : ConnectionState) (piece : List ℕ) (used : ℕ) (d : Doing) (
     → feeding.CompletesDoing t.stream piece used d
     → after_doings (after t.stream (take used piece)) (d ∷ [])
     (size_agreed (after t.stream (take used piece)))
-    t.phase ≡ record { indications = i ∷ []; left = new } → Done t piece used i new
+    t.phase ≡ record { indications = i ∷ []; state = new } → Done t piece used i new
 going-done t piece used d i new c e =
-    let all : connection_step t (take used piece) ≡ record { indications = i ∷ []; left = new } =
+    let all : connection_step t (take used piece) ≡ record { indications = i ∷ []; state = new } =
     one-done t (take used piece) d c.does ∙ e in
     record {
       comes =
@@ -137,21 +137,21 @@ going-done t piece used d i new c e =
                 (quiet-told t (take (used - 1) piece) c.quiet);
             does = ap (λ (r : ConnectionStep). r.indications) all;
           });
-      left = sym (ap (λ (r : ConnectionStep). r.left) all);
+      state = sym (ap (λ (r : ConnectionStep). r.state) all);
     }
 
 abbrev talk_with : ℕ → StreamState → Phase → ConnectionState
 talk_with number left phase =
-    record { stream = record { number = number; left = left }; phase = phase }
+    record { stream = record { number = number; state = left }; phase = phase }
 
 over-done : (number : ℕ) (phase : Phase) (piece : List ℕ) (used : ℕ) (d : Doing) (i : Indication)
     (new : ConnectionState) (s : Stream) → phase ≡ phases.Over → used ≡ 0 → d ≡ Ends
     → s.number ≡ number
-    → after_doings s (d ∷ []) (size_agreed s) phase ≡ record { indications = i ∷ []; left = new }
+    → after_doings s (d ∷ []) (size_agreed s) phase ≡ record { indications = i ∷ []; state = new }
     → (i ≡ ends) × (new ≡ talk_with number Over phase)
 over-done number phase piece used Ends i new s over none is same e =
     let a : ends ∷ [] ≡ i ∷ [] = ap (λ (r : ConnectionStep). r.indications) e in
-    let b : ended_state s ≡ new = ap (λ (r : ConnectionStep). r.left) e in
+    let b : ended_state s ≡ new = ap (λ (r : ConnectionStep). r.state) e in
     let f : i ≡ ends = cc in (
       f,
       sym b ∙ ap (λ (n : ℕ). talk_with n Over phases.Over) same
@@ -161,23 +161,23 @@ over-done number phase piece used d i new s over none is same e = absurd (cc)
 
 fed-some : (number : ℕ) (left : StreamState) (phase : Phase) (piece : List ℕ) (used : ℕ) (d : Doing)
     (heard : Option Indication) (new : ConnectionState) (s : Stream) → AreJoined left phase
-    → feeding.FeedsFrom left (record { number = number; left = left }) piece used (Some d)
-    → s ≡ after (record { number = number; left = left }) (take used piece)
+    → feeding.FeedsFrom left (record { number = number; state = left }) piece used (Some d)
+    → s ≡ after (record { number = number; state = left }) (take used piece)
     → after_doings s (d ∷ []) (size_agreed s) phase
-    ≡ record { indications = option_to_list heard; left = new }
+    ≡ record { indications = option_to_list heard; state = new }
     → FedSo (talk_with number left phase) piece used heard new
 fed-some number left phase piece used d None new s joined fed is e =
     absurd (told-some s d (size_agreed s) phase (ap (λ (r : ConnectionStep). r.indications) e))
 fed-some number (Going connection rest) phase piece used d (Some i) new s joined fed is e =
-    let e' : after_doings (after (record { number = number; left = Going connection rest })
+    let e' : after_doings (after (record { number = number; state = Going connection rest })
     (take used piece)) (d ∷ [])
-    (size_agreed (after (record { number = number; left = Going connection rest })
-    (take used piece))) phase ≡ record { indications = i ∷ []; left = new } =
+    (size_agreed (after (record { number = number; state = Going connection rest })
+    (take used piece))) phase ≡ record { indications = i ∷ []; state = new } =
     ap (λ (x : Stream). after_doings x (d ∷ []) (size_agreed x) phase) (sym is) ∙ e
     in
     let done =
     going-done (talk_with number (Going connection rest) phase) piece used d i new fed e' in
-    record { within = fed.within; fed = done.comes; left = done.left }
+    record { within = fed.within; fed = done.comes; state = done.state }
 fed-some number Over phase piece used d (Some i) new s joined fed is e =
     let end_of_stream : d ≡ Ends = cc in
     let same : s.number ≡ number = ap (λ (x : Stream). x.number) is in
@@ -185,14 +185,14 @@ fed-some number Over phase piece used d (Some i) new s joined fed is e =
     record {
       within = omega (arith, fed.0);
       fed = (fed.0, ap (λ (x : Indication). Some x) over.0);
-      left = over.1;
+      state = over.1;
     }
 fed-some number Broken phase piece used d (Some i) new s joined fed is e = absurd joined
 
 fed-none : (number : ℕ) (left : StreamState) (phase : Phase) (piece : List ℕ) (used : ℕ)
     (heard : Option Indication) (new : ConnectionState) (s : Stream) → AreJoined left phase
-    → feeding.FeedsFrom left (record { number = number; left = left }) piece used None
-    → s ≡ after (record { number = number; left = left }) (take used piece)
+    → feeding.FeedsFrom left (record { number = number; state = left }) piece used None
+    → s ≡ after (record { number = number; state = left }) (take used piece)
     → heard ≡ None → new ≡ record { stream = s; phase = phase }
     → FedSo (talk_with number left phase) piece used heard new
 fed-none number (Going connection rest) phase piece used heard new s joined fed is none same =
@@ -204,7 +204,7 @@ fed-none number (Going connection rest) phase piece used heard new s joined fed 
       fed = (fed.0, ap (λ (r : ConnectionStep). r.indications) (quiet-told t piece fed.1));
       left = same ∙ ap (λ (x : Stream). let u : ConnectionState =
           record { stream = x; phase = phase } in u) is
-          ∙ sym (ap (λ (r : ConnectionStep). r.left) (quiet-told t (take used piece) quiet));
+          ∙ sym (ap (λ (r : ConnectionStep). r.state) (quiet-told t (take used piece) quiet));
     })
 fed-none number Over phase piece used heard new s joined fed is none same =
     absurd (let f : None ≡ Some Ends = fed.1 in cc)
@@ -218,41 +218,41 @@ pub fed-got : (t : ConnectionState) (r : TransportData) (got : Got) (piece : Lis
     new
     → FedSo t piece used heard new
 fed-got t r got.More piece used heard new joined fed is so =
-    fed-none t.stream.number t.stream.left t.phase piece used heard new r.stream joined fed is so.0
+    fed-none t.stream.number t.stream.state t.phase piece used heard new r.stream joined fed is so.0
     so.1
 fed-got t r got piece used heard new joined fed is so =
-    fed-some t.stream.number t.stream.left t.phase piece used _ heard new r.stream joined fed is so
+    fed-some t.stream.number t.stream.state t.phase piece used _ heard new r.stream joined fed is so
 
 -- ---- what is ready
 
 more-ready : (number : ℕ) (left : StreamState) (phase : Phase) (piece : List ℕ) (used : ℕ)
-    → AreJoined left phase → feeding.FeedsFrom left (record { number = number; left = left }) piece
+    → AreJoined left phase → feeding.FeedsFrom left (record { number = number; state = left }) piece
     used None
-    → AreJoined (after (record { number = number; left = left }) (take used piece)).left phase
+    → AreJoined (after (record { number = number; state = left }) (take used piece)).state phase
 more-ready number (Going connection rest) phase piece used joined fed =
-    let s : Stream = record { number = number; left = Going connection rest } in
+    let s : Stream = record { number = number; state = Going connection rest } in
     let all : take used piece ≡ piece = take_all used piece (omega (arith, fed.0)) in
     quiet-joined s phase (take used piece) joined tt (ap (doings s) all ∙ fed.1)
 more-ready number Over phase piece used joined fed = absurd (let f : None ≡ Some Ends = fed.1 in cc)
 more-ready number Broken phase piece used joined fed = absurd joined
 
 answer-ready : (number : ℕ) (left : StreamState) (piece : List ℕ) (used n : ℕ) (reply : List ℕ)
-    → feeding.FeedsFrom left (record { number = number; left = left }) piece used
+    → feeding.FeedsFrom left (record { number = number; state = left }) piece used
     (Some (Answers n reply))
-    → IsSome (size_agreed (after (record { number = number; left = left }) (take used piece)))
+    → IsSome (size_agreed (after (record { number = number; state = left }) (take used piece)))
 answer-ready number (Going connection rest) piece used n reply fed =
-    let s : Stream = record { number = number; left = Going connection rest } in
+    let s : Stream = record { number = number; state = Going connection rest } in
     rw (after-size s (take used piece) ∙ ap (size_after connection.size) fed.does) refl
 answer-ready number Over piece used n reply fed =
     absurd (let f : Some (Answers n reply) ≡ Some Ends = fed.1 in cc)
 answer-ready number Broken piece used n reply fed = absurd fed
 
 tsdu-ready : (number : ℕ) (left : StreamState) (piece : List ℕ) (used : ℕ) (tsdu : List ℕ)
-    → feeding.FeedsFrom left (record { number = number; left = left }) piece used
+    → feeding.FeedsFrom left (record { number = number; state = left }) piece used
     (Some (Delivers tsdu))
-    → IsSome (size_agreed (after (record { number = number; left = left }) (take used piece)))
+    → IsSome (size_agreed (after (record { number = number; state = left }) (take used piece)))
 tsdu-ready number (Going connection rest) piece used tsdu fed =
-    let s : Stream = record { number = number; left = Going connection rest } in
+    let s : Stream = record { number = number; state = Going connection rest } in
     rw (after-size s (take used piece) ∙ ap (size_after connection.size) fed.does)
     (delivers-size s (take used piece) tsdu [] fed.does)
 tsdu-ready number Over piece used tsdu fed =
@@ -265,11 +265,11 @@ pub is-ready : (t : ConnectionState) (r : TransportData) (got : Got) (piece : Li
     → r.stream ≡ after t.stream (take used piece)
     → IsReady got (record { stream = r.stream; phase = t.phase })
 is-ready t r got.More piece used joined fed is =
-    rw is (more-ready t.stream.number t.stream.left t.phase piece used joined fed)
+    rw is (more-ready t.stream.number t.stream.state t.phase piece used joined fed)
 is-ready t r got.Answer piece used joined fed is =
-    rw is (answer-ready t.stream.number t.stream.left piece used _ _ fed)
+    rw is (answer-ready t.stream.number t.stream.state piece used _ _ fed)
 is-ready t r got.Tsdu piece used joined fed is =
-    rw is (tsdu-ready t.stream.number t.stream.left piece used _ fed)
+    rw is (tsdu-ready t.stream.number t.stream.state piece used _ fed)
 is-ready t r got.Ended piece used joined fed is = tt
 
 -- ---- a fault of the transport
@@ -277,7 +277,7 @@ is-ready t r got.Ended piece used joined fed is = tt
 fault-done : (number : ℕ) (left : StreamState) (phase : Phase) (piece : List ℕ)
     (fault : TransportFault)
     (code : ℕ) → AreJoined left phase
-    → doings (record { number = number; left = left }) piece ≡ Fails fault ∷ []
+    → doings (record { number = number; state = left }) piece ≡ Fails fault ∷ []
     → code_of fault ≡ Some code
     → FedSo (talk_with number left phase) piece (length piece) (Some (fails code))
     (talk_with number Over phases.Over)
@@ -298,7 +298,7 @@ fault-done number (Going connection rest) phase piece fault code joined e k =
         ap (λ (r : ConnectionStep). r.indications) c
             ∙ ap (λ (o : Option ℕ). fails (unwrap_or o 0) ∷ []) k,
       );
-      left = sym (ap (λ (r : ConnectionStep). r.left) c);
+      state = sym (ap (λ (r : ConnectionStep). r.state) c);
     }
 fault-done number Over phase piece fault code joined e k = absurd (cc)
 fault-done number Broken phase piece fault code joined e k = absurd joined
@@ -312,7 +312,7 @@ pub fed-fault : (t : ConnectionState) (piece : List ℕ) (fault : TransportFault
     → RefusesPiece t.stream piece fault → code_of fault ≡ Some code
     → FedSo t piece (length piece) (Some (fails code)) (ended_state (broken t.stream))
 fed-fault t piece Failed code joined refused k =
-    absurd (joined-sound t.stream.left t.phase joined refused)
+    absurd (joined-sound t.stream.state t.phase joined refused)
 fed-fault t piece OutOfMemory code joined refused k = absurd (cc)
 fed-fault t piece fault code joined refused k =
-    fault-done t.stream.number t.stream.left t.phase piece fault code joined refused k
+    fault-done t.stream.number t.stream.state t.phase piece fault code joined refused k

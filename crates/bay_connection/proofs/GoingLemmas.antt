@@ -29,12 +29,12 @@ told-none s (Delivers tsdu ∷ ds) size phase e =
 told-none s ds size phase e = absurd (cc)
 
 quiet-left : (s : Stream) (ds : List Doing) (size : Option ℕ) (phase : Phase) → ds ≡ []
-    → (after_doings s ds size phase).left.stream ≡ s
+    → (after_doings s ds size phase).state.stream ≡ s
 quiet-left s ds size phase none = rw none refl
 
-pub nothing-going : (t : ConnectionState) (octets : List ℕ) → AcceptsOctets t.stream.left
+pub nothing-going : (t : ConnectionState) (octets : List ℕ) → AcceptsOctets t.stream.state
     → indications t octets ≡ []
-    → AcceptsOctets (connection_after t octets).stream.left
+    → AcceptsOctets (connection_after t octets).stream.state
 nothing-going t octets going none =
     let quiet : doings t.stream octets ≡ [] =
     told-none (after t.stream octets) (doings t.stream octets) (size_agreed t.stream) t.phase none
@@ -47,8 +47,8 @@ nothing-going t octets going none =
 
 -- What is left is the stream, of which a size is agreed, and so it goes on.
 going-left : (s : Stream) (ds : List Doing) (size : Option ℕ) (phase : Phase)
-    → (after_doings s ds size phase).indications ≡ [] → AcceptsOctets s.left
-    → AcceptsOctets (after_doings s ds size phase).left.stream.left
+    → (after_doings s ds size phase).indications ≡ [] → AcceptsOctets s.state
+    → AcceptsOctets (after_doings s ds size phase).state.stream.state
 going-left s ds size phase none going =
     rw (quiet-left s ds size phase (told-none s ds size phase none)) going
 
@@ -60,8 +60,8 @@ hearing-going : (s : Stream) (r : Result (TsduMeaning × Phase) AssocFault) (siz
     (later : Phase → ConnectionStep) (i : Indication)
     → (step_on_tsdu_result size s r later).indications ≡ i ∷ []
     → IsContinued i → ((p : Phase) → (later p).indications ≡ []
-    → AcceptsOctets (later p).left.stream.left)
-    → AcceptsOctets (step_on_tsdu_result size s r later).left.stream.left
+    → AcceptsOctets (later p).state.stream.state)
+    → AcceptsOctets (step_on_tsdu_result size s r later).state.stream.state
 hearing-going s (Ok (answer tsdu, phase)) size later i e goes rest = rest phase (cc)
 hearing-going s (Ok (mms pdu, phase)) size later i e goes rest = rest phase (cc)
 hearing-going s (Ok (released tsdu, phase)) size later i e goes rest =
@@ -75,21 +75,21 @@ one-going : (s : Stream) (ds : List Doing) (size : Option ℕ) (phase : Phase) (
     → size_agreed s ≡ size_after size ds
     → ((tsdu : List ℕ) (later : List Doing) → ds ≡ Delivers tsdu ∷ later → IsSome size)
     → (after_doings s ds size phase).indications ≡ i ∷ [] → IsContinued i
-    → AcceptsOctets (after_doings s ds size phase).left.stream.left
+    → AcceptsOctets (after_doings s ds size phase).state.stream.state
 one-going s [] size phase i e delivers one goes = absurd (cc)
 one-going s (Answers n reply ∷ ds) size phase i e delivers one goes =
     let none : (after_doings s ds (Some n) phase).indications ≡ [] = cc in
     let quiet : ds ≡ [] = told-none s ds (Some n) phase none in
     let size-is : size_agreed s ≡ Some n = e ∙ ap (size_after (Some n)) quiet in
     let some : IsSome (size_agreed s) = rw size-is refl in
-    going-left s ds (Some n) phase none (agreed-going s.left some)
+    going-left s ds (Some n) phase none (agreed-going s.state some)
 one-going s (Delivers tsdu ∷ ds) size phase i e delivers one goes =
     hearing-going s (tsdu_meaning phase tsdu) size (after_doings s ds size) i one goes
     (λ p none.
     let quiet : ds ≡ [] = told-none s ds size p none in
     let size-is : size_agreed s ≡ size = e ∙ ap (size_after size) quiet in
     let some : IsSome (size_agreed s) = rw size-is (delivers tsdu ds refl) in
-    going-left s ds size p none (agreed-going s.left some))
+    going-left s ds size p none (agreed-going s.state some))
 one-going s (Ends ∷ ds) size phase i e delivers one goes =
     absurd (not-same ends i one goes (λ h. h))
 one-going s (Fails fault ∷ ds) size phase i e delivers one goes =
@@ -97,7 +97,7 @@ one-going s (Fails fault ∷ ds) size phase i e delivers one goes =
 
 pub heard-going : (t : ConnectionState) (octets : List ℕ) (i : Indication)
     → indications t octets ≡ i ∷ []
-    → IsContinued i → AcceptsOctets (connection_after t octets).stream.left
+    → IsContinued i → AcceptsOctets (connection_after t octets).stream.state
 heard-going t octets i one goes =
     one-going (after t.stream octets) (doings t.stream octets) (size_agreed t.stream) t.phase i
     (after-size t.stream octets)

@@ -13,7 +13,7 @@ pub hears-pdu : (s : Stream) (size : Option ℕ) (phase next : Phase) (tsdu pdu 
     → after_doings s (Delivers tsdu ∷ []) size phase
     ≡ record {
       indications = delivers (record { size = size; phase = next }) pdu ∷ [];
-      left = record { stream = s; phase = next };
+      state = record { stream = s; phase = next };
     }
 hears-pdu s size phase next tsdu pdu h = rw h refl
 

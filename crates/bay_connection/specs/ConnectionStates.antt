@@ -41,7 +41,7 @@ pub data Indication : Type 0 where
 -- the indications of octets, and the state after them
 pub record ConnectionStep : Type 0 where
   pub indications : List Indication
-  pub left : ConnectionState
+  pub state : ConnectionState
 
 -- the state of a connection that has ended: later octets have no effect
 abbrev pub ended_state : Stream → ConnectionState
@@ -58,13 +58,13 @@ abbrev pub step_on_tsdu : Stream → TsduMeaning → Terms → ConnectionStep �
 step_on_tsdu s (answer tsdu) terms later =
     record {
       indications = answers (data_tpdus terms.size tsdu) ∷ later.indications;
-      left = later.left;
+      state = later.state;
     }
 step_on_tsdu s (mms pdu) terms later =
-    record { indications = delivers terms pdu ∷ later.indications; left = later.left }
+    record { indications = delivers terms pdu ∷ later.indications; state = later.state }
 step_on_tsdu s (released tsdu) terms later =
-    record { indications = releases (data_tpdus terms.size tsdu) ∷ []; left = ended_state s }
-step_on_tsdu s aborted terms later = record { indications = ends ∷ []; left = ended_state s }
+    record { indications = releases (data_tpdus terms.size tsdu) ∷ []; state = ended_state s }
+step_on_tsdu s aborted terms later = record { indications = ends ∷ []; state = ended_state s }
 
 -- the indication of a TSDU, from its meaning or its fault, followed by the later ones; nothing
 -- follows a fault
@@ -74,23 +74,23 @@ abbrev pub step_on_tsdu_result : Option ℕ → Stream → Result (TsduMeaning �
 step_on_tsdu_result size s (Ok x) later =
     step_on_tsdu s x.0 (record { size = size; phase = x.1 }) (later x.1)
 step_on_tsdu_result size s (Err fault) later =
-    record { indications = fails (unwrap_or (association_code fault) 0) ∷ []; left = ended_state s }
+    record { indications = fails (unwrap_or (association_code fault) 0) ∷ []; state = ended_state s }
 
 -- The indications of doings, and the state after them: from the stream after the doings, and the
 -- size of TPDUs and the phase before them.
 abbrev pub after_doings : Stream → List Doing → Option ℕ → Phase → ConnectionStep
 after_doings s [] size phase =
-    record { indications = []; left = record { stream = s; phase = phase } }
+    record { indications = []; state = record { stream = s; phase = phase } }
 after_doings s (Answers size_agreed reply ∷ later) size phase =
     record {
       indications = answers reply ∷ (after_doings s later (Some size_agreed) phase).indications;
-      left = (after_doings s later (Some size_agreed) phase).left;
+      state = (after_doings s later (Some size_agreed) phase).state;
     }
 after_doings s (Delivers tsdu ∷ later) size phase =
     step_on_tsdu_result size s (tsdu_meaning phase tsdu) (after_doings s later size)
-after_doings s (Ends ∷ later) size phase = record { indications = ends ∷ []; left = ended_state s }
+after_doings s (Ends ∷ later) size phase = record { indications = ends ∷ []; state = ended_state s }
 after_doings s (Fails fault ∷ later) size phase =
-    record { indications = fails (unwrap_or (transport_code fault) 0) ∷ []; left = ended_state s }
+    record { indications = fails (unwrap_or (transport_code fault) 0) ∷ []; state = ended_state s }
 
 -- the indications of octets, and the state after them
 abbrev pub connection_step : ConnectionState → List ℕ → ConnectionStep
@@ -103,7 +103,7 @@ indications t octets = (connection_step t octets).indications
 
 -- the state after octets
 abbrev pub connection_after : ConnectionState → List ℕ → ConnectionState
-connection_after t octets = (connection_step t octets).left
+connection_after t octets = (connection_step t octets).state
 
 -- the octets to send for a PDU of MMS: a TSDU in the context of MMS, in data TPDUs of the agreed
 -- size

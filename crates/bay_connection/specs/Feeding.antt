@@ -4,7 +4,7 @@ use Rattle.bay_transport.specs.Doings.{StreamState, Going, Over, Broken}
 use Rattle.bay_assoc.specs.declared.receive.Phase.{Phase}
 use Rattle.bay_assoc.specs.Receives.{association_terms}
 use Rattle.bay_connection.specs.declared.indication.Indication as code
-use Rattle.bay_connection.specs.declared.indication.Indication.TheVariants as heard
+use Rattle.bay_connection.specs.declared.indication.Indication.TheVariants as variant
 use Rattle.bay_connection.specs.ConnectionStates.{ConnectionState, terms_of, Indication, answers, delivers, releases, ends, fails, ConnectionStep, indications}
 
 -- The consumed octets have this one indication, and the octets before the last of them have none.
@@ -38,7 +38,7 @@ FeedsFrom Broken t piece used answer = ⊥
 
 -- One `feed` of the piece to the connection consumes `used` octets, with this result.
 abbrev pub Feeds : ConnectionState → List ℕ → ℕ → Option Indication → Type 0
-Feeds t piece used answer = FeedsFrom t.stream.left t piece used answer
+Feeds t piece used answer = FeedsFrom t.stream.state t piece used answer
 
 -- The indications of the piece are this one, followed by those of the octets that were not
 -- consumed.
@@ -56,7 +56,7 @@ IsContinued indication = ⊥
 -- two steps, one after the other
 abbrev pub and_then : ConnectionStep → ConnectionStep → ConnectionStep
 and_then first later =
-    record { indications = first.indications ++ later.indications; left = later.left }
+    record { indications = first.indications ++ later.indications; state = later.state }
 
 -- the view of a connection: its state, and the PDU of MMS that was received last
 pub record ConnectionData : Type 0 where
@@ -65,19 +65,19 @@ pub record ConnectionData : Type 0 where
 
 -- A PDU of MMS is returned only if the association is open.
 abbrev pub IsOpenFor : code.Indication → Phase → Type 0
-IsOpenFor heard.Mms phase = IsSome (association_terms phase)
+IsOpenFor variant.Mms phase = IsSome (association_terms phase)
 IsOpenFor h phase = Unit {0}
 
 -- `pdu` is empty unless the result is a PDU of MMS.
 abbrev pub IsEmptyUnlessMms : code.Indication → List ℕ → Type 0
-IsEmptyUnlessMms heard.Mms pdu = Unit {0}
+IsEmptyUnlessMms variant.Mms pdu = Unit {0}
 IsEmptyUnlessMms h pdu = pdu ≡ []
 
 -- the view of the code's indication, from the connection after it
 abbrev pub indication_of : code.Indication → ConnectionData → Option Indication
-indication_of heard.Nothing c = None
-indication_of (heard.Answer octets) c = Some (answers octets.items)
-indication_of heard.Mms c = Some (delivers (terms_of c.state) c.pdu)
-indication_of (heard.Released octets) c = Some (releases octets.items)
-indication_of heard.Ended c = Some ends
-indication_of (heard.Fault code) c = Some (fails code)
+indication_of variant.Nothing c = None
+indication_of (variant.Answer octets) c = Some (answers octets.items)
+indication_of variant.Mms c = Some (delivers (terms_of c.state) c.pdu)
+indication_of (variant.Released octets) c = Some (releases octets.items)
+indication_of variant.Ended c = Some ends
+indication_of (variant.Fault code) c = Some (fails code)

@@ -21,7 +21,7 @@ AreJoined Broken phase = ⊥
 
 -- The stream and the association of a connection fit together.
 abbrev pub IsJoined : ConnectionState → Type 0
-IsJoined t = AreJoined t.stream.left t.phase
+IsJoined t = AreJoined t.stream.state t.phase
 
 -- the state of a stack
 abbrev pub connection_state_of : Stack → ConnectionState
@@ -60,7 +60,7 @@ MayAllocate got.Ended = ⊥
 abbrev pub Indicates : ConnectionState → Doing → Option Indication → ConnectionState → Type 0
 Indicates old doing heard new =
     after_doings old.stream (doing ∷ []) (size_agreed old.stream) old.phase
-    ≡ record { indications = option_to_list heard; left = new }
+    ≡ record { indications = option_to_list heard; state = new }
 
 -- If the transport completed something, its doing has this indication, and the state after it is
 -- `new`; else there is no indication, and nothing changes.

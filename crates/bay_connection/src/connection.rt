@@ -40,7 +40,7 @@ impl Connection {
     pub fn new(alloc: Global, number: u16) -> Connection
         ensures { result ≡ record {
           state = record {
-            stream = record { number = number; left = stream_start };
+            stream = record { number = number; state = stream_start };
             phase = Phase.Idle;
           };
           pdu = [];
@@ -69,16 +69,16 @@ impl Connection {
         // The result is the first indication of the piece, and the new state is the one after the
         // consumed octets.
         ensures fed { IfOk result
-            (λ fed. Feeds self.old.state piece.now fed.used (indication_of fed.heard self.new)) }
+            (λ fed. Feeds self.old.state piece.now fed.used (indication_of fed.indication self.new)) }
         ensures left { IfOk result
             (λ fed. self.new.state ≡ connection_after self.old.state (take fed.used piece.now)) }
         // A PDU is returned only if the association is open, so that it can be answered.
-        ensures open { IfOk result (λ fed. IsOpenFor fed.heard self.new.state.phase) }
-        ensures lent { IfOk result (λ fed. IsEmptyUnlessMms fed.heard self.new.pdu) }
+        ensures open { IfOk result (λ fed. IsOpenFor fed.indication self.new.state.phase) }
+        ensures lent { IfOk result (λ fed. IsEmptyUnlessMms fed.indication self.new.pdu) }
         // An allocation fails only if octets are still accepted and the piece has some, and then
         // the connection ends.
         ensures memory { OnErr result
-            (AcceptsOctets self.old.state.stream.left × (0 < length piece.now)) }
+            (AcceptsOctets self.old.state.stream.state × (0 < length piece.now)) }
         ensures over { OnErr result (self.new.state ≡ ended_state self.old.state.stream) }
     {
         match self.stack.feed(piece) {

@@ -24,5 +24,5 @@ pub struct FeedResult {
     /// The number of octets of the piece that were consumed. The others must be fed again.
     pub used: usize,
     /// What those octets complete.
-    pub heard: Indication,
+    pub indication: Indication,
 }

@@ -35,10 +35,10 @@ pub fn feeding_goes_on()
 /// A connection that accepts octets accepts more after octets that complete nothing, an answer or a
 /// PDU of MMS.
 pub fn connection_goes_on()
-    ensures quiet { (t : ConnectionState) (octets : List ℕ) → AcceptsOctets t.stream.left
+    ensures quiet { (t : ConnectionState) (octets : List ℕ) → AcceptsOctets t.stream.state
         → indications t octets ≡ []
-        → AcceptsOctets (connection_after t octets).stream.left }
+        → AcceptsOctets (connection_after t octets).stream.state }
     ensures heard { (t : ConnectionState) (octets : List ℕ) (indication : Indication)
         → indications t octets ≡ indication ∷ [] → IsContinued indication
-        → AcceptsOctets (connection_after t octets).stream.left }
+        → AcceptsOctets (connection_after t octets).stream.state }
 {}

@@ -54,11 +54,11 @@ impl Stack {
         requires nothing { self.old.pdu ≡ 0 }
         ensures kept { OnOk result (IsConsistent self.new) }
         ensures told { IfOk result
-            (λ heard. Indicates (connection_state_of self.old) (Delivers self.old.transport.shown)
-            (indication_of heard (client_of self.new)) (connection_state_of self.new)) }
+            (λ indication. Indicates (connection_state_of self.old) (Delivers self.old.transport.shown)
+            (indication_of indication (client_of self.new)) (connection_state_of self.new)) }
         ensures number { self.new.transport.stream.number ≡ self.old.transport.stream.number }
-        ensures open { IfOk result (λ heard. IsOpenFor heard self.new.assoc) }
-        ensures lent { IfOk result (λ heard. IsEmptyUnlessMms heard (pdu_of self.new)) }
+        ensures open { IfOk result (λ indication. IsOpenFor indication self.new.assoc) }
+        ensures lent { IfOk result (λ indication. IsEmptyUnlessMms indication (pdu_of self.new)) }
     {
         let tsdu = self.transport.shown();
         match self.assoc.on_tsdu(tsdu) {
@@ -93,27 +93,27 @@ impl Stack {
     // Returns the transport's answer to a request for a connection.
     fn answer(&self) -> Result<Indication, AllocError>
         requires { self.now.pdu ≡ 0 }
-        ensures answer { IfOk result (λ heard. indication_of heard (client_of self.now)
+        ensures answer { IfOk result (λ indication. indication_of indication (client_of self.now)
             ≡ Some (answers self.now.transport.shown)) }
-        ensures lent { IfOk result (λ heard. IsEmptyUnlessMms heard (pdu_of self.now)) }
+        ensures lent { IfOk result (λ indication. IsEmptyUnlessMms indication (pdu_of self.now)) }
     {
         let octets = self.transport.shown().to_vec(self.alloc)?;
         Ok(Indication::Answer(octets))
     }
 
     // Returns the indication of what the transport completed.
-    fn heard(&mut self, got: Got) -> Result<Indication, AllocError>
+    fn indication_for(&mut self, got: Got) -> Result<Indication, AllocError>
         requires ready { IsReady got (connection_state_of self.old) }
         requires nothing { self.old.pdu ≡ 0 }
         ensures kept { OnOk result (IsConsistent self.new) }
         ensures told { IfOk result
-            (λ heard. IndicatesIfSome (connection_state_of self.old)
+            (λ indication. IndicatesIfSome (connection_state_of self.old)
             (doing_of_result got self.old.transport)
-            (indication_of heard (client_of self.new)) (connection_state_of self.new)) }
+            (indication_of indication (client_of self.new)) (connection_state_of self.new)) }
         ensures memory { OnErr result (MayAllocate got) }
         ensures number { self.new.transport.stream.number ≡ self.old.transport.stream.number }
-        ensures open { IfOk result (λ heard. IsOpenFor heard self.new.assoc) }
-        ensures lent { IfOk result (λ heard. IsEmptyUnlessMms heard (pdu_of self.new)) }
+        ensures open { IfOk result (λ indication. IsOpenFor indication self.new.assoc) }
+        ensures lent { IfOk result (λ indication. IsEmptyUnlessMms indication (pdu_of self.new)) }
     {
         match got {
             Got::More => Ok(Indication::Nothing),
@@ -134,23 +134,23 @@ impl Stack {
         ensures within { IfOk result (λ fed. fed.used ≤ length piece.now) }
         ensures fed { IfOk result
             (λ fed. Feeds (connection_state_of self.old) piece.now fed.used
-            (indication_of fed.heard (client_of self.new))) }
+            (indication_of fed.indication (client_of self.new))) }
         ensures left { IfOk result
             (λ fed. connection_state_of self.new
             ≡ connection_after (connection_state_of self.old) (take fed.used piece.now)) }
         ensures memory { OnErr result
-            (AcceptsOctets self.old.transport.stream.left × (0 < length piece.now)) }
+            (AcceptsOctets self.old.transport.stream.state × (0 < length piece.now)) }
         ensures number { self.new.transport.stream.number ≡ self.old.transport.stream.number }
-        ensures open { IfOk result (λ fed. IsOpenFor fed.heard self.new.assoc) }
-        ensures lent { IfOk result (λ fed. IsEmptyUnlessMms fed.heard (pdu_of self.new)) }
+        ensures open { IfOk result (λ fed. IsOpenFor fed.indication self.new.assoc) }
+        ensures lent { IfOk result (λ fed. IsEmptyUnlessMms fed.indication (pdu_of self.new)) }
     {
         self.pdu = 0;
         match self.transport.feed(piece) {
             Ok(fed) => {
-                let heard = self.heard(fed.got)?;
+                let indication = self.indication_for(fed.got)?;
                 Ok(FeedResult {
                     used: fed.used,
-                    heard,
+                    indication,
                 })
             }
             Err(TransportFault::OutOfMemory) => Err(AllocError),
@@ -161,7 +161,7 @@ impl Stack {
                 self.close();
                 Ok(FeedResult {
                     used: piece.len(),
-                    heard: Indication::Fault(code),
+                    indication: Indication::Fault(code),
                 })
             }
         }

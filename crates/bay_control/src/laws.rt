@@ -14,7 +14,7 @@ pub fn operates_are_backed()
 {}
 
 /// A run consists of calls: no call, one call, or the calls of two runs.
-pub fn calls_lead()
+pub fn runs_consist_of_calls()
     ensures none { (is_open : ℕ → Bool) (s : State) → LeadsControls [] is_open s is_open s }
     ensures one { (call : Call) (now : ℕ) (open_before open_after : ℕ → Bool) (s : State)
         → is_orderly_call open_before call ≡ true →

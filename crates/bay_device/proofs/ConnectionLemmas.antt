@@ -30,7 +30,7 @@ sized (x ∷ ts) (suc place) t = ap (λ n. suc n) (sized ts place t)
 
 going : (ts : List (Option ConnectionState)) (place : ℕ) (t : Option ConnectionState)
     → AllAcceptOctets ts
-    → IfSome t (λ u. AcceptsOctets u.stream.left) → AllAcceptOctets (slice_set ts place t)
+    → IfSome t (λ u. AcceptsOctets u.stream.state) → AllAcceptOctets (slice_set ts place t)
 going [] place t all own k u here = absurd (cc)
 going (x ∷ ts) zero t all own zero u here = let is : t ≡ Some u = cc in rw is at own
 going (x ∷ ts) zero t all own (suc k) u here = all (suc k) u here
@@ -39,7 +39,7 @@ going (x ∷ ts) (suc place) t all own (suc k) u here =
     going ts place t (λ j v h. all (suc j) v h) own k u here
 
 pub are-eight : (clients : List (Option ConnectionData)) (place : ℕ) (c : Option ConnectionData)
-    → AreEight (connection_states clients) → IfSome c (λ x. AcceptsOctets x.state.stream.left)
+    → AreEight (connection_states clients) → IfSome c (λ x. AcceptsOctets x.state.stream.state)
     → AreEight (connection_states (slice_set clients place c))
 are-eight clients place None all own =
     rw (talks-set clients place None)
@@ -64,7 +64,7 @@ taken-going (x ∷ ts) (suc place) u all e = taken-going ts place u (λ j v h. a
 -- a connection that is taken from its place can go on
 pub taken : (clients : List (Option ConnectionData)) (place : ℕ) (c : Option ConnectionData)
     → AreEight (connection_states clients) → c ≡ slice_index_or clients place None
-    → IfSome c (λ x. AcceptsOctets x.state.stream.left)
+    → IfSome c (λ x. AcceptsOctets x.state.stream.state)
 taken clients place None all is = tt
 taken clients place (Some x) all is =
     all.going place x.state (taken-going (connection_states clients) place x.state all.going

@@ -70,24 +70,24 @@ left-quiet t octets =
 -- ---- turns
 
 module _ (now a : ℕ) (old : ConnectionState) (rest : List ℕ) (used : ℕ) (new : ConnectionState)
-    (going : AcceptsOctets old.stream.left) (left : new ≡ connection_after old (take used rest))
+    (going : AcceptsOctets old.stream.state) (left : new ≡ connection_after old (take used rest))
   where
     pub used-some : (i : Option Indication) → 0 < length rest → Feeds old rest used i
         → IsContinuedIf i → 0 < used
     used-some None some fed goes = let all =
-        fed-none old.stream.left old rest used going fed in omega (arith, all.0, some)
+        fed-none old.stream.state old rest used going fed in omega (arith, all.0, some)
     used-some (Some i) some fed goes =
-        (comes-some old rest used i goes (fed-some old.stream.left old rest used i going fed)).0
+        (comes-some old rest used i goes (fed-some old.stream.state old rest used i going fed)).0
 
     pub goes-on : (i : Option Indication) → Feeds old rest used i → IsContinuedIf i
-        → AcceptsOctets new.stream.left
+        → AcceptsOctets new.stream.state
     goes-on None fed goes =
-        let all = fed-none old.stream.left old rest used going fed in
+        let all = fed-none old.stream.state old rest used going fed in
         let whole : take used rest ≡ rest = ap (λ n. take n rest) all.0 ∙ take-length rest in
         rw (left, whole) (nothing-going old rest going all.1)
     goes-on (Some i) fed goes =
         let does =
-        (comes-some old rest used i goes (fed-some old.stream.left old rest used i going fed)).1
+        (comes-some old rest used i goes (fed-some old.stream.state old rest used i going fed)).1
         in
         rw left (heard-going old (take used rest) i does goes)
 
@@ -95,7 +95,7 @@ module _ (now a : ℕ) (old : ConnectionState) (rest : List ℕ) (used : ℕ) (n
         → ((later : StepState → ReceiveResult) → on_indication_if now a i d later ≡ later e)
         → AdvancesTo now a old rest d new (drop used rest) e
     moves-heard None d e fed done =
-        let all = fed-none old.stream.left old rest used going fed in
+        let all = fed-none old.stream.state old rest used going fed in
         let whole : take used rest ≡ rest = ap (λ n. take n rest) all.0 ∙ take-length rest in
         let none : drop used rest ≡ [] =
         ap (λ n. drop n rest) all.0 ∙ drop_of_length-le rest (omega arith) in
@@ -111,7 +111,7 @@ module _ (now a : ℕ) (old : ConnectionState) (rest : List ℕ) (used : ℕ) (n
     moves-heard (Some i) d e fed done =
         let comes =
         feeding-indications old new rest used i left
-        (fed-some old.stream.left old rest used i going fed) in
+        (fed-some old.stream.state old rest used i going fed) in
         record {
           goes = λ later. (
             next later,
@@ -136,7 +136,7 @@ module _ (now a : ℕ) (old : ConnectionState) (rest : List ℕ) (used : ℕ) (n
     stops-heard (Some i) d e why fed done =
         let comes =
         feeding-indications old new rest used i left
-        (fed-some old.stream.left old rest used i going fed) in
+        (fed-some old.stream.state old rest used i going fed) in
         record {
           choice = None;
           is = ap (λ is. after_indications None now a is d) comes

@@ -18,7 +18,7 @@ connection_states clients = map state_without_pdu clients
 abbrev pub AllAcceptOctets : List (Option ConnectionState) → Type 0
 AllAcceptOctets connections =
     (slot : ℕ) (t : ConnectionState) → slice_get connections slot ≡ Some (Some t)
-    → AcceptsOctets t.stream.left
+    → AcceptsOctets t.stream.state
 
 -- There are eight slots.
 pub record AreEight (connections : List (Option ConnectionState)) : Type 0 where

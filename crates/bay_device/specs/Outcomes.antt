@@ -115,7 +115,7 @@ with_connection (Some slot) connection s =
 
 -- the state of a connection before its first octet
 abbrev pub initial_connection : ℕ → ConnectionState
-initial_connection a = record { stream = record { number = a; left = stream_start }; phase = Idle }
+initial_connection a = record { stream = record { number = a; state = stream_start }; phase = Idle }
 
 -- the pending reports without those to a closed association
 abbrev pub pending_without : ℕ → Option PendingTermination → Option PendingTermination

@@ -94,7 +94,7 @@ impl Connections {
         requires { slot < associations }
         ensures value { state_without_pdu result ≡ unwrap_or (slice_get self.old slot) None }
         ensures rest { self.new ≡ slice_set self.old slot None }
-        ensures going { IfSome result (λ c. AcceptsOctets c.state.stream.left) }
+        ensures going { IfSome result (λ c. AcceptsOctets c.state.stream.state) }
     {
         take_at(&mut self.slots, slot)
     }
@@ -102,7 +102,7 @@ impl Connections {
     /// Puts a connection, or none, into a slot.
     pub fn put(&mut self, slot: usize, connection: Option<Connection>)
         requires within { slot < associations }
-        requires going { IfSome connection (λ c. AcceptsOctets c.state.stream.left) }
+        requires going { IfSome connection (λ c. AcceptsOctets c.state.stream.state) }
         ensures { self.new ≡ slice_set self.old slot (state_without_pdu connection) }
     {
         put_at(&mut self.slots, slot, connection);

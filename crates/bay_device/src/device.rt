@@ -170,7 +170,7 @@ impl Device {
     // Puts the connection of an association back, or closes the association.
     fn finish(&mut self, association: u16, slot: usize, connection: Connection, why: Option<Why>)
         requires here { spec.slot_of association ≡ Some slot }
-        requires going { why ≡ None → AcceptsOctets connection.state.stream.left }
+        requires going { why ≡ None → AcceptsOctets connection.state.stream.state }
         ensures { self.new ≡ recv_after association connection.state self.old why }
     {
         match why {

@@ -47,30 +47,30 @@ fn handle_indication(
     association: u16,
     state: &mut DeviceState,
     connection: &Connection,
-    heard: Indication,
+    indication: Indication,
     effects: &mut EventEffects,
 ) -> Result<(), Why>
-    requires { IsOpenFor heard connection.now.state.phase }
+    requires { IsOpenFor indication connection.now.state.phase }
     ensures ok { OnOk result
         ((connections : List (Option ConnectionState)) (later : StepState → ReceiveData)
-        → on_indication_if now association (indication_of heard connection.now)
+        → on_indication_if now association (indication_of indication connection.now)
         (step_state (state_view connections state.old) effects.old) later
         ≡ later (step_state (state_view connections state.new) effects.new)) }
-    ensures goes { OnOk result (IsContinuedIf (indication_of heard connection.now)) }
+    ensures goes { OnOk result (IsContinuedIf (indication_of indication connection.now)) }
     ensures memory { IfErr result
         (λ why. why ≡ Memory → (connections : List (Option ConnectionState))
         → step_state (state_view connections state.new) effects.new
         ≡ step_state (state_view connections state.old) effects.old) }
     ensures stops { IfErr result (λ why. why ≢ Memory
         → (connections : List (Option ConnectionState)) (later : StepState → ReceiveData)
-        → on_indication_if now association (indication_of heard connection.now)
+        → on_indication_if now association (indication_of indication connection.now)
         (step_state (state_view connections state.old) effects.old) later
         ≡ record {
           done = step_state (state_view connections state.new) effects.new;
           why = Some why;
         }) }
 {
-    match heard {
+    match indication {
         Indication::Nothing => Ok(()),
         Indication::Answer(octets) => {
             send(association, octets, effects)?;
@@ -101,13 +101,13 @@ fn feed_once(
     rest: &[u8],
     effects: &mut EventEffects,
 ) -> Result<usize, Why>
-    requires going { AcceptsOctets connection.old.state.stream.left }
+    requires going { AcceptsOctets connection.old.state.stream.state }
     requires some { 0 < length rest.now }
     ensures within { IfOk result (λ used. used ≤ length rest.now) }
     ensures moves { IfOk result (λ used. 0 < used) }
     ensures left { IfOk result
         (λ used. connection.new.state ≡ connection_after connection.old.state (take used rest.now)) }
-    ensures going { OnOk result (AcceptsOctets connection.new.state.stream.left) }
+    ensures going { OnOk result (AcceptsOctets connection.new.state.stream.state) }
     ensures ok { IfOk result (λ used. (connections : List (Option ConnectionState))
         → AdvancesTo now association connection.old.state rest.now
         (step_state (state_view connections state.old) effects.old) connection.new.state
@@ -124,7 +124,7 @@ fn feed_once(
         association,
         state,
         connection,
-        fed.heard,
+        fed.indication,
         effects,
     )?;
     Ok(fed.used)
@@ -141,11 +141,11 @@ pub fn handle_octets(
     octets: &[u8],
     effects: &mut EventEffects,
 ) -> Result<(), Why>
-    requires going { AcceptsOctets connection.old.state.stream.left }
+    requires going { AcceptsOctets connection.old.state.stream.state }
     requires some { 0 < length octets.now }
     ensures left { OnOk result
         (connection.new.state ≡ connection_after connection.old.state octets.now) }
-    ensures going { OnOk result (AcceptsOctets connection.new.state.stream.left) }
+    ensures going { OnOk result (AcceptsOctets connection.new.state.stream.state) }
     ensures ok { OnOk result ((connections : List (Option ConnectionState))
         → ResultsIn now association connection.old.state octets.now
         (step_state (state_view connections state.old) effects.old) None

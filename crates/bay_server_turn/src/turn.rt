@@ -82,8 +82,8 @@ fn scan<L: Link>(server: &mut Server, notes: &mut TurnBuilder, link: &mut L, now
 /// After each of these it closes each association to whose queue a reply did not fit (130). The
 /// record copies the words of an event of the process from `source_line`.
 ///
-/// Returns the fault of `given` loss_event, then `MomentTooLarge` for a time that no time stamp can
-/// hold. Then nothing has changed.
+/// The error is the fault of `given`, if it has one, or else `MomentTooLarge`, if no time stamp can
+/// hold the moment. If there is an error, nothing has changed.
 pub fn serve_event<L: Link>(
     server: &mut Server,
     link: &mut L,

@@ -210,7 +210,7 @@ refuses-frame old frame piece used fault rest whole effect =
     let n : frame_prefix (rest_of old ++ take used piece)
     ≡ Whole (length (rest_of old ++ take used piece)) = rw (← rest) whole in
     let r : run_of old.number (stream_state_of old) (take used piece)
-    ≡ record { doings = Fails fault ∷ []; left = Broken } =
+    ≡ record { doings = Fails fault ∷ []; state = Broken } =
     run-whole old.number (connection_of old) (rest_of old) (take used piece) n
     ∙ ap (λ (ys : List ℕ). single_frame_run (effect_of old.number (connection_of old) ys)
     (connection_of old)) (sym rest)
@@ -285,12 +285,12 @@ take-add at more xs =
 
 -- octets that came to nothing, and what comes next
 pub run-quiet : (number : ℕ) (old middle : StreamState) (front octets : List ℕ)
-    → run_of number old front ≡ record { doings = []; left = middle }
+    → run_of number old front ≡ record { doings = []; state = middle }
     → run_of number old (front ++ octets) ≡ run_of number middle octets
 run-quiet number old middle front octets quiet = run-append number old front octets ∙ rw quiet refl
 
 pub nothing-yet : (a : Assembly) → frame_prefix (rest_of a) ≡ Begun
-    → run_of a.number (stream_state_of a) [] ≡ record { doings = []; left = stream_state_of a }
+    → run_of a.number (stream_state_of a) [] ≡ record { doings = []; state = stream_state_of a }
 nothing-yet a begun =
     run-begun a.number (connection_of a) (rest_of a) [] (rw (append-nil (rest_of a)) begun)
     ∙ rw (append-nil (rest_of a)) refl
@@ -298,10 +298,10 @@ nothing-yet a begun =
 pub quiet-more : (old middle new : Assembly) (piece : List ℕ) (at used : ℕ)
     → middle.number ≡ old.number
     → run_of old.number (stream_state_of old) (take at piece)
-    ≡ record { doings = []; left = stream_state_of middle }
+    ≡ record { doings = []; state = stream_state_of middle }
     → StepConsumes middle (drop at piece) used More new
     → run_of old.number (stream_state_of old) (take (at + used) piece)
-    ≡ record { doings = []; left = stream_state_of new }
+    ≡ record { doings = []; state = stream_state_of new }
 quiet-more old middle new piece at used number quiet t =
     rw (take-add at used piece)
     (run-quiet old.number (stream_state_of old) (stream_state_of middle) (take at piece)
@@ -312,7 +312,7 @@ quiet-more old middle new piece at used number quiet t =
 pub reaches-kind : (old middle new : Assembly) (piece : List ℕ) (at used : ℕ) (kind : Got)
     → at < length piece → middle.number ≡ old.number
     → run_of old.number (stream_state_of old) (take at piece)
-    ≡ record { doings = []; left = stream_state_of middle }
+    ≡ record { doings = []; state = stream_state_of middle }
     → StepConsumes middle (drop at piece) used kind new → (kind ≡ More → ⊥)
     → AdvanceConsumes old piece (at + used) kind new
 reaches-kind old middle new piece at used kind within number quiet t done =
@@ -342,7 +342,7 @@ reaches-kind old middle new piece at used kind within number quiet t done =
 
 pub reaches-end : (old new : Assembly) (piece : List ℕ) (at : ℕ) → at ≤ length piece
     → length piece ≤ at → run_of old.number (stream_state_of old) (take at piece)
-    ≡ record { doings = []; left = stream_state_of new } → AdvanceConsumes old piece at More new
+    ≡ record { doings = []; state = stream_state_of new } → AdvanceConsumes old piece at More new
 reaches-end old new piece at within all quiet =
     record {
       within = within;
@@ -355,7 +355,7 @@ reaches-end old new piece at within all quiet =
 pub refuses-later : (old middle : Assembly) (piece : List ℕ) (at : ℕ) (fault : TransportFault)
     → middle.number ≡ old.number
     → run_of old.number (stream_state_of old) (take at piece)
-    ≡ record { doings = []; left = stream_state_of middle }
+    ≡ record { doings = []; state = stream_state_of middle }
     → FaultImplies fault ((run_of middle.number (stream_state_of middle) (drop at piece)).doings
     ≡ Fails fault ∷ []) → FaultImplies fault
     ((run_of old.number (stream_state_of old) piece).doings ≡ Fails fault ∷ [])

@@ -53,14 +53,14 @@ run-append number Broken octets more = refl
 pub run-begun : (number : ℕ) (connection : TransportConnection) (rest octets : List ℕ)
     → frame_prefix (rest ++ octets) ≡ Begun
     → run_of number (Going connection rest) octets
-    ≡ record { doings = []; left = Going connection (rest ++ octets) }
+    ≡ record { doings = []; state = Going connection (rest ++ octets) }
 run-begun number connection rest octets e =
     rw (cut-rest Begun (rest ++ octets) e (λ k h. cc), e) refl
 
 pub run-none : (number : ℕ) (connection : TransportConnection) (rest octets more : List ℕ)
     → frame_prefix (rest ++ octets) ≡ NoFrame
     → run_of number (Going connection rest) (octets ++ more)
-    ≡ record { doings = Fails BadTpkt ∷ []; left = Broken }
+    ≡ record { doings = Fails BadTpkt ∷ []; state = Broken }
 run-none number connection rest octets more e =
     let n : frame_prefix ((rest ++ octets) ++ more) ≡ NoFrame =
     none-append (rest ++ octets) more e in
@@ -105,20 +105,20 @@ pub run-front : (number : ℕ) (left : StreamState) (octets more : List ℕ)
     → (run_of number left (octets ++ more)).doings ≡ [] → (run_of number left octets).doings ≡ []
 run-front number left octets more e =
     nil-front (run_of number left octets).doings
-    (run_of number (run_of number left octets).left more).doings
+    (run_of number (run_of number left octets).state more).doings
     (rw (run-append number left octets more) at e)
 
 -- ---- streams
 
 pub doings-append : (s : Stream) (octets more : List ℕ)
     → doings s (octets ++ more) ≡ doings s octets ++ doings (after s octets) more
-doings-append s octets more = ap (λ (r : Run). r.doings) (run-append s.number s.left octets more)
+doings-append s octets more = ap (λ (r : Run). r.doings) (run-append s.number s.state octets more)
 
 pub after-append : (s : Stream) (octets more : List ℕ)
     → after s (octets ++ more) ≡ after (after s octets) more
 after-append s octets more =
-    ap (λ (r : Run). let t : Stream = record { number = s.number; left = r.left } in t)
-    (run-append s.number s.left octets more)
+    ap (λ (r : Run). let t : Stream = record { number = s.number; state = r.state } in t)
+    (run-append s.number s.state octets more)
 
 pub doings-take : (s : Stream) (octets : List ℕ) (used : ℕ)
     → doings s octets ≡ doings s (take used octets)

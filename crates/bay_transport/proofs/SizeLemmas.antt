@@ -52,15 +52,15 @@ tpdu-sized number connection tpdu h = absurd h
 -- ---- the size that is left
 
 rest-size : (front : FramePrefix) (connection : TransportConnection) (rest : List ℕ)
-    → agreed_from (run_of_rest front connection rest).left
+    → agreed_from (run_of_rest front connection rest).state
     ≡ size_after connection.size (run_of_rest front connection rest).doings
 rest-size Begun connection rest = refl
 rest-size NoFrame connection rest = refl
 rest-size (Whole frame) connection rest = refl
 
 effect-size : (effect : TpduEffect) (connection : TransportConnection) (later : Run)
-    → agreed_from later.left ≡ size_after (connection_after effect connection).size later.doings
-    → agreed_from (run_with_effect effect later).left
+    → agreed_from later.state ≡ size_after (connection_after effect connection).size later.doings
+    → agreed_from (run_with_effect effect later).state
     ≡ size_after connection.size (run_with_effect effect later).doings
 effect-size (Joins group) connection later same = same
 effect-size (Finishes group) connection later same = same
@@ -69,7 +69,7 @@ effect-size Closes connection later same = refl
 effect-size (Refuses fault) connection later same = refl
 
 frames-size : (number : ℕ) (connection : TransportConnection) (frames : List (List ℕ))
-    (rest : List ℕ) → agreed_from (frames_run number connection frames rest).left
+    (rest : List ℕ) → agreed_from (frames_run number connection frames rest).state
     ≡ size_after connection.size (frames_run number connection frames rest).doings
 frames-size number connection [] rest = rest-size (frame_prefix rest) connection rest
 frames-size number connection (frame ∷ frames) rest =
@@ -79,7 +79,7 @@ frames-size number connection (frame ∷ frames) rest =
     frames rest)
 
 left-size : (number : ℕ) (left : StreamState) (octets : List ℕ)
-    → agreed_from (run_of number left octets).left
+    → agreed_from (run_of number left octets).state
     ≡ size_after (agreed_from left) (run_of number left octets).doings
 left-size number (Going connection rest) octets =
     frames-size number connection (cut_of (rest ++ octets)).frames (cut_of (rest ++ octets)).rest
@@ -88,7 +88,7 @@ left-size number Broken octets = refl
 
 pub after-size : (s : Stream) (octets : List ℕ)
     → size_agreed (after s octets) ≡ size_after (size_agreed s) (doings s octets)
-after-size s octets = left-size s.number s.left octets
+after-size s octets = left-size s.number s.state octets
 
 -- ---- a TSDU
 
@@ -133,7 +133,7 @@ left-sized number Over octets = tt
 left-sized number Broken octets = tt
 
 pub doings-sized : (s : Stream) (octets : List ℕ) → AreSized (size_agreed s) (doings s octets)
-doings-sized s octets = left-sized s.number s.left octets
+doings-sized s octets = left-sized s.number s.state octets
 
 pub delivers-size : (s : Stream) (octets tsdu : List ℕ) (later : List Doing)
     → doings s octets ≡ Delivers tsdu ∷ later → IsSome (size_agreed s)
@@ -146,20 +146,20 @@ delivers-size s octets tsdu later e =
 
 rest-going : (front : FramePrefix) (connection : TransportConnection) (rest : List ℕ)
     → (run_of_rest front connection rest).doings ≡ []
-    → AcceptsOctets (run_of_rest front connection rest).left
+    → AcceptsOctets (run_of_rest front connection rest).state
 rest-going Begun connection rest e = tt
 rest-going NoFrame connection rest e = cc
 rest-going (Whole frame) connection rest e = tt
 
 effect-going : (effect : TpduEffect) (later : Run) → (run_with_effect effect later).doings ≡ []
-    → (later.doings ≡ [] → AcceptsOctets later.left)
-    → AcceptsOctets (run_with_effect effect later).left
+    → (later.doings ≡ [] → AcceptsOctets later.state)
+    → AcceptsOctets (run_with_effect effect later).state
 effect-going (Joins group) later e going = going e
 effect-going effect later e going = cc
 
 frames-going : (number : ℕ) (connection : TransportConnection) (frames : List (List ℕ))
     (rest : List ℕ) → (frames_run number connection frames rest).doings ≡ []
-    → AcceptsOctets (frames_run number connection frames rest).left
+    → AcceptsOctets (frames_run number connection frames rest).state
 frames-going number connection [] rest e = rest-going (frame_prefix rest) connection rest e
 frames-going number connection (frame ∷ frames) rest e =
     let next = connection_after (effect_of number connection frame) connection in
@@ -167,12 +167,12 @@ frames-going number connection (frame ∷ frames) rest e =
     (frames-going number next frames rest)
 
 left-going : (number : ℕ) (left : StreamState) (octets : List ℕ) → AcceptsOctets left
-    → (run_of number left octets).doings ≡ [] → AcceptsOctets (run_of number left octets).left
+    → (run_of number left octets).doings ≡ [] → AcceptsOctets (run_of number left octets).state
 left-going number (Going connection rest) octets going e =
     frames-going number connection (cut_of (rest ++ octets)).frames (cut_of (rest ++ octets)).rest e
 left-going number Over octets going e = absurd going
 left-going number Broken octets going e = absurd going
 
-pub quiet-going : (s : Stream) (octets : List ℕ) → AcceptsOctets s.left → doings s octets ≡ []
-    → AcceptsOctets (after s octets).left
-quiet-going s octets going e = left-going s.number s.left octets going e
+pub quiet-going : (s : Stream) (octets : List ℕ) → AcceptsOctets s.state → doings s octets ≡ []
+    → AcceptsOctets (after s octets).state
+quiet-going s octets going e = left-going s.number s.state octets going e

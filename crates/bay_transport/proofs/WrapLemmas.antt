@@ -136,7 +136,7 @@ pub run-data_frames : (number size room full : ℕ) (group octets : List ℕ)
     (data_frames room full octets)
     ≡ record {
       doings = Delivers (group ++ octets) ∷ [];
-      left = Going (record { size = Some size; group = [] }) [];
+      state = Going (record { size = Some size; group = [] }) [];
     }
 run-data_frames number size room zero group octets few =
     ap (run_of number (Going (record { size = Some size; group = group }) []))

@@ -74,7 +74,7 @@ state_for_result Ended left = Over
 -- the doings of a result of this kind, and the state that the assembly represents
 abbrev pub run_of_result : Got → Assembly → Run
 run_of_result kind a =
-    record { doings = doings_of_result kind a; left = state_for_result kind (stream_state_of a) }
+    record { doings = doings_of_result kind a; state = state_for_result kind (stream_state_of a) }
 
 -- If nothing is completed, what was completed last stays.
 abbrev pub KeepsShown : Got → List ℕ → List ℕ → Type 0

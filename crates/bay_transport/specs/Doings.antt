@@ -35,7 +35,7 @@ pub data StreamState : Type 0 where
 -- the doings of octets, in order, and the state after them
 pub record Run : Type 0 where
   pub doings : List Doing
-  pub left : StreamState
+  pub state : StreamState
 
 -- the effect of one TPDU: its data join the group, or complete it; a size is agreed, and the
 -- request answered; the connection ends; or the TPDU is refused
@@ -107,17 +107,17 @@ connection_after (Refuses fault) connection = connection
 abbrev pub run_with_effect : TpduEffect → Run → Run
 run_with_effect (Joins group) later = later
 run_with_effect (Finishes group) later =
-    record { doings = Delivers group ∷ later.doings; left = later.left }
+    record { doings = Delivers group ∷ later.doings; state = later.state }
 run_with_effect (Agrees size reply) later =
-    record { doings = Answers size reply ∷ later.doings; left = later.left }
-run_with_effect Closes later = record { doings = Ends ∷ []; left = Over }
-run_with_effect (Refuses fault) later = record { doings = Fails fault ∷ []; left = Broken }
+    record { doings = Answers size reply ∷ later.doings; state = later.state }
+run_with_effect Closes later = record { doings = Ends ∷ []; state = Over }
+run_with_effect (Refuses fault) later = record { doings = Fails fault ∷ []; state = Broken }
 
 -- the run of the rest after the last complete frame, by what it begins with
 abbrev pub run_of_rest : FramePrefix → TransportConnection → List ℕ → Run
-run_of_rest Begun connection rest = record { doings = []; left = Going connection rest }
-run_of_rest NoFrame connection rest = record { doings = Fails BadTpkt ∷ []; left = Broken }
-run_of_rest (Whole frame) connection rest = record { doings = []; left = Going connection rest }
+run_of_rest Begun connection rest = record { doings = []; state = Going connection rest }
+run_of_rest NoFrame connection rest = record { doings = Fails BadTpkt ∷ []; state = Broken }
+run_of_rest (Whole frame) connection rest = record { doings = []; state = Going connection rest }
 
 -- the run of complete frames and a rest: the rest is refused as soon as it can't begin a frame
 abbrev pub frames_run : ℕ → TransportConnection → List (List ℕ) → List ℕ → Run
@@ -132,27 +132,27 @@ frames_run number connection (frame ∷ frames) rest =
 abbrev pub run_of : ℕ → StreamState → List ℕ → Run
 run_of number (Going connection rest) octets =
     frames_run number connection (cut_of (rest ++ octets)).frames (cut_of (rest ++ octets)).rest
-run_of number Over octets = record { doings = []; left = Over }
-run_of number Broken octets = record { doings = []; left = Broken }
+run_of number Over octets = record { doings = []; state = Over }
+run_of number Broken octets = record { doings = []; state = Broken }
 
 -- the run of one frame with this effect, and no more octets
 abbrev pub single_frame_run : TpduEffect → TransportConnection → Run
 single_frame_run effect connection =
     run_with_effect effect (record
-    { doings = []; left = Going (connection_after effect connection) [] })
+    { doings = []; state = Going (connection_after effect connection) [] })
 
 -- a run, followed by the run of more octets from its state
 abbrev pub and_then : ℕ → Run → List ℕ → Run
 and_then number first octets =
     record {
-      doings = first.doings ++ (run_of number first.left octets).doings;
-      left = (run_of number first.left octets).left;
+      doings = first.doings ++ (run_of number first.state octets).doings;
+      state = (run_of number first.state octets).state;
     }
 
 -- a stream on the association of this number, after some octets
 pub record Stream : Type 0 where
   pub number : ℕ
-  pub left : StreamState
+  pub state : StreamState
 
 -- the state before any octet
 abbrev pub stream_start : StreamState
@@ -160,8 +160,8 @@ stream_start = Going (record { size = None; group = [] }) []
 
 -- the doings of octets, from the state of a stream
 abbrev pub doings : Stream → List ℕ → List Doing
-doings s octets = (run_of s.number s.left octets).doings
+doings s octets = (run_of s.number s.state octets).doings
 
 -- the stream after octets
 abbrev pub after : Stream → List ℕ → Stream
-after s octets = record { number = s.number; left = (run_of s.number s.left octets).left }
+after s octets = record { number = s.number; state = (run_of s.number s.state octets).state }

@@ -29,7 +29,7 @@ FeedsFrom Broken s piece used answer = ⊥
 
 -- One `feed` of the piece to the stream consumes `used` octets, with this result.
 abbrev pub Feeds : Stream → List ℕ → ℕ → Option Doing → Type 0
-Feeds s piece used answer = FeedsFrom s.left s piece used answer
+Feeds s piece used answer = FeedsFrom s.state s piece used answer
 
 -- The doings of a piece are this one, followed by those of the octets that were not consumed.
 abbrev pub DoingThenRest : Stream → Stream → List ℕ → ℕ → Doing → Type 0
@@ -49,8 +49,8 @@ RefusesPiece s piece BadTpkt = doings s piece ≡ Fails BadTpkt ∷ []
 RefusesPiece s piece BadCotp = doings s piece ≡ Fails BadCotp ∷ []
 RefusesPiece s piece ClassRefused = doings s piece ≡ Fails ClassRefused ∷ []
 RefusesPiece s piece TsduTooLong = doings s piece ≡ Fails TsduTooLong ∷ []
-RefusesPiece s piece Failed = s.left ≡ Broken
-RefusesPiece s piece OutOfMemory = AcceptsOctets s.left × (0 < length piece)
+RefusesPiece s piece Failed = s.state ≡ Broken
+RefusesPiece s piece OutOfMemory = AcceptsOctets s.state × (0 < length piece)
 
 -- the agreed size, if the stream still accepts octets and there was a request
 abbrev pub agreed_from : StreamState → Option ℕ
@@ -60,7 +60,7 @@ agreed_from Broken = None
 
 -- the agreed size of a stream, if there is one
 abbrev pub size_agreed : Stream → Option ℕ
-size_agreed s = agreed_from s.left
+size_agreed s = agreed_from s.state
 
 -- the view of a transport: the state of its stream, and the octets that were completed last
 pub record TransportData : Type 0 where
@@ -92,15 +92,15 @@ KeepsWithin Broken shown = shown ≡ []
 
 -- The buffers of a transport are within their limits.
 abbrev pub IsWithinLimits : TransportData → Type 0
-IsWithinLimits r = KeepsWithin r.stream.left r.shown
+IsWithinLimits r = KeepsWithin r.stream.state r.shown
 
 -- the stream after the end of its connection
 abbrev pub end_of_stream : Stream → Stream
-end_of_stream s = record { number = s.number; left = Over }
+end_of_stream s = record { number = s.number; state = Over }
 
 -- the stream after a fault
 abbrev pub broken : Stream → Stream
-broken s = record { number = s.number; left = Broken }
+broken s = record { number = s.number; state = Broken }
 
 -- ---- own: views of the code
 
@@ -114,7 +114,7 @@ stream_state_in Refused a = Broken
 abbrev pub received_of : TransportState → Assembly → TransportData
 received_of state a =
     record {
-      stream = record { number = a.number; left = stream_state_in state a };
+      stream = record { number = a.number; state = stream_state_in state a };
       shown = a.shown.items;
     }
 

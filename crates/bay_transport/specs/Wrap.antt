@@ -40,6 +40,6 @@ pub record Carries (size : ℕ) (tsdu octets : List ℕ) : Type 0 where
       octets
       ≡ record {
         doings = Delivers tsdu ∷ [];
-        left = Going (record { size = Some size; group = [] }) [];
+        state = Going (record { size = Some size; group = [] }) [];
       }
   pub within : AreWithin size (cut_of octets).frames

@@ -46,8 +46,8 @@ pub fn one_size()
 
 /// A stream that still accepts octets accepts more after octets that complete nothing.
 pub fn incomplete_goes_on()
-    ensures { (s : Stream) (octets : List ℕ) → AcceptsOctets s.left → doings s octets ≡ []
-        → AcceptsOctets (after s octets).left }
+    ensures { (s : Stream) (octets : List ℕ) → AcceptsOctets s.state → doings s octets ≡ []
+        → AcceptsOctets (after s octets).state }
 {}
 
 /// Octets encode parameters in at most one way, and only octets that encode them are read as

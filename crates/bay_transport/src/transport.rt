@@ -46,7 +46,7 @@ impl Transport {
     /// sent as the reference of this side (X.224 13.4).
     pub fn new(alloc: Global, number: u16) -> Transport
         ensures { result ≡ record {
-          stream = record { number = number; left = stream_start };
+          stream = record { number = number; state = stream_start };
           shown = [];
         } }
     {

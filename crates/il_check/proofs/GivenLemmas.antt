@@ -196,8 +196,8 @@ source-nonzero names (text.variable place) e = absurd (cc)
 -- the arguments of a call are declared
 abbrev pub AreGiven : Checked → SourceArguments → Type 0
 AreGiven c arguments.None = Unit {0}
-AreGiven c (arguments.One a) = IsGiven c a.given
-AreGiven c (arguments.Two a b) = IsGiven c a.given × IsGiven c b.given
+AreGiven c (arguments.One a) = IsGiven c a.operand
+AreGiven c (arguments.Two a b) = IsGiven c a.operand × IsGiven c b.operand
 
 abbrev pub IsCalled : Checked → CalledTimer → Type 0
 IsCalled c called.Missing = Unit {0}

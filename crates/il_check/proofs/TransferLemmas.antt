@@ -30,26 +30,26 @@ use Rattle.il_check.proofs.GivenLemmas.{IsGiven, operand-typed, AreGiven, IsFoun
 -- ---- jumps, returns and calls
 
 argument-case : (c : Checked) (a : SourceArgument) (w : Option TypedOperand) (x : TypedArgument)
-    → IsGiven c a.given → typed_operand (input_type a.input) a.given ≡ w
+    → IsGiven c a.operand → typed_operand (input_type a.input) a.operand ≡ w
     → option_map (λ o. record { input = a.input; operand = o }) w ≡ Some x → IsArgument c x
 argument-case c a None x given is e = absurd (cc)
 argument-case c a (Some o) x given is e =
     subst (IsArgument c) (same_Some (record { input = a.input; operand = o }) x e)
-    (operand-typed c (input_type a.input) a.given o given is)
+    (operand-typed c (input_type a.input) a.operand o given is)
 
-argument-typed : (c : Checked) (a : SourceArgument) (x : TypedArgument) → IsGiven c a.given
+argument-typed : (c : Checked) (a : SourceArgument) (x : TypedArgument) → IsGiven c a.operand
     → typed_argument a ≡ Some x → IsArgument c x
 argument-typed c a x given e =
-    argument-case c a (typed_operand (input_type a.input) a.given) x given refl e
+    argument-case c a (typed_operand (input_type a.input) a.operand) x given refl e
 
 one-typed : (c : Checked) (a : SourceArgument) (w : Option TypedArgument) (xs : TypedArguments)
-    → IsGiven c a.given → typed_argument a ≡ w → one_argument w ≡ Some xs → AreArguments c xs
+    → IsGiven c a.operand → typed_argument a ≡ w → one_argument w ≡ Some xs → AreArguments c xs
 one-typed c a None xs given is e = absurd (cc)
 one-typed c a (Some x) xs given is e =
     subst (AreArguments c) (same_Some (typed.One x) xs e) (argument-typed c a x given is)
 
 two-typed : (c : Checked) (a b : SourceArgument) (v w : Option TypedArgument) (xs : TypedArguments)
-    → IsGiven c a.given → IsGiven c b.given → typed_argument a ≡ v → typed_argument b ≡ w
+    → IsGiven c a.operand → IsGiven c b.operand → typed_argument a ≡ v → typed_argument b ≡ w
     → two_arguments v w ≡ Some xs → AreArguments c xs
 two-typed c a b (Some x) (Some y) xs given more is also e =
     subst (AreArguments c) (same_Some (typed.Two x y) xs e)
@@ -142,7 +142,7 @@ two-some o p e f = absurd (cc)
 argument-some : (a : SourceArgument) → argument_fits a ≡ true → is_some (typed_argument a) ≡ true
 argument-some a e =
     mapped-some (λ o. record { input = a.input; operand = o })
-    (typed_operand (input_type a.input) a.given) e
+    (typed_operand (input_type a.input) a.operand) e
 
 pub arguments-some : (args : SourceArguments) → arguments_fit args ≡ true
     → is_some (typed_arguments args) ≡ true

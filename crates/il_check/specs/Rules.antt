@@ -48,7 +48,7 @@ typed_operand kind (Number z) = option_map (λ v. operand.Literal v) (typed_numb
 
 -- whether the operand can be one of the type
 abbrev pub operand_fits : ElementaryType → SourceOperand → Bool
-operand_fits kind given = is_some (typed_operand kind given)
+operand_fits kind operand = is_some (typed_operand kind operand)
 
 -- the type of an untyped number by itself: INT if it fits, else DINT if it fits, else LINT
 abbrev pub own_type : ℤ → ElementaryType
@@ -138,7 +138,7 @@ input_type input.Pt = elementary.Time
 
 -- whether an argument has its input's type
 abbrev pub argument_fits : SourceArgument → Bool
-argument_fits a = operand_fits (input_type a.input) a.given
+argument_fits a = operand_fits (input_type a.input) a.operand
 
 -- whether each argument has its input's type
 abbrev pub arguments_fit : SourceArguments → Bool
@@ -161,11 +161,11 @@ may_load negated (Some kind) = may_negate negated kind
 
 -- whether the instruction is valid if the current result has this type
 abbrev pub is_valid_on : Resolved → ElementaryType → Bool
-is_valid_on (Load negated given) kind = may_load negated (load_type given)
+is_valid_on (Load negated operand) kind = may_load negated (load_type operand)
 is_valid_on (Store how target) kind =
     operand_fits kind target && may_negate (not (is_plain how)) kind
-is_valid_on (Combine operator negated given is_nonzero) kind =
-    works operator negated kind && operand_fits kind given
+is_valid_on (Combine operator negated operand is_nonzero) kind =
+    works operator negated kind && operand_fits kind operand
 is_valid_on Not kind = is_boolean kind
 is_valid_on (Convert conversion) kind = same_type kind (converted_from conversion)
 is_valid_on (Jump condition label) kind = may_negate (is_conditional condition) kind
@@ -174,9 +174,9 @@ is_valid_on (Call called arguments) kind = is_timer called && arguments_fit argu
 
 -- whether the instruction uses the current result
 abbrev pub uses_result : Resolved → Bool
-uses_result (Load negated given) = false
+uses_result (Load negated operand) = false
 uses_result (Store how target) = true
-uses_result (Combine operator negated given is_nonzero) = true
+uses_result (Combine operator negated operand is_nonzero) = true
 uses_result Not = true
 uses_result (Convert conversion) = true
 uses_result (Jump condition label) = is_conditional condition
@@ -204,9 +204,9 @@ is_unset r result = uses_result r && is_none result
 
 -- the type of the result after the instruction; none if it is unset
 abbrev pub type_after : Resolved → Option ElementaryType → Option ElementaryType
-type_after (Load negated given) result = load_type given
+type_after (Load negated operand) result = load_type operand
 type_after (Store how target) result = result
-type_after (Combine operator negated given is_nonzero) result =
+type_after (Combine operator negated operand is_nonzero) result =
     option_map (type_of_result operator) result
 type_after Not result = result
 type_after (Convert conversion) result = Some (converted_to conversion)
@@ -242,8 +242,8 @@ is_undeclared other = false
 -- whether an argument is an undeclared name
 abbrev pub has_undeclared_argument : SourceArguments → Bool
 has_undeclared_argument arguments.None = false
-has_undeclared_argument (arguments.One a) = is_undeclared a.given
-has_undeclared_argument (arguments.Two a b) = is_undeclared a.given || is_undeclared b.given
+has_undeclared_argument (arguments.One a) = is_undeclared a.operand
+has_undeclared_argument (arguments.Two a b) = is_undeclared a.operand || is_undeclared b.operand
 
 -- whether the called name is undeclared
 abbrev pub is_undeclared_timer : CalledTimer → Bool
@@ -252,9 +252,9 @@ is_undeclared_timer other = false
 
 -- whether a name of the instruction is undeclared
 abbrev pub uses_undeclared_name : Resolved → Bool
-uses_undeclared_name (Load negated given) = is_undeclared given
+uses_undeclared_name (Load negated operand) = is_undeclared operand
 uses_undeclared_name (Store how target) = is_undeclared target
-uses_undeclared_name (Combine operator negated given is_nonzero) = is_undeclared given
+uses_undeclared_name (Combine operator negated operand is_nonzero) = is_undeclared operand
 uses_undeclared_name (Call called arguments) =
     is_undeclared_timer called || has_undeclared_argument arguments
 uses_undeclared_name other = false
@@ -286,7 +286,7 @@ writes_read_only other = false
 
 -- whether the instruction divides by anything but a literal other than 0
 abbrev pub may_divide_by_zero : Resolved → Bool
-may_divide_by_zero (Combine operator negated given is_nonzero) = divides operator && not is_nonzero
+may_divide_by_zero (Combine operator negated operand is_nonzero) = divides operator && not is_nonzero
 may_divide_by_zero other = false
 
 -- ---- own: successors of an instruction

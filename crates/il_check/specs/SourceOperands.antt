@@ -122,7 +122,7 @@ called_of (Some (meaning.Timer timer)) = called.Timer timer
 
 -- an argument of a call with its names resolved
 abbrev pub resolve_argument : ProgramNames → Input × text.OperandData → SourceArgument
-resolve_argument names a = record { input = a.0; given = resolve_operand names a.1 }
+resolve_argument names a = record { input = a.0; operand = resolve_operand names a.1 }
 
 -- the arguments of a call, at most two, with their names resolved
 abbrev pub resolve_arguments : ProgramNames → List (Input × text.OperandData) → SourceArguments

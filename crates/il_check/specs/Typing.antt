@@ -35,8 +35,8 @@ load_operation negated (Some o) = Some (op.Load negated o)
 
 -- a load of the operand as one of this type
 abbrev pub typed_load : Bool → SourceOperand → Option ElementaryType → Option SimpleOperation
-typed_load negated given None = None
-typed_load negated given (Some kind) = load_operation negated (typed_operand kind given)
+typed_load negated operand None = None
+typed_load negated operand (Some kind) = load_operation negated (typed_operand kind operand)
 
 -- the slot of an operand that is a variable
 abbrev pub slot_in : TypedOperand → Option Slot
@@ -62,16 +62,16 @@ combine_operation operator kind negated (Some o) = Some (op.Combine operator kin
 -- an operator on a result of this type, with the operand as one of the type
 abbrev pub typed_combine : Operator → Bool → SourceOperand → Option ElementaryType
     → Option SimpleOperation
-typed_combine operator negated given None = None
-typed_combine operator negated given (Some kind) =
-    combine_operation operator kind negated (typed_operand kind given)
+typed_combine operator negated operand None = None
+typed_combine operator negated operand (Some kind) =
+    combine_operation operator kind negated (typed_operand kind operand)
 
 -- the typed operation of an instruction on a result of this type, if it is an operation
 abbrev pub typed_operation : Resolved → Option ElementaryType → Option SimpleOperation
-typed_operation (Load negated given) result = typed_load negated given (load_type given)
+typed_operation (Load negated operand) result = typed_load negated operand (load_type operand)
 typed_operation (Store kind target) result = store_operation kind (target_slot target)
-typed_operation (Combine operator negated given is_nonzero) result =
-    typed_combine operator negated given result
+typed_operation (Combine operator negated operand is_nonzero) result =
+    typed_combine operator negated operand result
 typed_operation Not result = Some op.Not
 typed_operation (Convert conversion) result = Some (op.Convert conversion)
 typed_operation other result = None
@@ -80,7 +80,7 @@ typed_operation other result = None
 abbrev pub typed_argument : SourceArgument → Option TypedArgument
 typed_argument a =
     option_map (λ o. record { input = a.input; operand = o })
-    (typed_operand (input_type a.input) a.given)
+    (typed_operand (input_type a.input) a.operand)
 
 -- one argument as the arguments of a call, if it is valid
 abbrev pub one_argument : Option TypedArgument → Option TypedArguments

@@ -156,7 +156,7 @@ impl ProgramNames {
         buffer: &mut String,
         variable: SymbolicVariable<'_>,
     ) -> Result<SourceOperand, AllocError>
-        ensures { IfOk result (λ given. given
+        ensures { IfOk result (λ operand. operand
             ≡ spec.resolve_variable_or_output (names_of self.now) (variable_data variable.entry)) }
     {
         match variable {
@@ -173,7 +173,7 @@ impl ProgramNames {
         buffer: &mut String,
         operand: Operand<'_>,
     ) -> Result<SourceOperand, AllocError>
-        ensures { IfOk result (λ given. given
+        ensures { IfOk result (λ operand. operand
             ≡ spec.resolve_operand (names_of self.now) (operand_data operand.entry)) }
     {
         match operand {
@@ -188,12 +188,12 @@ impl ProgramNames {
         buffer: &mut String,
         argument: Argument<'_>,
     ) -> Result<SourceArgument, AllocError>
-        ensures { IfOk result (λ given. given
+        ensures { IfOk result (λ operand. operand
             ≡ spec.resolve_argument (names_of self.now) (argument_of argument.entry)) }
     {
         Ok(SourceArgument {
             input: argument.input,
-            given: self.resolve_operand(buffer, argument.operand)?,
+            operand: self.resolve_operand(buffer, argument.operand)?,
         })
     }
 
@@ -203,7 +203,7 @@ impl ProgramNames {
         buffer: &mut String,
         arguments: Arguments<'_>,
     ) -> Result<SourceArguments, AllocError>
-        ensures { IfOk result (λ given. given
+        ensures { IfOk result (λ operand. operand
             ≡ spec.resolve_arguments (names_of self.now) (arguments_of arguments.entry)) }
     {
         match arguments {
@@ -247,8 +247,8 @@ impl ProgramNames {
     {
         match instruction {
             Instruction::Load { negated, operand } => {
-                let given = self.resolve_operand(buffer, operand)?;
-                Ok(Resolved::Load { negated, given })
+                let operand = self.resolve_operand(buffer, operand)?;
+                Ok(Resolved::Load { negated, operand })
             }
             Instruction::Store { kind, target } => {
                 let target = self.resolve_symbolic_variable(buffer, target)?;
@@ -259,11 +259,11 @@ impl ProgramNames {
                 negated,
                 operand,
             } => {
-                let given = self.resolve_operand(buffer, operand)?;
+                let operand = self.resolve_operand(buffer, operand)?;
                 Ok(Resolved::Combine {
                     operator,
                     negated,
-                    given,
+                    operand,
                     is_nonzero: is_nonzero(operand),
                 })
             }

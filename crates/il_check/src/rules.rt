@@ -23,10 +23,10 @@ pub(crate) fn typed_number(kind: ElementaryType, number: i64) -> Option<Value>
 }
 
 /// Returns the operand as one of this type, or `None` if it cannot be one.
-pub(crate) fn typed_operand(kind: ElementaryType, given: SourceOperand) -> Option<TypedOperand>
-    ensures { result ≡ spec.typed_operand kind given }
+pub(crate) fn typed_operand(kind: ElementaryType, operand: SourceOperand) -> Option<TypedOperand>
+    ensures { result ≡ spec.typed_operand kind operand }
 {
-    match given {
+    match operand {
         SourceOperand::Missing | SourceOperand::Misused => None,
         SourceOperand::Known(source) => {
             if source.kind.is(kind) {
@@ -43,10 +43,10 @@ pub(crate) fn typed_operand(kind: ElementaryType, given: SourceOperand) -> Optio
 }
 
 // Returns whether the operand can be of the type.
-fn operand_fits(kind: ElementaryType, given: SourceOperand) -> bool
-    ensures { result ≡ spec.operand_fits kind given }
+fn operand_fits(kind: ElementaryType, operand: SourceOperand) -> bool
+    ensures { result ≡ spec.operand_fits kind operand }
 {
-    typed_operand(kind, given).is_some()
+    typed_operand(kind, operand).is_some()
 }
 
 // Returns the type of an untyped number when it is loaded: the first of INT, DINT and LINT that
@@ -64,10 +64,10 @@ fn own_type(number: i64) -> ElementaryType
 }
 
 /// Returns the type of the result of a load, or `None` for a name or literal that can't be loaded.
-pub(crate) fn load_type(given: SourceOperand) -> Option<ElementaryType>
-    ensures { result ≡ spec.load_type given }
+pub(crate) fn load_type(operand: SourceOperand) -> Option<ElementaryType>
+    ensures { result ≡ spec.load_type operand }
 {
-    match given {
+    match operand {
         SourceOperand::Missing | SourceOperand::Misused => None,
         SourceOperand::Known(source) => Some(source.kind),
         SourceOperand::Number(number) => Some(own_type(number)),
@@ -214,7 +214,7 @@ pub(crate) fn input_type(input: Input) -> ElementaryType
 fn argument_fits(argument: SourceArgument) -> bool
     ensures { result ≡ spec.argument_fits argument }
 {
-    operand_fits(input_type(argument.input), argument.given)
+    operand_fits(input_type(argument.input), argument.operand)
 }
 
 // Returns whether each argument fits its input's type.
@@ -253,16 +253,16 @@ fn is_valid_on(resolved: Resolved, kind: ElementaryType) -> bool
     ensures { result ≡ spec.is_valid_on resolved kind }
 {
     match resolved {
-        Resolved::Load { negated, given } => may_load(negated, load_type(given)),
+        Resolved::Load { negated, operand } => may_load(negated, load_type(operand)),
         Resolved::Store { kind: how, target } => {
             operand_fits(kind, target) && may_negate(!is_plain(how), kind)
         }
         Resolved::Combine {
             operator,
             negated,
-            given,
+            operand,
             ..
-        } => works(operator, negated, kind) && operand_fits(kind, given),
+        } => works(operator, negated, kind) && operand_fits(kind, operand),
         Resolved::Not => is_boolean(kind),
         Resolved::Convert(conversion) => kind.is(converted_from(conversion)),
         Resolved::Jump { condition, .. } | Resolved::Return(condition) => {
@@ -312,7 +312,7 @@ pub(crate) fn type_after(resolved: Resolved, kind: Option<ElementaryType>) -> Op
     ensures { result ≡ spec.type_after resolved kind }
 {
     match resolved {
-        Resolved::Load { given, .. } => load_type(given),
+        Resolved::Load { operand, .. } => load_type(operand),
         Resolved::Combine { operator, .. } => type_after_operator(operator, kind),
         Resolved::Convert(conversion) => Some(converted_to(conversion)),
         Resolved::Store { .. } | Resolved::Not | Resolved::Jump { .. } | Resolved::Return(_) =>
@@ -366,10 +366,10 @@ pub(crate) fn combines_wrong(
 }
 
 // Returns whether the operand is an undeclared name.
-fn is_undeclared(given: SourceOperand) -> bool
-    ensures { result ≡ spec.is_undeclared given }
+fn is_undeclared(operand: SourceOperand) -> bool
+    ensures { result ≡ spec.is_undeclared operand }
 {
-    match given {
+    match operand {
         SourceOperand::Missing => true,
         SourceOperand::Misused | SourceOperand::Known(_) | SourceOperand::Number(_) => false,
     }
@@ -381,9 +381,9 @@ fn has_undeclared_argument(arguments: SourceArguments) -> bool
 {
     match arguments {
         SourceArguments::None => false,
-        SourceArguments::One(first) => is_undeclared(first.given),
-        SourceArguments::Two(first, second) => is_undeclared(first.given)
-            || is_undeclared(second.given),
+        SourceArguments::One(first) => is_undeclared(first.operand),
+        SourceArguments::Two(first, second) => is_undeclared(first.operand)
+            || is_undeclared(second.operand),
     }
 }
 
@@ -402,7 +402,9 @@ pub(crate) fn uses_undeclared_name(resolved: Resolved) -> bool
     ensures { result ≡ spec.uses_undeclared_name resolved }
 {
     match resolved {
-        Resolved::Load { given, .. } | Resolved::Combine { given, .. } => is_undeclared(given),
+        Resolved::Load { operand, .. } | Resolved::Combine { operand, .. } => is_undeclared(
+            operand,
+        ),
         Resolved::Store { target, .. } => is_undeclared(target),
         Resolved::Call { called, arguments } => is_undeclared_timer(called)
             || has_undeclared_argument(arguments),
@@ -435,10 +437,10 @@ pub(crate) fn jumps_to_undefined_label(resolved: Resolved) -> bool
 }
 
 // Returns whether the target is read-only.
-fn is_read_only(given: SourceOperand) -> bool
-    ensures { result ≡ spec.is_read_only given }
+fn is_read_only(operand: SourceOperand) -> bool
+    ensures { result ≡ spec.is_read_only operand }
 {
-    match given {
+    match operand {
         SourceOperand::Known(source) => !source.writable,
         SourceOperand::Missing | SourceOperand::Misused | SourceOperand::Number(_) => false,
     }

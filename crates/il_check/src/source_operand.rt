@@ -55,7 +55,7 @@ pub enum CalledTimer {
 #[derive(Clone, Copy)]
 pub struct SourceArgument {
     pub input: Input,
-    pub given: SourceOperand,
+    pub operand: SourceOperand,
 }
 
 /// The arguments of a call, in the order of the text.
@@ -71,7 +71,7 @@ pub enum SourceArguments {
 pub enum Resolved {
     Load {
         negated: bool,
-        given: SourceOperand,
+        operand: SourceOperand,
     },
     Store {
         kind: StoreKind,
@@ -81,7 +81,7 @@ pub enum Resolved {
     Combine {
         operator: Operator,
         negated: bool,
-        given: SourceOperand,
+        operand: SourceOperand,
         is_nonzero: bool,
     },
     Not,

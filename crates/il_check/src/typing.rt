@@ -13,12 +13,12 @@ use il_text::program::{Operator, StoreKind};
 // Returns a load of the operand as one of this type.
 fn typed_load(
     negated: bool,
-    given: SourceOperand,
+    operand: SourceOperand,
     kind: Option<ElementaryType>,
 ) -> Option<SimpleOperation>
-    ensures { result ≡ spec.typed_load negated given kind }
+    ensures { result ≡ spec.typed_load negated operand kind }
 {
-    let operand = typed_operand(kind?, given)?;
+    let operand = typed_operand(kind?, operand)?;
     Some(SimpleOperation::Load { negated, operand })
 }
 
@@ -47,13 +47,13 @@ fn typed_store(kind: StoreKind, slot: Option<Slot>) -> Option<SimpleOperation>
 fn typed_combine(
     operator: Operator,
     negated: bool,
-    given: SourceOperand,
+    operand: SourceOperand,
     kind: Option<ElementaryType>,
 ) -> Option<SimpleOperation>
-    ensures { result ≡ spec.typed_combine operator negated given kind }
+    ensures { result ≡ spec.typed_combine operator negated operand kind }
 {
     let kind = kind?;
-    let operand = typed_operand(kind, given)?;
+    let operand = typed_operand(kind, operand)?;
     Some(SimpleOperation::Combine {
         operator,
         kind,
@@ -70,14 +70,14 @@ pub(crate) fn typed_operation(
     ensures { result ≡ spec.typed_operation resolved kind }
 {
     match resolved {
-        Resolved::Load { negated, given } => typed_load(negated, given, load_type(given)),
+        Resolved::Load { negated, operand } => typed_load(negated, operand, load_type(operand)),
         Resolved::Store { kind: how, target } => typed_store(how, target_slot(target)),
         Resolved::Combine {
             operator,
             negated,
-            given,
+            operand,
             ..
-        } => typed_combine(operator, negated, given, kind),
+        } => typed_combine(operator, negated, operand, kind),
         Resolved::Not => Some(SimpleOperation::Not),
         Resolved::Convert(conversion) => Some(SimpleOperation::Convert(conversion)),
         Resolved::Jump { .. } | Resolved::Return(_) | Resolved::Call { .. } => None,
@@ -88,7 +88,7 @@ pub(crate) fn typed_operation(
 fn typed_argument(argument: SourceArgument) -> Option<TypedArgument>
     ensures { result ≡ spec.typed_argument argument }
 {
-    match typed_operand(input_type(argument.input), argument.given) {
+    match typed_operand(input_type(argument.input), argument.operand) {
         Some(operand) => Some(TypedArgument {
             input: argument.input,
             operand,

@@ -33,16 +33,16 @@ unfoldable pub plain_word : List ℕ → LexemeData
 plain_word w = name_or_reserved w (reserved_symbol w)
 
 -- a word: a literal if it has a `#`, or else a name, a reserved word or a number (own)
-abbrev word_by_halves : List ℕ → Option (List ℕ × List ℕ) → LexemeData
-word_by_halves w (Some h) = literal_lexeme (prefixed_literal h.0 h.1)
-word_by_halves w None =
+abbrev word_split_at_hash : List ℕ → Option (List ℕ × List ℕ) → LexemeData
+word_split_at_hash w (Some h) = literal_lexeme (prefixed_literal h.0 h.1)
+word_split_at_hash w None =
     if begins_name (slice_index w 0)
     then plain_word w
     else literal_lexeme (plain_literal (decimal w))
 
 -- a name, a reserved word or a literal
 unfoldable pub word : List ℕ → LexemeData
-word w = word_by_halves w (split_at_hash w)
+word w = word_split_at_hash w (split_at_hash w)
 
 -- ---- IEC 61131-3 annex C: marks
 

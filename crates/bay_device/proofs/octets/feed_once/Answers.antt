@@ -32,7 +32,7 @@ returns-in_err-handle_indication-clause-err c =
     (λ is. c.in_err-handle_indication.ensures.memory is connections)
     (λ other. stops-heard c.args.now c.args.association old c.args.rest.now c.in_ok-fed.fed.used
     new.state c.requires.going fed.left
-    (indication_of c.in_ok-fed.fed.heard new) d e why fed.fed
+    (indication_of c.in_ok-fed.fed.indication new) d e why fed.fed
     (λ later. c.in_err-handle_indication.ensures.stops other connections later)))
 
 pub returns-clause-moves : goal.returns-clause-moves
@@ -41,7 +41,7 @@ returns-clause-moves c =
     let fed = c.in_ok-fed.ensures in
     used-some c.args.now c.args.association c.args.connection.now.state c.args.rest.now
     c.in_ok-fed.fed.used new.state c.requires.going fed.left
-    (indication_of c.in_ok-fed.fed.heard new) c.requires.some fed.fed
+    (indication_of c.in_ok-fed.fed.indication new) c.requires.some fed.fed
     c.in_ok-handle_indication.ensures.goes
 
 pub returns-clause-going : goal.returns-clause-going
@@ -50,7 +50,7 @@ returns-clause-going c =
     let fed = c.in_ok-fed.ensures in
     goes-on c.args.now c.args.association c.args.connection.now.state c.args.rest.now
     c.in_ok-fed.fed.used new.state c.requires.going fed.left
-    (indication_of c.in_ok-fed.fed.heard new) fed.fed c.in_ok-handle_indication.ensures.goes
+    (indication_of c.in_ok-fed.fed.indication new) fed.fed c.in_ok-handle_indication.ensures.goes
 
 pub returns-clause-ok : goal.returns-clause-ok
 returns-clause-ok c connections =
@@ -58,7 +58,7 @@ returns-clause-ok c connections =
     let fed = c.in_ok-fed.ensures in
     moves-heard c.args.now c.args.association c.args.connection.now.state c.args.rest.now
     c.in_ok-fed.fed.used new.state c.requires.going fed.left
-    (indication_of c.in_ok-fed.fed.heard new)
+    (indication_of c.in_ok-fed.fed.indication new)
     (step_state (state_view connections c.args.state.now) c.args.effects.now)
     (step_state (state_view connections c.handle_indication.new.state)
     c.handle_indication.new.effects)

@@ -8,7 +8,7 @@ use Rattle.bay_device.proofs.octets.handle_octets.Given as goal
 abbrev pub invariant-loop-at : goal.invariant-loop-at
 invariant-loop-at l = record {
   within : l.at ≤ length l.octets;
-  going : AcceptsOctets l.connection.state.stream.left;
+  going : AcceptsOctets l.connection.state.stream.state;
   first : l.at ≡ 0 → l.connection.state ≡ l.initial.connection.state;
   later : 0 < l.at → l.connection.state
       ≡ connection_after l.initial.connection.state (take l.at l.octets);

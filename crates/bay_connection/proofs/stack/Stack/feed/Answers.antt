@@ -5,30 +5,30 @@ use Rattle.bay_connection.specs.Stack.{connection_state_of, client_of}
 use Rattle.bay_connection.proofs.FeedingLemmas.{is-ready, fed-got, fed-fault}
 use Rattle.bay_connection.proofs.stack.Stack.feed.Goals as goal
 
-pub heard-requires-clause-ready : goal.heard-requires-clause-ready
-heard-requires-clause-ready c =
+pub indication_for-requires-clause-ready : goal.indication_for-requires-clause-ready
+indication_for-requires-clause-ready c =
     is-ready (connection_state_of c.args.self.now) c.feed.new.self c.in-Ok.fed.got c.args.piece.now
     c.in-Ok.fed.used c.requires.joined c.in-Ok.ensures.fed c.in-Ok.ensures.after
 
-pub returns-in_ok-heard-in-Ok-clause-fed : goal.returns-in_ok-heard-in-Ok-clause-fed
-returns-in_ok-heard-in-Ok-clause-fed c =
+pub returns-in_ok-indication-in-Ok-clause-fed : goal.returns-in_ok-indication-in-Ok-clause-fed
+returns-in_ok-indication-in-Ok-clause-fed c =
     let f = fed-got (connection_state_of c.args.self.now) c.feed.new.self c.in-Ok.fed.got
     c.args.piece.now
-    c.in-Ok.fed.used (indication_of c.in_ok-heard-in-Ok.heard (client_of c.heard.new.self))
-    (connection_state_of c.heard.new.self) c.requires.joined c.in-Ok.ensures.fed
+    c.in-Ok.fed.used (indication_of c.in_ok-indication-in-Ok.indication (client_of c.indication_for.new.self))
+    (connection_state_of c.indication_for.new.self) c.requires.joined c.in-Ok.ensures.fed
     c.in-Ok.ensures.after
-    c.in_ok-heard-in-Ok.ensures.told in
+    c.in_ok-indication-in-Ok.ensures.told in
     f.fed
 
-pub returns-in_ok-heard-in-Ok-clause-left : goal.returns-in_ok-heard-in-Ok-clause-left
-returns-in_ok-heard-in-Ok-clause-left c =
+pub returns-in_ok-indication-in-Ok-clause-left : goal.returns-in_ok-indication-in-Ok-clause-left
+returns-in_ok-indication-in-Ok-clause-left c =
     let f = fed-got (connection_state_of c.args.self.now) c.feed.new.self c.in-Ok.fed.got
     c.args.piece.now
-    c.in-Ok.fed.used (indication_of c.in_ok-heard-in-Ok.heard (client_of c.heard.new.self))
-    (connection_state_of c.heard.new.self) c.requires.joined c.in-Ok.ensures.fed
+    c.in-Ok.fed.used (indication_of c.in_ok-indication-in-Ok.indication (client_of c.indication_for.new.self))
+    (connection_state_of c.indication_for.new.self) c.requires.joined c.in-Ok.ensures.fed
     c.in-Ok.ensures.after
-    c.in_ok-heard-in-Ok.ensures.told in
-    f.left
+    c.in_ok-indication-in-Ok.ensures.told in
+    f.state
 
 pub returns-in-Some-clause-fed : goal.returns-in-Some-clause-fed
 returns-in-Some-clause-fed c =
@@ -44,4 +44,4 @@ returns-in-Some-clause-left c =
     let f = fed-fault (connection_state_of c.args.self.now) c.args.piece.now c.in-Err.fault code
     c.requires.joined c.in-Err.ensures.refused
     (sym c.code.ensures ∙ c.in-Some.is) in
-    c.close.ensures.closed ∙ ap ended_state c.in-Err.ensures.broken ∙ f.left
+    c.close.ensures.closed ∙ ap ended_state c.in-Err.ensures.broken ∙ f.state

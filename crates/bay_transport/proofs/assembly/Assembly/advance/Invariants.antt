@@ -9,7 +9,7 @@ invariant-loop-used l =
     × IsSound l.self
     × (l.self.number ≡ l.initial.self.number)
     × (run_of l.initial.self.number (stream_state_of l.initial.self) (take l.used l.piece)
-    ≡ record { doings = []; left = stream_state_of l.self })
+    ≡ record { doings = []; state = stream_state_of l.self })
     × (l.self.shown.items ≡ l.initial.self.shown.items)
 
 abbrev pub decreases-loop-used : goal.decreases-loop-used

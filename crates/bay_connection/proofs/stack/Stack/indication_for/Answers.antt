@@ -1,7 +1,7 @@
 use Rattle.std.proofs.Common.{Result, Ok, Err, OnOk, arith}
 use Rattle.bay_connection.specs.Stack.{connection_state_of}
 use Rattle.bay_connection.proofs.FeedingLemmas.{sized-joined}
-use Rattle.bay_connection.proofs.stack.Stack.heard.Goals as goal
+use Rattle.bay_connection.proofs.stack.Stack.indication_for.Goals as goal
 
 holds : {X E P : Type 0} (r : Result X E) → P → OnOk r P
 holds (Ok x) h = h

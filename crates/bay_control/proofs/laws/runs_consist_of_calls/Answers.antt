@@ -1,5 +1,5 @@
 use Rattle.bay_control.proofs.LeadsLemmas.{none-leads, one-leads, two-lead}
-use Rattle.bay_control.proofs.laws.calls_lead.Goals as goal
+use Rattle.bay_control.proofs.laws.runs_consist_of_calls.Goals as goal
 
 pub returns-clause-none : goal.returns-clause-none
 returns-clause-none l = none-leads
