@@ -259,12 +259,13 @@ impl ProgramNames {
                 negated,
                 operand,
             } => {
+                let is_nonzero = is_nonzero(operand);
                 let operand = self.resolve_operand(buffer, operand)?;
                 Ok(Resolved::Combine {
                     operator,
                     negated,
                     operand,
-                    is_nonzero: is_nonzero(operand),
+                    is_nonzero,
                 })
             }
             Instruction::Not => Ok(Resolved::Not),
