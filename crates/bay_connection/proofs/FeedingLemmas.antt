@@ -117,7 +117,7 @@ quiet-told t octets e =
 record Done (t : ConnectionState) (piece : List ℕ) (used : ℕ) (i : Indication)
     (new : ConnectionState) : Type 0 where
   comes : Completes t piece used i
-  left : new ≡ connection_after t (take used piece)
+  state : new ≡ connection_after t (take used piece)
 
 going-done : (t : ConnectionState) (piece : List ℕ) (used : ℕ) (d : Doing) (i : Indication)
     (new : ConnectionState)
@@ -202,7 +202,7 @@ fed-none number (Going connection rest) phase piece used heard new s joined fed 
     rw none (record {
       within = omega (arith, fed.0);
       fed = (fed.0, ap (λ (r : ConnectionStep). r.indications) (quiet-told t piece fed.1));
-      left = same ∙ ap (λ (x : Stream). let u : ConnectionState =
+      state = same ∙ ap (λ (x : Stream). let u : ConnectionState =
           record { stream = x; phase = phase } in u) is
           ∙ sym (ap (λ (r : ConnectionStep). r.state) (quiet-told t (take used piece) quiet));
     })

@@ -156,7 +156,7 @@ impl ProgramNames {
         buffer: &mut String,
         variable: SymbolicVariable<'_>,
     ) -> Result<SourceOperand, AllocError>
-        ensures { IfOk result (λ operand. operand
+        ensures { IfOk result (λ resolved. resolved
             ≡ spec.resolve_variable_or_output (names_of self.now) (variable_data variable.entry)) }
     {
         match variable {
@@ -173,7 +173,7 @@ impl ProgramNames {
         buffer: &mut String,
         operand: Operand<'_>,
     ) -> Result<SourceOperand, AllocError>
-        ensures { IfOk result (λ operand. operand
+        ensures { IfOk result (λ resolved. resolved
             ≡ spec.resolve_operand (names_of self.now) (operand_data operand.entry)) }
     {
         match operand {
@@ -188,7 +188,7 @@ impl ProgramNames {
         buffer: &mut String,
         argument: Argument<'_>,
     ) -> Result<SourceArgument, AllocError>
-        ensures { IfOk result (λ operand. operand
+        ensures { IfOk result (λ resolved. resolved
             ≡ spec.resolve_argument (names_of self.now) (argument_of argument.entry)) }
     {
         Ok(SourceArgument {
@@ -203,7 +203,7 @@ impl ProgramNames {
         buffer: &mut String,
         arguments: Arguments<'_>,
     ) -> Result<SourceArguments, AllocError>
-        ensures { IfOk result (λ operand. operand
+        ensures { IfOk result (λ resolved. resolved
             ≡ spec.resolve_arguments (names_of self.now) (arguments_of arguments.entry)) }
     {
         match arguments {
