@@ -1,6 +1,7 @@
 pub mod AcceptedLemmas
 pub mod AnswerLemmas
 pub mod EntryLemmas
+pub mod IndexLemmas
 pub mod NameLemmas
 pub mod OperateLemmas
 pub mod PlaceLemmas
@@ -9,6 +10,7 @@ pub mod ReleaseLemmas
 pub mod ReplyLemmas
 pub mod ShortLemmas
 pub mod ShownLemmas
+pub mod TargetLemmas
 pub mod VariableLemmas
 pub mod ViewLemmas
 pub mod WalkLemmas

@@ -1,5 +1,5 @@
 -- A row is a control's where its name is the control's.
-use Rattle.std.proofs.Common.{◌≡◌, ℕ, ◌+◌, ◌<◌, zero, suc, Bool, true, false, nat_eq, List, [], Option, Some, None, refl, ap, sym, ◌∙◌, arith}
+use Rattle.std.proofs.Common.{◌≡◌, ℕ, Bool, true, false, nat_eq, List, [], Option, Some, None, refl, ap, sym, ◌∙◌, arith}
 use Rattle.std.proofs.Math.ListN.{get_or-map}
 use Rattle.std.specs.Str.{bytes_eq}
 use Rattle.std.proofs.lemmas.Bool.Decides.{nat_tests}
@@ -14,8 +14,7 @@ use Rattle.bay_process.specs.Controls.{AreAllControlRows, AreControlRows}
 use Rattle.bay_process.specs.declared.controls.ControlRows.{ControlRows}
 use Rattle.bay_process.specs.Layout.{Layout, layout_of, row_name_in}
 use Rattle.bay_mms_services.specs.RowParts.{IsFirstNamed, is_row, part_of_row}
-use Rattle.bay_mms_services.specs.Targets.{control_name, or_later, part_named, target_from, target_of}
-use Rattle.bay_mms_services.specs.declared.target.ControlPart.{ControlPart}
+use Rattle.bay_mms_services.specs.Targets.{control_name, part_named}
 use Rattle.bay_mms_services.specs.declared.target.ControlPart.TheVariants.{Select, SelectWith, Operate, Cancel}
 
 -- a row that is the first of its name
@@ -66,19 +65,6 @@ part-named rows k control handle names first =
     let w = place-test rows control.cancel (control_name k Cancel) handle names.cancel first in
     rw (t, u, v, w) refl
 
--- the first of the targets from a place on
-pub target-here : (k count : ℕ) (name : List ℕ) (part : ControlPart) → 0 < count
-    → part_named k name ≡ Some part
-    → target_from k count name ≡ Some (record { switch = k; part = part })
-target-here k zero name part some is = absurd (omega arith)
-target-here k (suc count) name part some is =
-    ap (λ p. or_later k p (target_from (k + 1) count name)) is
-
-pub target-later : (k count less : ℕ) (name : List ℕ) → count ≡ suc less → part_named k name ≡ None
-    → target_from k count name ≡ target_from (k + 1) less name
-target-later k count less name one is =
-    ap (λ n. target_from k n name) one ∙ ap (λ p. or_later k p (target_from (k + 1) less name)) is
-
 -- ---- rows and their layout
 
 pub found-named : (rows : List Row) (name : List ℕ) (row : ℕ) → row_index rows name ≡ Some row
@@ -89,10 +75,6 @@ found-named rows name row at =
 
 pub name-here : (rows : List Row) (row : ℕ) → row_name_in (layout_of rows) row ≡ name_at rows row
 name-here rows row = get_or-map (λ (r : Row). r.name) rows row (record { name = []; leaf = None })
-
-pub target-there : (count total : ℕ) (name : List ℕ) → count ≡ total
-    → target_of count name ≡ target_of total name
-target-there count total name is = ap (λ n. target_of n name) is
 
 -- ---- a tree of the same layout
 

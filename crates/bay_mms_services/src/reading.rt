@@ -16,7 +16,7 @@ use crate::answer::ControlDecision;
 use crate::bay::ServedBay;
 use crate::client::ClientContext;
 use crate::invocation::Invocation;
-use crate::target::{ControlPart, Target, part_of_row};
+use crate::target::{ControlPart, Target, control_index, part_of_row};
 use bay_control::cause::AddCause;
 use bay_control::controls::Controls;
 use bay_mms::fault::{DataAccessError, EncodeFault};
@@ -72,12 +72,9 @@ impl ServedBay {
         ensures there { IfSome result (λ target. target.switch < length self.now.switches) }
     {
         let rows = self.control_rows.as_slice();
-        for switch in 0..rows.len() {
-            if let Some(part) = part_of_row(&rows[switch], row) {
-                return Some(Target { switch, part });
-            }
-        }
-        None
+        let switch = control_index(self.tree.name(row).as_bytes())?;
+        let part = part_of_row(rows.get(switch)?, row)?;
+        Some(Target { switch, part })
     }
 }
 

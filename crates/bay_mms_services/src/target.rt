@@ -1,8 +1,10 @@
 // Which control a row belongs to.
-ghost use Rattle.std.specs.Prelude.{◌≡◌};
+ghost use Rattle.std.specs.Prelude.{◌≡◌, ◌<◌, ◌^◌, ◌+◌, ◌++◌, ◌∷◌, ℕ, List, Some};
+ghost use Rattle.bay_nodes.specs.Names.{cswi_name};
 ghost use Rattle.bay_mms_services.specs.RowParts.{part_of_row};
 ghost use Rattle.bay_mms_services.specs.RowParts as spec;
 
+use bay_base::decimal::with_digit;
 use bay_process::controls::ControlRows;
 use bay_tree::tree::Handle;
 
@@ -24,6 +26,26 @@ pub struct Target {
     /// The index of the switch in the bay file, from 0.
     pub switch: usize,
     pub part: ControlPart,
+}
+
+/// Returns the index of the switch that a row's name is numbered with, if the row is below the node
+/// of a control (IEC 61850-7-4, CSWI): the node's number less 1. Any other row may have an index,
+/// too, or `None`. The time that this takes does not depend on the number of switches.
+pub(crate) fn control_index(name: &[u8]) -> Option<usize>
+    ensures { (k : ℕ) (path : List ℕ) → k + 1 < 2 ^ 64 → name.now ≡ cswi_name k ++ 36 ∷ path
+        → result ≡ Some k }
+{
+    let [b'C', b'S', b'W', b'I', digits @ ..] = name else {
+        return None;
+    };
+    let mut number = 0u64;
+    for octet in digits {
+        match with_digit(number, *octet) {
+            Some(longer) => number = longer,
+            None => return (number as usize).checked_sub(1),
+        }
+    }
+    None
 }
 
 // Returns whether this optional row is the row at `handle`.
