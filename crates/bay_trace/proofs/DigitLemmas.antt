@@ -1,5 +1,5 @@
 -- Lemmas on octets in hexadecimal digits.
-use Rattle.std.proofs.Common.{◌≡◌, ◌∙◌, ℕ, ◌-◌, ◌*◌, ◌/◌, ◌%◌, ◌<◌, ◌≤◌, ◌||◌, true, false, Bool, cond, eqb, List, [], ◌∷◌, ◌++◌, length, take, Option, Some, None, is_some, unwrap_or, Result, Ok, Err, MatchResult, refl, ap, sym, arith}
+use Rattle.std.proofs.Common.{◌≡◌, ◌∙◌, ℕ, ◌-◌, ◌*◌, ◌/◌, ◌%◌, ◌<◌, ◌≤◌, ◌||◌, true, false, Bool, cond, eqb, List, [], ◌∷◌, ◌++◌, length, take, Option, Some, None, is_some, unwrap_or, Result, Ok, Err, refl, ap, sym, arith}
 use Rattle.std.proofs.lemmas.Bool.Decides.{nat_tests}
 use Rattle.std.proofs.Math.Seq.{take-take}
 use Rattle.std.proofs.lemmas.List.{take-append-le}
@@ -11,8 +11,8 @@ use Rattle.std.specs.Int.{is_in_range}
 use Rattle.std.specs.List.{AllPass, list_all}
 use Rattle.std.specs.Result.{result_ok}
 use Rattle.std.specs.Str.{IsAscii}
-use Rattle.hex.proofs.HexLemmas.{decode_of-digits, decode_of-ok, decode_sized-twice}
-use Rattle.hex.specs.Hex.{decode_of, decode_sized, is_hex_digit}
+use Rattle.hex.proofs.HexLemmas.{decode_of-digits, decode_of-ok}
+use Rattle.hex.specs.Hex.{decode_of, is_hex_digit}
 use Rattle.hex.specs.declared.error.FromHexError.{FromHexError}
 use Rattle.bay_trace.specs.Digits.{octets_or_empty, octets_of}
 
@@ -98,7 +98,9 @@ octets-known word e = by-octets (octets_of word) refl
     by-octets None is = let no : false ≡ true = sym (ap is_some is) ∙ e in absurd cc
     by-octets (Some octets) is = is ∙ ap Some (sym (ap (λ o. unwrap_or o []) is))
 
-known-decode : (word octets : List ℕ) → octets_of word ≡ Some octets → decode_of word ≡ Ok octets
+-- what digits that encode octets are decoded to
+pub known-decode : (word octets : List ℕ) → octets_of word ≡ Some octets
+    → decode_of word ≡ Ok octets
 known-decode [] octets e = absurd cc
 known-decode (b ∷ bs) octets e = some-ok (decode_of (b ∷ bs)) octets e
 
@@ -116,15 +118,3 @@ octets-half word e = let twice = octets-twice word e in omega arith
 pub front-of : (n m : ℕ) (xs ys : List ℕ) → n ≤ length xs → n ≤ m
     → take n (take m (xs ++ ys)) ≡ take n xs
 front-of n m xs ys fits within = take-take n m (xs ++ ys) within ∙ take-append-le n xs ys fits
-
--- what digits that write octets are decoded to
-pub decoded : (word : List ℕ) (n : ℕ) (new : List ℕ) (r : Result Unit FromHexError)
-    → is_some (octets_of word) ≡ true → n ≡ length (octets_or_empty word)
-    → MatchResult (decode_sized word n) (λ bytes. (r ≡ Ok tt) × (new ≡ bytes)) (λ e. r ≡ Err e)
-    → new ≡ octets_or_empty word
-decoded word n new r e size m =
-    let twice : length word ≡ 2 * n = octets-twice word e ∙ ap (λ k. 2 * k) (sym size) in
-    let is : decode_sized word n ≡ Ok (octets_or_empty word) =
-    decode_sized-twice word n twice
-    ∙ known-decode word (octets_or_empty word) (octets-known word e) in
-    (rw is at m).1

@@ -1,4 +1,5 @@
 pub mod DigitLemmas
+pub mod PairLemmas
 pub mod PlacingLemmas
 pub mod PutLemmas
 pub mod RecordLemmas

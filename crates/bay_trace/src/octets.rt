@@ -1,5 +1,6 @@
 // Octets in hexadecimal digits, as a line of the trace has them.
-ghost use Rattle.std.specs.Prelude.{◌≡◌, ◌<◌, ◌≤◌, [], true, is_some, length, max, option_map, take, OnErr, OnOk};
+ghost use Rattle.std.specs.Prelude.{◌≡◌, ◌<◌, ◌≤◌, [], Some, true, is_some, length, max, option_map, take, OnErr, OnOk};
+ghost use Rattle.hex.specs.Hex.{hex_digit_value, is_hex_digit};
 ghost use Rattle.bay_trace.specs.Digits.{octets_or_empty, octets_of};
 
 use std::alloc::{AllocError, Global};
@@ -12,7 +13,8 @@ pub struct Digits<'a> {
     ghost is_hexadecimal: { is_some (octets_of text.now) ≡ true },
 }
 
-// Returns whether a word consists of such digits.
+// Returns whether a word consists of such digits. The loop has no early end, so that the processor
+// can test many octets at once.
 fn is_hexadecimal(word: &[u8]) -> bool
     ensures { result ≡ is_some (octets_of word.now) }
 {
@@ -22,7 +24,11 @@ fn is_hexadecimal(word: &[u8]) -> bool
     if word.len() % 2 != 0 {
         return false;
     }
-    word.iter().all(|octet| octet.is_ascii_hexdigit())
+    let mut all = true;
+    for octet in word {
+        all = all & octet.is_ascii_hexdigit();
+    }
+    all
 }
 
 impl<'a> Digits<'a> {
@@ -39,13 +45,27 @@ impl<'a> Digits<'a> {
     }
 }
 
+// Returns the value of a hexadecimal digit, without a branch: a letter of either case is 64 or
+// more, and its last four bits are its value less 9.
+#[inline(always)]
+fn digit_value(digit: u8) -> u8
+    requires { is_hex_digit digit ≡ true }
+    ensures value { hex_digit_value digit ≡ Some result }
+    ensures within { result < 16 }
+{
+    digit % 16 + 9 * (digit / 64)
+}
+
 // Decodes digits into the first `count` octets of `room`.
 fn decode(digits: Digits<'_>, count: usize, room: &mut [u8])
     requires counted { count ≡ length (octets_or_empty digits.text.now) }
     requires fits { count ≤ length room.old }
     ensures { take count room.new ≡ octets_or_empty digits.entry.text.now }
 {
-    let _ = hex::decode_to_slice(digits.text, &mut room[..count]);
+    let text = digits.text;
+    for i in 0..count {
+        room[i] = digit_value(text[2 * i]) * 16 + digit_value(text[2 * i + 1]);
+    }
 }
 
 /// The buffer for the octets of a line. It is reallocated for a line with more octets than any
