@@ -13,6 +13,8 @@ use Rattle.bay_cli.specs.declared.parse.Verb.TheVariants as verb
 use Rattle.bay_cli.specs.declared.task.ProgramFile.{ProgramFile}
 use Rattle.bay_cli.specs.declared.task.ProgramFile.TheVariants.{Logic, Image}
 use Rattle.bay_cli.specs.declared.task.Invocation.{Invocation}
+use Rattle.bay_cli.specs.declared.task.ServeOptions.{ServeOptions}
+use Rattle.bay_cli.specs.declared.task.ServeTask.{ServeTask}
 use Rattle.bay_cli.specs.declared.task.Task.{Task}
 use Rattle.bay_cli.specs.declared.task.Task.TheVariants.{Check, Replay, Serve, Compile, Audit}
 
@@ -45,19 +47,21 @@ check_app =
 
 -- `serve --bay F [--logic F] [--image F] --port N --turns N [--trace F] [--process P]
 -- [--tell WHAT] [--supervise MS] [--key F] [--record F] [--record-most OCTETS] [--idle S]
--- [--rules F] [--diagram F] [--log]`, with ports from 1 to 65535, turns below 2 ^ 32, from 100 to
--- 60000 milliseconds, up to 2 ^ 24 octets, and from 10 to 3600 seconds
+-- [--cycle MS] [--rules F] [--diagram F] [--log]`, with ports from 1 to 65535, turns below 2 ^ 32,
+-- a silence from 100 to 60000 milliseconds, up to 2 ^ 24 octets, from 10 to 3600 seconds, and a
+-- cycle from 1 to 100 milliseconds
 abbrev pub serve_app : App
 serve_app =
     let named = with_program (with_rule (new_app (codes "serve")) (needed_rule (codes "bay"))) in
     with_rule (with_rule (with_rule (with_rule (with_rule (with_rule (with_rule (with_rule
-    (with_rule (with_rule (with_rule (with_rule (with_rule named
+    (with_rule (with_rule (with_rule (with_rule (with_rule (with_rule named
     (number_rule (codes "port") 1 65535 true)) (number_rule (codes "turns") 0 4294967295 true))
     (text_rule (codes "trace"))) (number_rule (codes "process") 1 65535 false))
     (text_rule (codes "tell"))) (number_rule (codes "supervise") 100 60000 false))
     (text_rule (codes "key"))) (text_rule (codes "record")))
     (number_rule (codes "record-most") 1 16777216 false))
-    (number_rule (codes "idle") 10 3600 false)) (text_rule (codes "rules")))
+    (number_rule (codes "idle") 10 3600 false)) (number_rule (codes "cycle") 1 100 false))
+    (text_rule (codes "rules")))
     (text_rule (codes "diagram"))) log_rule
 
 -- `replay [--log]`
@@ -99,7 +103,7 @@ job_app =
     (with_subcommand (with_subcommand program_app check_app.top) replay_app.top) serve_app.top)
     compile_app.top) audit_app.top
 
--- ---- tasks
+-- ---- options
 
 -- the number that decimal digits spell, with or without a plus before them, if it is from the least
 -- to the greatest
@@ -108,159 +112,12 @@ number_of least greatest text =
     if is_unsigned_in least greatest text then Some (digits_value 10 (without_leading_plus text))
     else None
 
--- the port of clients, if it was given
-abbrev pub port_in : List Row → Option ℕ
-port_in rows = option_and_then (number_of 1 65535) (first_of (codes "port") rows)
+-- the number given with an option, from the least to the greatest, if it was given
+abbrev pub number_in : Text → ℕ → ℕ → List Row → Option ℕ
+number_in id least greatest rows = option_and_then (number_of least greatest) (first_of id rows)
 
--- the port of the process, if it was given
-abbrev pub process_in : List Row → Option ℕ
-process_in rows = option_and_then (number_of 1 65535) (first_of (codes "process") rows)
-
--- the number of turns, if it was given
-abbrev pub turns_in : List Row → Option ℕ
-turns_in rows = option_and_then (number_of 0 4294967295) (first_of (codes "turns") rows)
-
--- the longest silence of a supervised process in milliseconds, if it was given
-abbrev pub limit_in : List Row → Option ℕ
-limit_in rows = option_and_then (number_of 100 60000) (first_of (codes "supervise") rows)
-
--- the most octets of a record, if given
-abbrev pub most_in : List Row → Option ℕ
-most_in rows = option_and_then (number_of 1 16777216) (first_of (codes "record-most") rows)
-
--- the most seconds for which a client may send nothing, where they were given
-abbrev pub idle_in : List Row → Option ℕ
-idle_in rows = option_and_then (number_of 10 3600) (first_of (codes "idle") rows)
-
--- the millions of octets of code that an audit looks at, if given
-abbrev pub effort_in : List Row → Option ℕ
-effort_in rows = option_and_then (number_of 1 100000) (first_of (codes "effort") rows)
-
--- the one or the other, and not both
-abbrev pub exactly_one : Option Text → Option Text → Option (ProgramFile Text)
-exactly_one (Some logic) None = Some (Logic logic)
-exactly_one (Some logic) (Some image) = None
-exactly_one None (Some image) = Some (Image image)
-exactly_one None None = None
-
--- the program in Instruction List or the compiled one, if exactly one of them was named
-abbrev pub program_in : List Row → Option (ProgramFile Text)
-program_in rows = exactly_one (first_of (codes "logic") rows) (first_of (codes "image") rows)
-
--- the task of `check`: a bay and a program
-abbrev pub check_in : List Row → Option (Task Text)
-check_in rows =
-    option_and_then (λ bay. option_map (λ program. Check bay program) (program_in rows))
-    (first_of (codes "bay") rows)
-
--- whether the port of the process, if there is one, differs from that of the clients
-abbrev pub ports_differ : ℕ → Option ℕ → Bool
-ports_differ port None = true
-ports_differ port (Some process) = not (process == port)
-
--- whether releases are reported to the process; None if the word is another one, or if there is no
--- process
-abbrev pub sends_releases : Option ℕ → Option Text → Option Bool
-sends_releases process None = Some false
-sends_releases process (Some word) =
-    if is_some process && bytes_eq word (codes "releases") then Some true else None
-
--- whether the options of supervision fit together: a supervised process needs a port and excludes a
--- trace; a key needs supervision
-abbrev pub is_supervisable : Option ℕ → Option Text → Option ℕ → Option Text → Bool
-is_supervisable process trace None key = is_none key
-is_supervisable process trace (Some limit) key = is_some process && is_none trace
-
--- whether a size is given only with a record
-abbrev pub is_recordable : Option Text → Option ℕ → Bool
-is_recordable file most = is_some file || is_none most
-
--- the task of `serve` with these values, if they fit together
-abbrev pub serve_task : Text → ProgramFile Text → ℕ → ℕ → Option Text → Option ℕ → Option ℕ
-    → Option Text → Option Text → Option ℕ → Option ℕ → Option Text → Option Text → Bool
-    → Option (Task Text)
-serve_task bay program port turns trace process limit key file most idle rules diagram sends =
-    if ports_differ port process && is_supervisable process trace limit key
-    && is_recordable file most
-    then Some (Serve bay program port turns trace process sends limit key file most idle rules
-    diagram)
-    else None
-
--- the task of `serve`: a bay and a program, both numbers, a trace and a process, if they were
--- named, whether releases are sent to the process, how it is supervised, how the session is
--- recorded, how long a client may send nothing, and rules and a diagram, if they were named
-abbrev pub serve_in : List Row → Option (Task Text)
-serve_in rows =
-    option_and_then (λ bay. option_and_then (λ program. option_and_then (λ port. option_and_then
-    (λ turns. option_and_then
-    (serve_task bay program port turns (first_of (codes "trace") rows) (process_in rows)
-    (limit_in rows) (first_of (codes "key") rows) (first_of (codes "record") rows) (most_in rows)
-    (idle_in rows) (first_of (codes "rules") rows) (first_of (codes "diagram") rows))
-    (sends_releases (process_in rows) (first_of (codes "tell") rows))) (turns_in rows))
-    (port_in rows))
-    (program_in rows)) (first_of (codes "bay") rows)
-
--- the task of `compile`: its three files
-abbrev pub compile_in : List Row → Option (Task Text)
-compile_in rows =
-    option_and_then (λ bay. option_and_then (λ logic. option_map (λ out. Compile bay logic out)
-    (first_of (codes "out") rows)) (first_of (codes "logic") rows)) (first_of (codes "bay") rows)
-
--- the task of `audit` with these values, if rules or a diagram were named
-abbrev pub audit_task : Text → ProgramFile Text → Option Text → Option Text → Option ℕ
-    → Option (Task Text)
-audit_task bay program rules diagram effort =
-    if is_some rules || is_some diagram then Some (Audit bay program rules diagram effort) else None
-
--- the task of `audit`: a bay, a program, rules and a diagram, if they were named, and the effort,
--- if it was given
-abbrev pub audit_in : List Row → Option (Task Text)
-audit_in rows =
-    option_and_then (λ bay. option_and_then
-    (λ program. audit_task bay program (first_of (codes "rules") rows)
-    (first_of (codes "diagram") rows) (effort_in rows))
-    (program_in rows)) (first_of (codes "bay") rows)
-
--- the task of a subcommand with these values
-abbrev pub named_task : Text → List Row → Option (Task Text)
-named_task name rows =
-    if bytes_eq name (codes "check") then check_in rows
-    else if bytes_eq name (codes "replay") then Some Replay
-    else if bytes_eq name (codes "serve") then serve_in rows
-    else if bytes_eq name (codes "compile") then compile_in rows
-    else if bytes_eq name (codes "audit") then audit_in rows
-    else None
-
--- whether the log is requested
-abbrev pub logs : List Row → Bool
-logs rows =
-    option_map_or (λ value. bytes_eq value (codes "true")) (first_of (codes "log") rows) false
-
--- the task, and whether the log is written
-abbrev pub named_invocation : Text → List Row → Option (Invocation Text)
-named_invocation name rows =
-    option_map (λ task. record { task = task; log = logs rows }) (named_task name rows)
-
--- the task of the parsed words, and whether the log is written
-abbrev pub entered_task : Option (Text × List Row) → Option (Invocation Text)
-entered_task = option_and_then (λ p. named_invocation p.0 p.1)
-
--- the parsed words, if they have no fault
-abbrev pub faultless : Kinds → Option (Text × List Row) → Option (Text × List Row)
-faultless [] read = read
-faultless (kind ∷ kinds) read = None
-
--- the subcommand and its values, as `clap` parses the words; None if `clap` refuses them
-abbrev pub parsed_words : List Text → Option (Text × List Row)
-parsed_words words = faultless (fault_of job_app words) (subcommand_of job_app words)
-
--- the task that the words spell, and whether the log is written
-abbrev pub task_in : List Text → Option (Invocation Text)
-task_in words = entered_task (parsed_words words)
-
--- ---- jobs: records of all options
-
--- the verb, the files that were named, the numbers that were given, and whether the log is written
+-- a job: the verb, the files that were named, the numbers that were given, and whether the log is
+-- written
 pub record JobData : Type 0 where
   pub verb : Verb
   pub bay : Option Text
@@ -279,21 +136,18 @@ pub record JobData : Type 0 where
   pub record_file : Option Text
   pub record_most : Option ℕ
   pub idle : Option ℕ
+  pub cycle : Option ℕ
   pub effort : Option ℕ
   pub log : Bool
 
--- the verb of a task
-abbrev pub verb_of : Task Text → Verb
-verb_of (Check bay program) = verb.Check
-verb_of Replay = verb.Replay
-verb_of (Serve bay program port turns trace process sends limit key file most idle rules diagram) =
-    verb.Serve
-verb_of (Compile bay logic out) = verb.Compile
-verb_of (Audit bay program rules diagram effort) = verb.Audit
+-- whether the log is requested
+abbrev pub logs : List Row → Bool
+logs rows =
+    option_map_or (λ value. bytes_eq value (codes "true")) (first_of (codes "log") rows) false
 
--- the job of a verb with the values of its options
-abbrev pub with_options : List Row → Verb → JobData
-with_options rows verb = record {
+-- the job of a verb: the values of all options
+abbrev pub job_with : List Row → Verb → JobData
+job_with rows verb = record {
   verb = verb;
   bay = first_of (codes "bay") rows;
   logic = first_of (codes "logic") rows;
@@ -302,27 +156,165 @@ with_options rows verb = record {
   trace = first_of (codes "trace") rows;
   rules = first_of (codes "rules") rows;
   diagram = first_of (codes "diagram") rows;
-  port = port_in rows;
-  turns = turns_in rows;
-  process = process_in rows;
+  port = number_in (codes "port") 1 65535 rows;
+  turns = number_in (codes "turns") 0 4294967295 rows;
+  process = number_in (codes "process") 1 65535 rows;
   tell = first_of (codes "tell") rows;
-  supervise = limit_in rows;
+  supervise = number_in (codes "supervise") 100 60000 rows;
   key = first_of (codes "key") rows;
   record_file = first_of (codes "record") rows;
-  record_most = most_in rows;
-  idle = idle_in rows;
-  effort = effort_in rows;
+  record_most = number_in (codes "record-most") 1 16777216 rows;
+  idle = number_in (codes "idle") 10 3600 rows;
+  cycle = number_in (codes "cycle") 1 100 rows;
+  effort = number_in (codes "effort") 1 100000 rows;
   log = logs rows;
 }
 
--- the job of a subcommand with these values, if they spell a task
-abbrev pub named_job : Text → List Row → Option JobData
-named_job name rows = option_map (λ task. with_options rows (verb_of task)) (named_task name rows)
+-- the verb of a subcommand
+abbrev pub verb_named : Text → Option Verb
+verb_named name =
+    if bytes_eq name (codes "check") then Some verb.Check
+    else if bytes_eq name (codes "replay") then Some verb.Replay
+    else if bytes_eq name (codes "serve") then Some verb.Serve
+    else if bytes_eq name (codes "compile") then Some verb.Compile
+    else if bytes_eq name (codes "audit") then Some verb.Audit
+    else None
 
 -- the job of the parsed words
 abbrev pub entered_job : Option (Text × List Row) → Option JobData
-entered_job = option_and_then (λ p. named_job p.0 p.1)
+entered_job = option_and_then (λ p. option_map (job_with p.1) (verb_named p.0))
+
+-- ---- the tasks of jobs
+
+-- the one or the other, and not both
+abbrev pub exactly_one : Option Text → Option Text → Option (ProgramFile Text)
+exactly_one (Some logic) None = Some (Logic logic)
+exactly_one (Some logic) (Some image) = None
+exactly_one None (Some image) = Some (Image image)
+exactly_one None None = None
+
+-- the program in Instruction List or the compiled one, if exactly one of them was named
+abbrev pub program_of : JobData → Option (ProgramFile Text)
+program_of job = exactly_one job.logic job.image
+
+-- the task of `check`: a bay and a program
+abbrev pub check_task : JobData → Option (Task Text)
+check_task job =
+    option_and_then (λ bay. option_map (λ program. Check bay program) (program_of job)) job.bay
+
+-- The options of `serve` that may be left out: the trace, the port of the process, its longest
+-- silence in milliseconds, its key, the record and its most octets, the most seconds for which a
+-- client may send nothing, the least milliseconds that a turn lasts, the rules and the diagram.
+abbrev pub options_of : JobData → ServeOptions Text
+options_of job = record {
+  trace = job.trace;
+  process = job.process;
+  limit_ms = job.supervise;
+  key = job.key;
+  record_file = job.record_file;
+  record_most = job.record_most;
+  idle_s = job.idle;
+  cycle_ms = job.cycle;
+  rules = job.rules;
+  diagram = job.diagram;
+}
+
+-- whether the port of the process, if there is one, differs from that of the clients
+abbrev pub ports_differ : ℕ → Option ℕ → Bool
+ports_differ port None = true
+ports_differ port (Some process) = not (process == port)
+
+-- whether releases are reported to the process; None if the word is another one, or if there is no
+-- process
+abbrev pub sends_releases : Option ℕ → Option Text → Option Bool
+sends_releases process None = Some false
+sends_releases process (Some word) =
+    if is_some process && bytes_eq word (codes "releases") then Some true else None
+
+-- whether the options of supervision fit together: a supervised process needs a port and excludes a
+-- trace; a key needs supervision
+abbrev pub is_supervisable : ServeOptions Text → Bool
+is_supervisable options =
+    if is_some options.limit_ms then is_some options.process && is_none options.trace
+    else is_none options.key
+
+-- whether a size is given only with a record
+abbrev pub is_recordable : ServeOptions Text → Bool
+is_recordable options = is_some options.record_file || is_none options.record_most
+
+-- whether the options of a service on this port fit together
+abbrev pub fit_together : ℕ → ServeOptions Text → Bool
+fit_together port options =
+    ports_differ port options.process && is_supervisable options && is_recordable options
+
+-- the task of `serve` with these values, if they fit together
+abbrev pub fitting_task : ServeTask Text → Option (Task Text)
+fitting_task task = if fit_together task.port task.options then Some (Serve task) else None
+
+-- the task of `serve`: a bay and a program, both numbers, whether releases are sent to the process,
+-- and the other options
+abbrev pub serve_task : JobData → Option (Task Text)
+serve_task job =
+    option_and_then (λ bay. option_and_then (λ program. option_and_then (λ port. option_and_then
+    (λ turns. option_and_then
+    (λ sends. fitting_task
+    (record {
+      bay = bay;
+      program = program;
+      port = port;
+      turns = turns;
+      sends_releases = sends;
+      options = options_of job;
+    })) (sends_releases job.process job.tell)) job.turns) job.port)
+    (program_of job)) job.bay
+
+-- the task of `compile`: its three files
+abbrev pub compile_task : JobData → Option (Task Text)
+compile_task job =
+    option_and_then (λ bay. option_and_then (λ logic. option_map (λ out. Compile bay logic out)
+    job.out) job.logic) job.bay
+
+-- the task of `audit`: a bay, a program, and rules or a diagram, or both, and the effort, if it was
+-- given
+abbrev pub audit_task : JobData → Option (Task Text)
+audit_task job =
+    option_and_then (λ bay. option_and_then
+    (λ program. if is_some job.rules || is_some job.diagram
+    then Some (Audit bay program job.rules job.diagram job.effort)
+    else None) (program_of job)) job.bay
+
+-- the task of a job
+abbrev pub task_by : Verb → JobData → Option (Task Text)
+task_by verb.Check job = check_task job
+task_by verb.Replay job = Some Replay
+task_by verb.Serve job = serve_task job
+task_by verb.Compile job = compile_task job
+task_by verb.Audit job = audit_task job
+
+abbrev pub task_for : JobData → Option (Task Text)
+task_for job = task_by job.verb job
+
+-- ---- words
+
+-- the parsed words, if they have no fault
+abbrev pub faultless : Kinds → Option (Text × List Row) → Option (Text × List Row)
+faultless [] read = read
+faultless (kind ∷ kinds) read = None
+
+-- the subcommand and its values, as `clap` parses the words; None if `clap` refuses them
+abbrev pub parsed_words : List Text → Option (Text × List Row)
+parsed_words words = faultless (fault_of job_app words) (subcommand_of job_app words)
+
+-- all options that words spell, and the task of them, if they spell one
+abbrev pub read_words : List Text → Option (JobData × Task Text)
+read_words words =
+    option_and_then (λ job. option_map (λ task. (job, task)) (task_for job))
+    (entered_job (parsed_words words))
+
+-- the task that the words spell, and whether the log is written
+abbrev pub task_in : List Text → Option (Invocation Text)
+task_in words = option_map (λ r. record { task = r.1; log = r.0.log }) (read_words words)
 
 -- the job that the words spell
 abbrev pub job_in : List Text → Option JobData
-job_in words = entered_job (parsed_words words)
+job_in words = option_map (λ r. r.0) (read_words words)

@@ -161,6 +161,12 @@ const ENTRIES: [Entry; 5] = [
                 help: "Most seconds for which a client may send nothing",
             },
             OptionSpec {
+                id: "cycle",
+                value: OptionValue::Number("MS", 1, 100),
+                required: false,
+                help: "Least milliseconds that a turn lasts",
+            },
+            OptionSpec {
                 id: "rules",
                 value: OptionValue::Text("F"),
                 required: false,

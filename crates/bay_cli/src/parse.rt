@@ -2,12 +2,12 @@
 ghost use Rattle.std.specs.Prelude.{◌≡◌, ◌⊎◌, codes, map, Some, None, IfOk, IfErr, option_and_then, option_map};
 ghost use Rattle.std.specs.Str.{bytes_eq};
 ghost use Rattle.clap.specs.Words.{first_of, rows_of, found_of, kind_of, subcommand_rows_of};
-ghost use Rattle.bay_cli.specs.Jobs.{parsed_words, audit_in, compile_in, check_in, job_in, number_of, program_in, serve_in, task_in};
+ghost use Rattle.bay_cli.specs.Jobs.{parsed_words, task_in};
 ghost use Rattle.bay_cli.specs.Jobs as spec;
-ghost use Rattle.bay_cli.specs.JobView.{invoked_view, job_view, program_view, task_view};
+ghost use Rattle.bay_cli.specs.JobView.{invoked_view, job_view, options_view, program_view, task_view};
 
 use crate::command::clap_command;
-use crate::task::{Invocation, ProgramFile, Task};
+use crate::task::{Invocation, ProgramFile, ServeOptions, ServeTask, Task};
 use clap::error::ErrorKind;
 use clap::{ArgMatches, Error};
 use std::alloc::{AllocError, Global};
@@ -64,6 +64,8 @@ pub struct Job<'a> {
     pub record_most: Option<u32>,
     /// The most seconds for which a client may send nothing, from 10 to 3,600.
     pub idle: Option<u32>,
+    /// The least milliseconds that a turn lasts, 1 to 100.
+    pub cycle: Option<u32>,
     /// The millions of octets of code that an audit looks at, 1 to 100,000.
     pub effort: Option<u32>,
     /// Whether the log is written.
@@ -90,8 +92,7 @@ fn value_of<'a>(found: &ArgMatches<'a>, id: &str) -> Option<&'a str>
 
 // Returns the port given with an option, 1 to 65,535.
 fn port_in(found: &ArgMatches<'_>, id: &str) -> Option<u16>
-    ensures { result ≡ option_and_then (number_of 1 65535)
-        (first_of id.now (rows_of (found_of found.now))) }
+    ensures { result ≡ spec.number_in id.now 1 65535 (rows_of (found_of found.now)) }
 {
     let port = value_of(found, id)?.parse::<u16>().ok()?;
     if port == 0 { None } else { Some(port) }
@@ -99,8 +100,7 @@ fn port_in(found: &ArgMatches<'_>, id: &str) -> Option<u16>
 
 // Returns the number given with an option, from the least to the greatest.
 fn number_in(found: &ArgMatches<'_>, id: &str, least: u32, greatest: u32) -> Option<u32>
-    ensures { result ≡ option_and_then (number_of least greatest)
-        (first_of id.now (rows_of (found_of found.now))) }
+    ensures { result ≡ spec.number_in id.now least greatest (rows_of (found_of found.now)) }
 {
     let number = value_of(found, id)?.parse::<u32>().ok()?;
     if number < least {
@@ -112,46 +112,69 @@ fn number_in(found: &ArgMatches<'_>, id: &str, least: u32, greatest: u32) -> Opt
     Some(number)
 }
 
-// Returns the number of turns.
-fn turns_in(found: &ArgMatches<'_>) -> Option<u32>
-    ensures { result ≡ spec.turns_in (rows_of (found_of found.now)) }
+// Returns whether the log is requested.
+fn is_log_requested(found: &ArgMatches<'_>) -> bool
+    ensures { result ≡ spec.logs (rows_of (found_of found.now)) }
 {
-    number_in(found, "turns", 0, 4_294_967_295)
+    matches!(value_of(found, "log"), Some("true"))
 }
 
-// Returns the longest silence of a supervised process, in milliseconds.
-fn limit_in(found: &ArgMatches<'_>) -> Option<u32>
-    ensures { result ≡ spec.limit_in (rows_of (found_of found.now)) }
+// Reads all options of a command.
+fn job_in<'a>(found: &ArgMatches<'a>, verb: Verb) -> Job<'a>
+    ensures { job_view result ≡ spec.job_with (rows_of (found_of found.now)) verb }
 {
-    number_in(found, "supervise", 100, 60_000)
+    Job {
+        verb,
+        bay: value_of(found, "bay"),
+        logic: value_of(found, "logic"),
+        image: value_of(found, "image"),
+        out: value_of(found, "out"),
+        trace: value_of(found, "trace"),
+        rules: value_of(found, "rules"),
+        diagram: value_of(found, "diagram"),
+        port: port_in(found, "port"),
+        turns: number_in(found, "turns", 0, 4_294_967_295),
+        process: port_in(found, "process"),
+        tell: value_of(found, "tell"),
+        supervise: number_in(found, "supervise", 100, 60_000),
+        key: value_of(found, "key"),
+        record_file: value_of(found, "record"),
+        record_most: number_in(found, "record-most", 1, 16_777_216),
+        idle: number_in(found, "idle", 10, 3_600),
+        cycle: number_in(found, "cycle", 1, 100),
+        effort: number_in(found, "effort", 1, 100_000),
+        log: is_log_requested(found),
+    }
 }
 
-// Returns the most octets of a record.
-fn most_in(found: &ArgMatches<'_>) -> Option<u32>
-    ensures { result ≡ spec.most_in (rows_of (found_of found.now)) }
+// Returns the verb of a subcommand.
+fn verb_named(name: &str) -> Option<Verb>
+    ensures { result ≡ spec.verb_named name.now }
 {
-    number_in(found, "record-most", 1, 16_777_216)
+    match name {
+        "check" => Some(Verb::Check),
+        "replay" => Some(Verb::Replay),
+        "serve" => Some(Verb::Serve),
+        "compile" => Some(Verb::Compile),
+        "audit" => Some(Verb::Audit),
+        _ => None,
+    }
 }
 
-// Returns the most seconds for which a client may send nothing.
-fn idle_in(found: &ArgMatches<'_>) -> Option<u32>
-    ensures { result ≡ spec.idle_in (rows_of (found_of found.now)) }
+// Returns all options of the parsed words.
+fn job_from<'a>(matches: &ArgMatches<'a>) -> Option<Job<'a>>
+    ensures { option_map job_view result ≡ spec.entered_job (subcommand_rows_of matches.now) }
 {
-    number_in(found, "idle", 10, 3_600)
-}
-
-// Returns the millions of octets of code that an audit looks at.
-fn effort_in(found: &ArgMatches<'_>) -> Option<u32>
-    ensures { result ≡ spec.effort_in (rows_of (found_of found.now)) }
-{
-    number_in(found, "effort", 1, 100_000)
+    let (name, found) = matches.subcommand()?;
+    let verb = verb_named(name)?;
+    Some(job_in(found, verb))
 }
 
 // Returns the program or the image that was named, if exactly one of the two was.
-fn program_from<'a>(found: &ArgMatches<'a>) -> Option<ProgramFile<&'a str>>
-    ensures { option_map program_view result ≡ program_in (rows_of (found_of found.now)) }
+fn program_of<'a>(job: &Job<'a>) -> Option<ProgramFile<&'a str>>
+    ensures { option_map program_view result ≡ spec.program_of (job_view job.now) }
 {
-    match (value_of(found, "logic"), value_of(found, "image")) {
+    match (job.logic, job.image) {
         (Some(logic), None) => Some(ProgramFile::Logic(logic)),
         (None, Some(image)) => Some(ProgramFile::Image(image)),
         (Some(_), Some(_)) => None,
@@ -160,11 +183,11 @@ fn program_from<'a>(found: &ArgMatches<'a>) -> Option<ProgramFile<&'a str>>
 }
 
 // Returns the task of `check` with these options.
-fn check_from<'a>(found: &ArgMatches<'a>) -> Option<Task<&'a str>>
-    ensures { option_map task_view result ≡ check_in (rows_of (found_of found.now)) }
+fn check_task<'a>(job: &Job<'a>) -> Option<Task<&'a str>>
+    ensures { option_map task_view result ≡ spec.check_task (job_view job.now) }
 {
-    let bay = value_of(found, "bay")?;
-    let program = program_from(found)?;
+    let bay = job.bay?;
+    let program = program_of(job)?;
     Some(Task::Check { bay, program })
 }
 
@@ -205,72 +228,68 @@ fn reports_releases(process: Option<u16>, word: Option<&str>) -> Option<bool>
     }
 }
 
+// Returns the options of `serve` that may be left out.
+fn options_of<'a>(job: &Job<'a>) -> ServeOptions<&'a str>
+    ensures { options_view result ≡ spec.options_of (job_view job.now) }
+{
+    ServeOptions {
+        trace: job.trace,
+        process: job.process,
+        limit_ms: job.supervise,
+        key: job.key,
+        record_file: job.record_file,
+        record_most: job.record_most,
+        idle_s: job.idle,
+        cycle_ms: job.cycle,
+        rules: job.rules,
+        diagram: job.diagram,
+    }
+}
+
 // Returns whether the options of a supervised process are given with those that they need, and not
 // with a trace.
-fn is_supervisable(
-    process: Option<u16>,
-    trace: Option<&str>,
-    limit: Option<u32>,
-    key: Option<&str>,
-) -> bool
-    ensures { result ≡ spec.is_supervisable process (option_map (λ s. s.now) trace.entry) limit
-        (option_map (λ s. s.now) key.entry) }
+fn is_supervisable(options: &ServeOptions<&str>) -> bool
+    ensures { result ≡ spec.is_supervisable (options_view options.now) }
 {
-    match limit {
-        Some(_) => process.is_some() && trace.is_none(),
-        None => key.is_none(),
+    match options.limit_ms {
+        Some(_) => options.process.is_some() && options.trace.is_none(),
+        None => options.key.is_none(),
     }
 }
 
 // Returns the task of `serve` with these options.
-fn serve_from<'a>(found: &ArgMatches<'a>) -> Option<Task<&'a str>>
-    ensures { option_map task_view result ≡ serve_in (rows_of (found_of found.now)) }
+fn serve_task<'a>(job: &Job<'a>) -> Option<Task<&'a str>>
+    ensures { option_map task_view result ≡ spec.serve_task (job_view job.now) }
 {
-    let bay = value_of(found, "bay")?;
-    let program = program_from(found)?;
-    let port = port_in(found, "port")?;
-    let turns = turns_in(found)?;
-    let trace = value_of(found, "trace");
-    let process = port_in(found, "process");
-    let sends_releases = reports_releases(process, value_of(found, "tell"))?;
-    let limit_ms = limit_in(found);
-    let key = value_of(found, "key");
-    let record_file = value_of(found, "record");
-    let record_most = most_in(found);
-    let idle_s = idle_in(found);
-    let rules = value_of(found, "rules");
-    let diagram = value_of(found, "diagram");
-    if !ports_differ(port, process)
-        || !is_supervisable(process, trace, limit_ms, key)
-        || record_file.is_none() && record_most.is_some()
+    let options = options_of(job);
+    let bay = job.bay?;
+    let program = program_of(job)?;
+    let port = job.port?;
+    let turns = job.turns?;
+    let sends_releases = reports_releases(options.process, job.tell)?;
+    if !ports_differ(port, options.process)
+        || !is_supervisable(&options)
+        || options.record_file.is_none() && options.record_most.is_some()
     {
         return None;
     }
-    Some(Task::Serve {
+    Some(Task::Serve(ServeTask {
         bay,
         program,
         port,
         turns,
-        trace,
-        process,
         sends_releases,
-        limit_ms,
-        key,
-        record_file,
-        record_most,
-        idle_s,
-        rules,
-        diagram,
-    })
+        options,
+    }))
 }
 
 // Returns the task of `audit` with these options.
-fn audit_from<'a>(found: &ArgMatches<'a>) -> Option<Task<&'a str>>
-    ensures { option_map task_view result ≡ audit_in (rows_of (found_of found.now)) }
+fn audit_task<'a>(job: &Job<'a>) -> Option<Task<&'a str>>
+    ensures { option_map task_view result ≡ spec.audit_task (job_view job.now) }
 {
-    let bay = value_of(found, "bay")?;
-    let program = program_from(found)?;
-    let (rules, diagram) = (value_of(found, "rules"), value_of(found, "diagram"));
+    let bay = job.bay?;
+    let program = program_of(job)?;
+    let (rules, diagram) = (job.rules, job.diagram);
     if rules.is_none() && diagram.is_none() {
         return None;
     }
@@ -279,152 +298,72 @@ fn audit_from<'a>(found: &ArgMatches<'a>) -> Option<Task<&'a str>>
         program,
         rules,
         diagram,
-        effort: effort_in(found),
+        effort: job.effort,
     })
 }
 
 // Returns the task of `compile` with these options.
-fn compile_from<'a>(found: &ArgMatches<'a>) -> Option<Task<&'a str>>
-    ensures { option_map task_view result ≡ compile_in (rows_of (found_of found.now)) }
+fn compile_task<'a>(job: &Job<'a>) -> Option<Task<&'a str>>
+    ensures { option_map task_view result ≡ spec.compile_task (job_view job.now) }
 {
-    let bay = value_of(found, "bay")?;
-    let logic = value_of(found, "logic")?;
-    let out = value_of(found, "out")?;
+    let bay = job.bay?;
+    let logic = job.logic?;
+    let out = job.out?;
     Some(Task::Compile { bay, logic, out })
 }
 
-// Returns whether the log is requested.
-fn logs(found: &ArgMatches<'_>) -> bool
-    ensures { result ≡ spec.logs (rows_of (found_of found.now)) }
+// Returns the task of a command line with these options.
+fn task_for<'a>(job: &Job<'a>) -> Option<Task<&'a str>>
+    ensures { option_map task_view result ≡ spec.task_for (job_view job.now) }
 {
-    matches!(value_of(found, "log"), Some("true"))
-}
-
-// Returns the task of a subcommand with these options.
-fn named_task<'a>(name: &str, found: &ArgMatches<'a>) -> Option<Task<&'a str>>
-    ensures { option_map task_view result
-        ≡ spec.named_task name.now (rows_of (found_of found.now)) }
-{
-    match name {
-        "check" => check_from(found),
-        "replay" => Some(Task::Replay),
-        "serve" => serve_from(found),
-        "compile" => compile_from(found),
-        "audit" => audit_from(found),
-        _ => None,
+    match job.verb {
+        Verb::Check => check_task(job),
+        Verb::Replay => Some(Task::Replay),
+        Verb::Serve => serve_task(job),
+        Verb::Compile => compile_task(job),
+        Verb::Audit => audit_task(job),
     }
-}
-
-// Returns the task of the parsed words.
-fn task_from<'a>(matches: &ArgMatches<'a>) -> Option<Invocation<&'a str>>
-    ensures { option_map invoked_view result ≡ spec.entered_task (subcommand_rows_of matches.now) }
-{
-    let (name, found) = matches.subcommand()?;
-    let task = named_task(name, found)?;
-    Some(Invocation {
-        task,
-        log: logs(found),
-    })
-}
-
-// Returns the verb of a task.
-fn verb_of(task: &Task<&str>) -> Verb
-    ensures { result ≡ spec.verb_of (task_view task.now) }
-{
-    match task {
-        Task::Check { .. } => Verb::Check,
-        Task::Replay => Verb::Replay,
-        Task::Serve { .. } => Verb::Serve,
-        Task::Compile { .. } => Verb::Compile,
-        Task::Audit { .. } => Verb::Audit,
-    }
-}
-
-// Makes a job from a verb and the values of its options.
-fn with_options<'a>(found: &ArgMatches<'a>, verb: Verb) -> Job<'a>
-    ensures { job_view result ≡ spec.with_options (rows_of (found_of found.now)) verb }
-{
-    Job {
-        verb,
-        bay: value_of(found, "bay"),
-        logic: value_of(found, "logic"),
-        image: value_of(found, "image"),
-        out: value_of(found, "out"),
-        trace: value_of(found, "trace"),
-        rules: value_of(found, "rules"),
-        diagram: value_of(found, "diagram"),
-        port: port_in(found, "port"),
-        turns: turns_in(found),
-        process: port_in(found, "process"),
-        tell: value_of(found, "tell"),
-        supervise: limit_in(found),
-        key: value_of(found, "key"),
-        record_file: value_of(found, "record"),
-        record_most: most_in(found),
-        idle: idle_in(found),
-        effort: effort_in(found),
-        log: logs(found),
-    }
-}
-
-// Returns the job of the parsed words.
-fn job_from<'a>(matches: &ArgMatches<'a>) -> Option<Job<'a>>
-    ensures { option_map job_view result ≡ spec.entered_job (subcommand_rows_of matches.now) }
-{
-    let (name, found) = matches.subcommand()?;
-    let task = named_task(name, found)?;
-    Some(with_options(found, verb_of(&task)))
 }
 
 // Returns the usage of a command that requires either a program or an image.
-fn usage_of(name: &str) -> &'static str {
-    match name {
-        "serve" => {
-            "bayctl serve --bay <F> <--logic <F>|--image <F>> --port <N> --turns <N> [--trace <F>] [--process <P>] [--tell <WHAT>] [--supervise <MS>] [--key <F>] [--record <F>] [--record-most <OCTETS>] [--idle <S>] [--rules <F>] [--diagram <F>] [--log]"
+fn usage_of(verb: Verb) -> &'static str {
+    match verb {
+        Verb::Serve => {
+            "bayctl serve --bay <F> <--logic <F>|--image <F>> --port <N> --turns <N> [--trace <F>] [--process <P>] [--tell <WHAT>] [--supervise <MS>] [--key <F>] [--record <F>] [--record-most <OCTETS>] [--idle <S>] [--cycle <MS>] [--rules <F>] [--diagram <F>] [--log]"
         }
-        "audit" => {
+        Verb::Audit => {
             "bayctl audit --bay <F> <--logic <F>|--image <F>> [--rules <F>] [--diagram <F>] [--effort <N>] [--log]"
         }
         _ => "bayctl check --bay <F> <--logic <F>|--image <F>> [--log]",
     }
 }
 
-// Returns what is wrong with the options of a command, if `clap` accepts each of them.
-fn wrong_options(name: &str, found: &ArgMatches<'_>) -> &'static str {
-    if program_from(found).is_none() {
-        return "exactly one of --logic and --image is needed";
-    }
-    if matches!(name, "audit") {
-        return "--rules or --diagram, or both, are needed";
-    }
-    let tell = value_of(found, "tell");
-    if matches!(tell, Some(word) if !is_releases(word)) {
-        return "invalid value for '--tell <WHAT>'\n  [possible values: releases]";
-    }
-    let process = port_in(found, "process");
-    let limit = limit_in(found);
-    if process.is_none() && (tell.is_some() || limit.is_some()) {
+// Returns what is wrong with the options of a command, if `clap` accepts each of them: both or
+// neither of a program and an image, an audit of nothing, one port for both the clients and the
+// process, a report other than `releases`, supervision or a report without a process, a key without
+// supervision, supervision after a trace, or a size without a record.
+fn wrong_options(job: &Job<'_>) -> &'static str {
+    if program_of(job).is_none() {
+        "exactly one of --logic and --image is needed"
+    } else if matches!(job.verb, Verb::Audit) {
+        "--rules or --diagram, or both, are needed"
+    } else if matches!(job.tell, Some(word) if !is_releases(word)) {
+        "invalid value for '--tell <WHAT>'\n  [possible values: releases]"
+    } else if job.process.is_none() && (job.tell.is_some() || job.supervise.is_some()) {
         "the following required arguments were not provided:\n  --process <P>"
-    } else if limit.is_none() && value_of(found, "key").is_some() {
+    } else if job.supervise.is_none() && job.key.is_some() {
         "the following required arguments were not provided:\n  --supervise <MS>"
-    } else if limit.is_some() && value_of(found, "trace").is_some() {
+    } else if job.supervise.is_some() && job.trace.is_some() {
         "the argument '--trace <F>' cannot be used with '--supervise <MS>'"
-    } else if most_in(found).is_some() && value_of(found, "record").is_none() {
+    } else if job.record_most.is_some() && job.record_file.is_none() {
         "the following required arguments were not provided:\n  --record <F>"
     } else {
         "--process wants another port than --port"
     }
 }
 
-// Makes the refusal of a command whose options `clap` accepts one by one: both or neither of a
-// program and an image, an audit of nothing, one port for both the clients and the process, a
-// report other than `releases`, supervision or a report without a process, a key without
-// supervision, supervision after a trace, or a size without a record.
-fn refused_options(alloc: Global, matches: &ArgMatches<'_>) -> WordsFault {
-    let (wrong, usage) = match matches.subcommand() {
-        Some((name, found)) => (wrong_options(name, found), usage_of(name)),
-        None => ("a command is needed", "bayctl <COMMAND>"),
-    };
+// Makes the refusal of a command whose options `clap` accepts one by one.
+fn refused_options(alloc: Global, wrong: &str, usage: &str) -> WordsFault {
     match format!(in alloc;
         "error: {wrong}\n\nUsage: {usage}\n\nFor more information, try '--help'.\n"
     ) {
@@ -464,6 +403,26 @@ fn matches_of<'a>(alloc: Global, words: &'a [&'a str]) -> Result<ArgMatches<'a>,
     }
 }
 
+// Returns all options that words spell, and the task of them.
+fn read_words<'a>(
+    alloc: Global,
+    words: &'a [&'a str],
+) -> Result<(Job<'a>, Task<&'a str>), WordsFault>
+    ensures ok { IfOk result (λ r. spec.read_words (map (λ w. w.now) words.entry.now)
+        ≡ Some (job_view r.0, task_view r.1)) }
+    ensures refused { IfErr result (λ e. (e ≡ WordsFault.OutOfMemory)
+        ⊎ (spec.read_words (map (λ w. w.now) words.entry.now) ≡ None)) }
+{
+    let matches = matches_of(alloc, words)?;
+    let Some(job) = job_from(&matches) else {
+        return Err(refused_options(alloc, "a command is needed", "bayctl <COMMAND>"));
+    };
+    match task_for(&job) {
+        Some(task) => Ok((job, task)),
+        None => Err(refused_options(alloc, wrong_options(&job), usage_of(job.verb))),
+    }
+}
+
 /// Returns the task that the words after the program's name spell. `check` takes a bay file and
 /// either a program or an image; `replay` takes nothing. `serve` takes what `check` takes, a port
 /// and a number of turns. It may have a trace, and a process on another port, to which releases may
@@ -478,22 +437,18 @@ pub fn task_of<'a>(alloc: Global, words: &'a [&'a str]) -> Result<Invocation<&'a
     ensures refused { IfErr result
         (λ e. (e ≡ WordsFault.OutOfMemory) ⊎ (task_in (map (λ w. w.now) words.entry.now) ≡ None)) }
 {
-    let matches = matches_of(alloc, words)?;
-    match task_from(&matches) {
-        Some(task) => Ok(task),
-        None => Err(refused_options(alloc, &matches)),
-    }
+    let (job, task) = read_words(alloc, words)?;
+    Ok(Invocation { task, log: job.log })
 }
 
 /// Like `task_of`, but returns a record of all options.
 pub fn job_of<'a>(alloc: Global, words: &'a [&'a str]) -> Result<Job<'a>, WordsFault>
-    ensures ok { IfOk result (λ j. job_in (map (λ w. w.now) words.entry.now) ≡ Some (job_view j)) }
+    ensures ok { IfOk result
+        (λ j. spec.job_in (map (λ w. w.now) words.entry.now) ≡ Some (job_view j)) }
     ensures refused { IfErr result
-        (λ e. (e ≡ WordsFault.OutOfMemory) ⊎ (job_in (map (λ w. w.now) words.entry.now) ≡ None)) }
+        (λ e. (e ≡ WordsFault.OutOfMemory)
+        ⊎ (spec.job_in (map (λ w. w.now) words.entry.now) ≡ None)) }
 {
-    let matches = matches_of(alloc, words)?;
-    match job_from(&matches) {
-        Some(job) => Ok(job),
-        None => Err(refused_options(alloc, &matches)),
-    }
+    let (job, _task) = read_words(alloc, words)?;
+    Ok(job)
 }

@@ -1,6 +1,6 @@
 -- What follows the line of a load that is compiled.
 use Rattle.bay_io.specs.Calls.{WriteCall}
-use Rattle.std.proofs.Common.{◌≡◌, ℕ, List, Option, Some, None, is_some, option_map, Result, Ok, Err, IsErr, Bor, refl}
+use Rattle.std.proofs.Common.{◌≡◌, ℕ, List, Option, Result, Ok, Err, IsErr, refl}
 use Rattle.il_image.specs.Images.{Image}
 use Rattle.bay_load.specs.Report.{IsReport}
 use Rattle.bay_load.specs.declared.report.Report.{Report}
@@ -29,9 +29,3 @@ line-fails writes contents asks out image report is files old middle fault print
       printed = printed;
       continuation = (refl, refl, refl);
     }
-
--- there is a name if there is a reference to one
-pub is_some-view : (name : Option (Bor (List ℕ)))
-    → is_some (option_map (λ name. name.now) name) ≡ is_some name
-is_some-view (Some name) = refl
-is_some-view None = refl

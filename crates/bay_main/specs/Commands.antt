@@ -1,13 +1,12 @@
 -- What the commands do: what is printed, the exit status, and what becomes of files.
 use Rattle.bay_io.specs.Calls.{WriteCall}
-use Rattle.std.specs.Prelude.{◌≡◌, ℕ, Bool, true, false, List, codes, Option, None, Some, is_some, unwrap_or, Result, Ok, Err, is_err, ◌⊎◌, if◌then◌else◌}
+use Rattle.std.specs.Prelude.{◌≡◌, ℕ, Bool, true, false, List, codes, Option, None, Some, Result, Ok, Err, is_err, ◌⊎◌, if◌then◌else◌}
 use Rattle.il_image.specs.Images.{Image as Code, image_octets}
 use Rattle.il_image.specs.declared.opcode.Version.TheVariants.{Two}
 use Rattle.bay_load.specs.Loads.{LoadData, MayLoadTo}
 use Rattle.bay_load.specs.Report.{IsReport as IsReportOf}
 use Rattle.bay_load.specs.declared.error.LoadError.{LoadError}
 use Rattle.bay_load.specs.declared.load.Form.{Form}
-use Rattle.bay_load.specs.declared.load.Form.TheVariants as form
 use Rattle.bay_load.specs.declared.report.Report.{Report}
 use Rattle.bay_io.specs.Watched.{ReaderState, WriterState}
 use Rattle.bay_io.specs.declared.outbox.WriteFault.{WriteFault}
@@ -17,8 +16,6 @@ use Rattle.bay_files.specs.declared.files.FileFault.TheVariants as unwritten
 use Rattle.std.specs.declared.io.ErrorKind.{ErrorKind}
 use Rattle.std.specs.declared.io.ErrorKind.TheVariants as kind
 use Rattle.bay_cli.specs.Jobs.{task_in}
-use Rattle.bay_cli.specs.declared.task.ProgramFile.{ProgramFile}
-use Rattle.bay_cli.specs.declared.task.ProgramFile.TheVariants.{Logic, Image}
 use Rattle.bay_cli.specs.declared.task.Invocation.{Invocation}
 use Rattle.bay_cli.specs.declared.task.Task.{Task}
 use Rattle.bay_cli.specs.declared.task.Task.TheVariants.{Check, Replay, Serve, Compile, Audit}
@@ -30,7 +27,7 @@ use Rattle.bay_report.specs.LogLines.{LogsIfAny, PrintsLogs, RefusalReport, Unre
 use Rattle.bay_report.specs.Report.{IsOutput, Prints, report_text}
 use Rattle.cmd_replay.specs.Replay.{ReplayReport}
 use Rattle.cmd_audit.specs.Auditing.{Audits}
-use Rattle.cmd_serve.specs.Serve.{ServesFiles}
+use Rattle.cmd_serve.specs.Serve.{ServesFiles, form_of, is_recorded, name_of}
 use Rattle.bay_server.specs.Host.{HostCall}
 use Rattle.bay_server_turn.specs.Calls.{Call}
 
@@ -159,20 +156,6 @@ IsRefused (Status status) = ⊥
 IsRefused WriteFailed = ⊥
 IsRefused (Refused text) = Unit {0}
 
--- the form of a program, and the name of its file
-abbrev pub form_of : ProgramFile (List ℕ) → Form
-form_of (Logic name) = form.Logic
-form_of (Image name) = form.Image
-
-abbrev pub name_of : ProgramFile (List ℕ) → List ℕ
-name_of (Logic name) = name
-name_of (Image name) = name
-
--- the most octets of a record, if one is named: 16,000,000 if the command names no number
-abbrev pub record_room : Option (List ℕ) → Option ℕ → Option ℕ
-record_room None most = None
-record_room (Some name) most = Some (unwrap_or most 16000000)
-
 -- the log is started, if the command has this option
 abbrev pub logging : {W : Type 0} → Bool → WriterState W → WriterState W
 logging log writer = if log then record writer { logs = true } else writer
@@ -221,29 +204,10 @@ module _ {F L H R W : Type 0} (reads : FileReads F) (guards : ProtectedReads F)
   DoesTask Replay old new answer =
       PrintsLogs contents asks (ReplayReport (remaining old.reader.inner) new.reader.has_failed)
       old.writer new.writer answer × (new.files ≡ old.files) × (new.host ≡ old.host)
-  DoesTask
-      (Serve bay program port turns trace process sends limit key file most idle rules diagram) old
-      new answer =
-      ServesFiles step acts contents asks reads guards old.files
-      (record {
-        bay = bay;
-        form = form_of program;
-        program = name_of program;
-        trace = trace;
-        key = key;
-        rules = rules;
-        diagram = diagram;
-      })
-      (record {
-        port = port;
-        turns = turns;
-        process = process;
-        sends_releases = sends;
-        limit_ms = limit;
-        idle_s = idle;
-        record_most = record_room file most;
-      }) old.host new.host old.writer new.writer answer
-      × (is_some file ≡ false → new.files ≡ old.files) × (new.reader ≡ old.reader)
+  DoesTask (Serve task) old new answer =
+      ServesFiles step acts contents asks reads guards old.files task old.host new.host old.writer
+      new.writer answer
+      × (is_recorded task.options ≡ false → new.files ≡ old.files) × (new.reader ≡ old.reader)
 
   -- The arguments spell a task, and it is executed, with the log if they have this option.
   pub record ExecutesTask (words : List (List ℕ)) (old new : CommandEnvironment F H R W)

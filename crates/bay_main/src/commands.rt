@@ -1,15 +1,14 @@
 // Executes a command, over files by their names, a reader and a writer.
-ghost use Rattle.std.specs.Prelude.{◌≡◌, map, is_some, None, Result, Ok, option_map};
+ghost use Rattle.std.specs.Prelude.{◌≡◌, map, Result, Ok};
 ghost use Rattle.bay_server_turn.specs.Calls.{CountedCall};
-ghost use Rattle.bay_main.specs.Commands.{Checks, Compiles, CompilesImage, CompilesOctets, DoesTask, Obeys, Unwritten, WritesImage, logging, name_of, unprinted_line};
-ghost use Rattle.bay_main.specs.Commands as spec;
+ghost use Rattle.bay_main.specs.Commands.{Checks, Compiles, CompilesImage, CompilesOctets, DoesTask, Obeys, Unwritten, WritesImage, logging, unprinted_line};
 ghost use Rattle.bay_report.specs.LogLines.{LogsIfAny};
-ghost use Rattle.bay_cli.specs.JobView.{program_view, task_view};
+ghost use Rattle.bay_cli.specs.JobView.{task_view};
 
 use crate::check::check_octets;
 use crate::ending::CommandResult;
 use bay_cli::parse::{WordsFault, task_of};
-use bay_cli::task::{Invocation, ProgramFile, Task};
+use bay_cli::task::{Invocation, Task};
 use bay_files::files::{BothFiles, FileFault, FileSystem, read_files, write_atomically};
 use bay_io::calls::{OctetSource, Sink};
 use bay_io::outbox::WriteFault;
@@ -23,15 +22,11 @@ use bay_server::host::Host;
 use bay_server_turn::link::Link;
 use cmd_audit::audit_files::{AuditedFiles, audit_files};
 use cmd_replay::replay::replay_reader;
-use cmd_serve::serve::{NamedFiles, ServeOptions, serve};
+use cmd_serve::serve::{form_of, serve};
 use il_image::encode::encode;
 use il_image::image::Image;
 use std::alloc::{AllocError, Global};
 use std::io::ErrorKind;
-
-// The maximum number of octets of a record, unless the command has another: with the bay file and
-// the program such a record is a scenario that can be replayed.
-const MOST: u32 = 16_000_000;
 
 // Checks a bay file and a program or an image, by their names.
 fn check<F: FileSystem, W: Sink>(
@@ -153,29 +148,6 @@ fn compile<F: FileSystem, W: Sink>(
     }
 }
 
-// Returns the form of a program and the name of its file.
-fn form_of<'a>(program: ProgramFile<&'a str>) -> (Form, &'a str)
-    ensures form { result.0 ≡ spec.form_of (program_view program.entry) }
-    ensures name { result.1.now ≡ name_of (program_view program.entry) }
-{
-    match program {
-        ProgramFile::Logic(name) => (Form::Logic, name),
-        ProgramFile::Image(name) => (Form::Image, name),
-    }
-}
-
-// Returns the most octets of a record, if one is named.
-fn record_room(record_file: Option<&str>, record_most: Option<u32>) -> Option<u32>
-    ensures room { result
-        ≡ spec.record_room (option_map (λ name. name.now) record_file.entry) record_most }
-    ensures named { is_some result ≡ is_some record_file.entry }
-{
-    match record_file {
-        Some(_) => Some(record_most.unwrap_or(MOST)),
-        None => None,
-    }
-}
-
 // Executes a task.
 fn do_task<F: FileSystem, L: Link + Drop, H: Host<L>, R: OctetSource, W: Sink>(
     alloc: Global,
@@ -197,43 +169,7 @@ fn do_task<F: FileSystem, L: Link + Drop, H: Host<L>, R: OctetSource, W: Sink>(
             check(alloc, form, bay, program, files, writer)
         }
         Task::Replay => replay_reader(alloc, reader, writer),
-        Task::Serve {
-            bay,
-            program,
-            port,
-            turns,
-            trace,
-            process,
-            sends_releases,
-            limit_ms,
-            key,
-            record_file,
-            record_most,
-            idle_s,
-            rules,
-            diagram,
-        } => {
-            let (form, program) = form_of(program);
-            let named = NamedFiles {
-                bay,
-                form,
-                program,
-                trace,
-                key,
-                rules,
-                diagram,
-            };
-            let options = ServeOptions {
-                port,
-                turns,
-                process,
-                sends_releases,
-                limit_ms,
-                idle_s,
-                record_most: record_room(record_file, record_most),
-            };
-            serve(alloc, named, record_file, files, host, options, writer)
-        }
+        Task::Serve(task) => serve(alloc, task, files, host, writer),
         Task::Compile { bay, logic, out } => compile(alloc, bay, logic, out, files, writer),
         Task::Audit {
             bay,

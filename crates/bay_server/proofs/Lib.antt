@@ -1,5 +1,6 @@
 pub mod ChangeLemmas
 pub mod ClockLemmas
+pub mod CycleLemmas
 pub mod LineCountLemmas
 pub mod LogLemmas
 pub mod ServeLemmas

@@ -7,11 +7,11 @@ use Rattle.bay_io.specs.Sent.{Logs}
 use Rattle.bay_io.specs.Watched.{WriterState}
 use Rattle.bay_io.specs.declared.outbox.WriteFault.{WriteFault}
 use Rattle.bay_report.proofs.ReportLemmas.{nil-from-length}
-use Rattle.bay_server.specs.Clock.{ClockData, after_reading, jump_of, moment_read, shift_of}
-use Rattle.bay_server.specs.Host.{HostCall, Pauses, ReadsTimes}
+use Rattle.bay_server.specs.Clock.{ClockData, after_reading, jump_of, moment_read, shift_of, turn_end}
+use Rattle.bay_server.specs.Host.{HostCall, ReadsTimes}
 use Rattle.bay_report.specs.Report.{IsOutput, Prints}
 use Rattle.bay_report.specs.TextLines.{CutsLine, lines_of}
-use Rattle.bay_server.specs.ServeReport.{AfterTurn, ChosenInput, ProcessData, PollsProcess, MayPause, ServiceState, ServesTurns, ReportsAndPolls, ReportsConnectionEvent, ReportsTurn, ReportsTurnRefusal, TurnRefused, TurnServed, chosen_input, choose_input, moment_of, numbered_lines}
+use Rattle.bay_server.specs.ServeReport.{AfterTurn, AwaitsNext, AwaitsTurn, ChosenInput, ProcessData, PollsProcess, ServiceState, ServesTurns, ReportsAndPolls, ReportsConnectionEvent, ReportsTurn, ReportsTurnRefusal, TurnRefused, TurnServed, chosen_input, choose_input, moment_of, numbered_lines}
 use Rattle.bay_process_port.specs.declared.connection_event.ConnectionEvent.{ConnectionEvent}
 use Rattle.bay_server.specs.Serving.{TriesTurn}
 use Rattle.bay_server.specs.ChangeLines.{bay_view}
@@ -476,13 +476,11 @@ module _ {L H W : Type 0} (step : L → Call → L → Type 0) (acts : H → Hos
   failed-cut before old after new fault (Err f) e fails =
       inr (fails-cut before old after.host new fault f fails)
 
-  -- there was a pause behind it, or none
-  pub may-pause : (before : ServiceState L H) (after : H)
-      → (after ≡ before.host) ⊎ acts before.host Pauses after
-      → MayPause acts before (record before { host = after })
-  may-pause before after (inl same) =
-      inl (ap (λ (h : H). record before { host = h }) same)
-  may-pause before after (inr paused) = inr (paused, refl)
+  -- what was waited for after it
+  pub awaits-next : (before : ServiceState L H) (after : H)
+      → AwaitsTurn acts (turn_end before.clock) before.host after
+      → AwaitsNext acts before (record before { host = after })
+  awaits-next before after awaits = (awaits, refl)
 
 -- ---- how far serving has come
 
@@ -513,7 +511,7 @@ module _ {L H W : Type 0} (step : L → Call → L → Type 0) (acts : H → Hos
         (was_idle : Bool)
         → t ≡ tried.Done was_idle
         → TriesTurn step acts contents asks here mid after new (Ok t)
-        → MayPause acts after next
+        → AwaitsNext acts after next
         → Reached turns before old more next new
     Reached-done after next new (tried.Done w) was_idle is goes pause = record {
       goes = λ host last answer s. reached.goes host last answer

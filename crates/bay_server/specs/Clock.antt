@@ -1,19 +1,20 @@
 -- The clock of a server: the system's time at its start, carried on by a clock that does not jump.
-use Rattle.std.specs.Prelude.{◌≡◌, ℕ, ◌+◌, ◌-◌, ◌/◌, ◌%◌, ◌^◌, ◌≤◌, nat_le, nat_lt, min, max, Bool, true, false, List, [], ◌∷◌, Option, None, Some, if◌then◌else◌}
+use Rattle.std.specs.Prelude.{◌≡◌, ℕ, ◌+◌, ◌-◌, ◌/◌, ◌%◌, ◌^◌, ◌≤◌, nat_le, nat_lt, min, max, Bool, true, false, List, [], ◌∷◌, Option, None, Some, option_map, if◌then◌else◌}
 use Rattle.bay_server.specs.declared.clock.Clocks.{Clocks}
 use Rattle.bay_server.specs.declared.clock.ClockShift.{ClockShift}
 use Rattle.bay_server.specs.declared.clock.ClockSide.{ClockSide}
 use Rattle.bay_server.specs.declared.clock.ClockSide.TheVariants.{Near, Ahead, Behind}
 
 -- the last moment, the latest time of the steady clock, the last time of the system's clock, what
--- has passed and was not yet enough to draw the moment by a millisecond, and where the system's
--- time was
+-- has passed and was not yet enough to draw the moment by a millisecond, where the system's time
+-- was, and the least milliseconds that a turn lasts, if there are some
 pub record ClockData : Type 0 where
   pub moment : ℕ
   pub steady : ℕ
   pub system : ℕ
   pub carry : ℕ
   pub side : ClockSide
+  pub cycle : Option ℕ
 
 -- the side of a system's time, relative to a moment: at most 1,000 milliseconds away, more than
 -- that ahead, or more than that late
@@ -36,14 +37,15 @@ shift_of was moment system =
     if is_same_side side was then None
     else Some (record { side = side; distance = (system - moment) + (moment - system) })
 
--- the clock as it starts
-abbrev pub initial_clock : Clocks → ClockData
-initial_clock clocks = record {
+-- the clock as it starts, for turns that last at least this many milliseconds, if a number is given
+abbrev pub initial_clock : Clocks → Option ℕ → ClockData
+initial_clock clocks cycle = record {
   moment = clocks.system;
   steady = clocks.steady;
   system = clocks.system;
   carry = 0;
   side = Near;
+  cycle = cycle;
 }
 
 -- the time that has passed by the steady clock since the last reading; 0 if that clock went back
@@ -79,7 +81,13 @@ after_reading clocks c = record {
   system = clocks.system;
   carry = (c.carry + elapsed_time clocks c) % 100;
   side = side_of (moment_read clocks c) clocks.system;
+  cycle = c.cycle;
 }
+
+-- the time of the steady clock at which a turn may end that began at the last reading, if turns
+-- have a least length
+abbrev pub turn_end : ClockData → Option ℕ
+turn_end c = option_map (λ ms. min (c.steady + ms) (2 ^ 64 - 1)) c.cycle
 
 -- the clock after several readings
 abbrev pub after_readings : List Clocks → ClockData → ClockData

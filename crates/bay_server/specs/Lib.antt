@@ -5,10 +5,11 @@
 -- read, the turn is one of bay_server_turn's, and what it reports is printed and flushed; up to a
 -- turn that is refused, or whose lines could not be written.
 --
--- `Host`: the calls of the system: ports and links, the times of two clocks, a pause. `Clock`: the
--- server's clock, which advances as the steady one does. `TurnLines`: what is printed for a turn,
--- and for one that is refused. `LogLines`: what is logged of ports, of associations, of the process
--- and of the end, line by line; `ChangeLines`: of a turn; `RecordLine`: of a record.
+-- `Host`: the calls of the system: ports and links, the times of two clocks, a pause and a wait.
+-- `Clock`: the server's clock, which advances as the steady one does. `Cycle`: how long turns last.
+-- `TurnLines`: what is printed for a turn, and for one that is refused. `LogLines`: what is logged
+-- of ports, of associations, of the process and of the end, line by line; `ChangeLines`: of a turn;
+-- `RecordLine`: of a record.
 -- `ConnectionLines`: how many lines of clients' connections are logged in a second.
 -- `Logging`: lines that are logged one after the other. `Serving`: the result of one try of a turn.
 
@@ -28,6 +29,7 @@ pub use Rattle.bay_server_turn.specs.Turns
 pub mod ChangeLines
 pub mod Clock
 pub mod ConnectionLines
+pub mod Cycle
 pub mod Host
 pub mod LogLines
 pub mod Logging

@@ -6,8 +6,8 @@ use Rattle.bay_device.specs.Device.{State}
 use Rattle.bay_io.specs.Sent.{Logs}
 use Rattle.bay_io.specs.Watched.{WriterState}
 use Rattle.bay_io.specs.declared.outbox.WriteFault.{WriteFault}
-use Rattle.bay_server.specs.Clock.{ClockData, after_reading, jump_of, moment_read, shift_of}
-use Rattle.bay_server.specs.Host.{HostCall, ReadsTimes, Pauses}
+use Rattle.bay_server.specs.Clock.{ClockData, after_reading, jump_of, moment_read, shift_of, turn_end}
+use Rattle.bay_server.specs.Host.{HostCall, ReadsTimes, Pauses, WaitsUntil}
 use Rattle.bay_report.specs.Report.{IsOutput, Prints}
 use Rattle.bay_server.specs.TurnLines.{is_quiet, connection_event_text, turn_text, turn_refusal_text}
 use Rattle.bay_server.specs.Logging.{LogsAll}
@@ -183,12 +183,26 @@ pub record ReadsClocks {L H W : Type 0} (acts : H → HostCall L → H → Type 
   pub logged : LogsAll contents asks old (shift_log (moment_of clocks before)
       (shift_of before.clock.side (moment_read clocks before.clock) clocks.system)) new
 
--- a pause was made, or none
-abbrev pub MayPause : {L H : Type 0} → (H → HostCall L → H → Type 0) → ServiceState L H
+-- The host waited until its steady clock shows this time, if there is one.
+abbrev pub WaitsForEnd : {L H : Type 0} → (H → HostCall L → H → Type 0) → Option ℕ → H → H → Type 0
+WaitsForEnd acts None before after = after ≡ before
+WaitsForEnd acts (Some time) before after = acts before (WaitsUntil time) after
+
+-- After a turn a pause was made, or none. Then the host waited for the end of the turn, if turns
+-- have a least length.
+pub record AwaitsTurn {L H : Type 0} (acts : H → HostCall L → H → Type 0) (end : Option ℕ)
+    (before after : H) : Type 0 where
+  pub rested : H
+  pub pause : (rested ≡ before) ⊎ acts before Pauses rested
+  pub waits : WaitsForEnd acts end rested after
+
+-- the state of a service at the next turn
+abbrev pub AwaitsNext : {L H : Type 0} → (H → HostCall L → H → Type 0) → ServiceState L H
     → ServiceState L H
     → Type 0
-MayPause acts before after = (after ≡ before)
-    ⊎ (acts before.host Pauses after.host × (after ≡ record before { host = after.host }))
+AwaitsNext acts before after =
+    AwaitsTurn acts (turn_end before.clock) before.host after.host
+    × (after ≡ record before { host = after.host })
 
 -- an event of the process's connection is logged, printed and flushed
 abbrev pub ReportsConnectionEvent : {W : Type 0} → (W → Option (List ℕ))
@@ -287,5 +301,5 @@ module _ {L H W : Type 0} (step : L → Call → L → Type 0) (acts : H → Hos
       ⊎ ((after : ServiceState L H) × (mid : WriterState W) × (reported : Result ℕ WriteFault)
       × TurnServed before old after mid reported
       × AfterTurn reported ((host ≡ after.host) × (new ≡ mid) × (answer ≡ reported))
-      ((next : ServiceState L H) × MayPause acts after next
+      ((next : ServiceState L H) × AwaitsNext acts after next
       × ServesTurns turns next mid host new answer))

@@ -54,7 +54,7 @@ pub struct ClockReading {
 /// The clock of a server. It starts at the system's time. From then on it advances as the steady
 /// clock does, and is adjusted toward the system's time by at most 1 millisecond in 100: so it
 /// follows a system's clock that is a little fast or slow, and does not jump when that clock is
-/// set.
+/// set. It also knows how long a turn lasts at least, if that is limited.
 #[derive(Drop)]
 pub struct ServeClock {
     // The last moment, the latest time of the steady clock, and the last time of the system's.
@@ -64,6 +64,8 @@ pub struct ServeClock {
     // What has passed and was not yet enough to be drawn by a millisecond.
     carry: u64,
     side: ClockSide,
+    // The least milliseconds that a turn lasts.
+    cycle: Option<u32>,
 }
 
 impl Model for ServeClock {
@@ -78,6 +80,7 @@ impl Model for ServeClock {
       system = c.system;
       carry = c.carry;
       side = c.side;
+      cycle = c.cycle;
     } };
 
     ghost invariant = { λ c. c.carry < 100 };
@@ -97,9 +100,10 @@ fn side_of(moment: u64, system: u64) -> ClockSide
 }
 
 impl ServeClock {
-    /// Starts a clock at the system's time.
-    pub fn start(clocks: Clocks) -> Self
-        ensures { result ≡ initial_clock clocks }
+    /// Starts a clock at the system's time. If `cycle` is given, a turn lasts at least this many
+    /// milliseconds.
+    pub fn start(clocks: Clocks, cycle: Option<u32>) -> Self
+        ensures { result ≡ initial_clock clocks cycle }
     {
         ServeClock {
             moment: clocks.system,
@@ -107,6 +111,18 @@ impl ServeClock {
             system: clocks.system,
             carry: 0,
             side: ClockSide::Near,
+            cycle,
+        }
+    }
+
+    /// Returns the time of the steady clock at which a turn may end that began at the last reading,
+    /// if turns have a least length.
+    pub fn turn_end(&self) -> Option<u64>
+        ensures { result ≡ spec.turn_end self.now }
+    {
+        match self.cycle {
+            Some(cycle) => Some(self.steady.saturating_add(u64::from(cycle))),
+            None => None,
         }
     }
 

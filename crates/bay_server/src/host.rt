@@ -1,6 +1,6 @@
 // The system that serving uses: ports, and two clocks.
 ghost use Rattle.std.specs.Prelude.{◌≡◌};
-ghost use Rattle.bay_server.specs.Host.{HostCall, Binds, ReadsTimes, Pauses};
+ghost use Rattle.bay_server.specs.Host.{HostCall, Binds, ReadsTimes, Pauses, WaitsUntil};
 ghost use Rattle.bay_server.specs.LogLines.{bind_words};
 
 use crate::clock::Clocks;
@@ -16,6 +16,10 @@ use thiserror::Error;
 
 // The maximum length of a pause, in milliseconds.
 const PAUSE: u64 = 10;
+
+// The maximum length of a wait, in milliseconds: that of the longest turn that can be requested. So
+// a clock that can't be read holds up no turn for longer.
+const WAIT: u64 = 100;
 
 // The system's number for too many open files (EMFILE).
 const TOO_MANY_FILES: i32 = 24;
@@ -79,6 +83,11 @@ pub trait Host<L> {
     /// Waits until something may have happened on a link, for at most some milliseconds.
     fn pause(&mut self)
         ensures { does self.old Pauses self.new };
+
+    /// Waits until the clock that does not jump shows this time, in milliseconds. Does not wait if
+    /// it shows it already, and waits for at most 100 milliseconds.
+    fn wait_until(&mut self, steady: u64)
+        ensures { does self.old (WaitsUntil steady) self.new };
 }
 
 /// The ports and the clocks of the system that the program runs on.
@@ -142,6 +151,13 @@ impl<'a, R: Runtime<A = Global> + Net<Listener = TcpListener, Stream = TcpStream
         };
         if !waited {
             thread::sleep(self.rt, most);
+        }
+    }
+
+    fn wait_until(&mut self, steady: u64) {
+        let left = steady.saturating_sub(milliseconds(self.rt.monotonic()));
+        if left > 0 {
+            thread::sleep(self.rt, Duration::from_millis(left.min(WAIT)));
         }
     }
 }

@@ -1,9 +1,10 @@
 // Serves a device, turn by turn.
 ghost use Rattle.std.specs.Prelude.{◌≡◌, ◌⊎◌};
 ghost use Rattle.bay_server.specs.ConnectionLines.{no_lines};
+ghost use Rattle.bay_server.specs.Cycle.{TurnsLast};
 ghost use Rattle.bay_server.specs.Host.{Pauses};
 ghost use Rattle.bay_report.specs.TextLines.{lines_of};
-ghost use Rattle.bay_server.specs.ServeReport.{ReportsAndPolls, ServesTurns, numbered_lines};
+ghost use Rattle.bay_server.specs.ServeReport.{AwaitsTurn, ReportsAndPolls, ServesTurns, numbered_lines};
 ghost use Rattle.bay_server.specs.Serving.{TriesTurn, with_host};
 ghost use Rattle.bay_server_turn.specs.Calls.{CountedCall};
 
@@ -150,9 +151,22 @@ fn pause_if_idle<L, H: Host<L>>(host: &mut H, was_idle: bool)
     }
 }
 
+// Waits for the next turn: pauses if there is nothing to do at once, and then waits until the end
+// of the turn, if turns have a least length.
+fn await_turn<L, H: Host<L>>(host: &mut H, was_idle: bool, end: Option<u64>)
+    ensures { AwaitsTurn H.does end host.old host.new }
+{
+    pause_if_idle::<L, H>(host, was_idle);
+    match end {
+        Some(end) => host.wait_until(end),
+        None => {}
+    }
+}
+
 // Serves the given number of turns, logs and prints what each reports, and logs that all are
 // served. Returns the exit status: 0 after the last turn, or 3 at a turn that is refused. Pauses
-// after a turn that left nothing to do at once.
+// after a turn that left nothing to do at once, and waits for the end of each turn that is too
+// short.
 fn serve_lines<L: Link, H: Host<L>, W: Sink>(
     served: &mut Service<L>,
     host: &mut H,
@@ -166,7 +180,9 @@ fn serve_lines<L: Link, H: Host<L>, W: Sink>(
     for turn in 0..turns {
         match try_turn(served, host, lines, writer)? {
             TurnAttempt::Ends(status) => return Ok(status),
-            TurnAttempt::Done { was_idle } => pause_if_idle::<L, H>(host, was_idle),
+            TurnAttempt::Done { was_idle } => {
+                await_turn::<L, H>(host, was_idle, served.clock.turn_end())
+            }
         }
     }
     log_all_served(writer, served.server.device().moment());
@@ -176,6 +192,7 @@ fn serve_lines<L: Link, H: Host<L>, W: Sink>(
 /// Serves the given number of turns over a link by a clock, each with the next line of a trace, or,
 /// after the last one, with what the process reports, if there is one. The device's events go into
 /// a record, if there is one. Logs and prints what each turn reports, and logs that all are served.
+/// Waits after each turn until it has lasted as long as the clock says that it must.
 /// Returns the exit status: 0 after the last turn, or 3 at a turn that is refused. Fails if a write
 /// or a flush fails.
 pub fn serve_turns<L: Link + Drop, H: Host<L>, W: Sink>(
@@ -209,3 +226,9 @@ pub fn serve_turns<L: Link + Drop, H: Host<L>, W: Sink>(
     let mut lines = TraceLines::new(trace);
     serve_lines(&mut served, host, &mut lines, turns, writer)
 }
+
+/// On a host that keeps time, turns with a least length last that long: between the readings of the
+/// steady clock at the starts of a turn and of the next one at least this many milliseconds pass.
+pub fn turns_last<L: Link, H: Host<L>, W: Sink>(_link: &L, _host: &H, _sink: &W)
+    ensures { TurnsLast (CountedCall L.does L.failures) H.does W.contents W.does }
+{}

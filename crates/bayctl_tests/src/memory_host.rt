@@ -145,4 +145,8 @@ impl<'a> Host<MemoryLink<'a>> for Ports<'a> {
     }
 
     fn pause(&mut self) {}
+
+    fn wait_until(&mut self, steady: u64) {
+        self.now = self.now.max(steady);
+    }
 }

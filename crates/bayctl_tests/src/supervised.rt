@@ -30,7 +30,30 @@ const STRANGER: ServedCase = ServedCase {
     ..SUPERVISED
 };
 
-const ROWS: [ServedCase; 12] = [
+const ROWS: [ServedCase; 13] = [
+    // With a cycle, 100 ms and one reading of the clock are between the starts of two turns.
+    ServedCase {
+        words: "serve --log --bay bay --logic logic --port 7 --turns 3 --cycle 100",
+        clients: Some(3),
+        step: 10,
+        status: 0,
+        wanted: "instructions=2 depth=1 budget=2
+| 1970-01-01T00:00:00.010Z clients on 127.0.0.1:7
+| 1970-01-01T00:00:00.010Z bay SHA-256 039109cc180841997e6c30d729870d020103592c027cddd03bd60221d0cb410f
+| 1970-01-01T00:00:00.010Z program SHA-256 191643a54f5dd1f9a729a29e20b4c496ac41c7d182285acc1f461dd8a2d01fee
+| 1970-01-01T00:00:00.020Z association 1 open from 127.0.0.1:40000
+| 1970-01-01T00:00:00.020Z association 1 closed 0: its client ended it
+20 closed 1 0
+| 1970-01-01T00:00:00.130Z association 1 open from 127.0.0.1:40000
+| 1970-01-01T00:00:00.130Z association 1 closed 0: its client ended it
+130 closed 1 0
+| 1970-01-01T00:00:00.240Z association 1 open from 127.0.0.1:40000
+| 1970-01-01T00:00:00.240Z association 1 closed 0: its client ended it
+240 closed 1 0
+| 1970-01-01T00:00:00.240Z all turns are served
+",
+        ..HEARD
+    },
     // The process names this bay, reports a position, and is answered that the server is alive.
     ServedCase {
         lines: "2000 bay - B 1\n3000 contact Q 1\n4000 alive\n",

@@ -34,7 +34,7 @@ use Rattle.cmd_audit.specs.Auditing.{ReadsOptional}
 use Rattle.cmd_audit.specs.JudgingDiagram.{IsDiagramVerdictOn, JudgesDiagramRead}
 use Rattle.cmd_audit.specs.declared.judging.RulesVerdict.TheVariants as judged
 use Rattle.cmd_audit.specs.declared.judging_diagram.DiagramVerdict.TheVariants as drawn
-use Rattle.cmd_serve.specs.Serve.{data_of, new_server}
+use Rattle.cmd_serve.specs.Serve.{data_of, form_of, new_server}
 use Rattle.cmd_serve.specs.Service.{AreTurns, DoneTurn, server_after, past_after}
 use Rattle.il_image.specs.Images.{Image}
 use Rattle.cmd_audit_laws.specs.Audited.{ByTimer, Plainly}
@@ -225,27 +225,29 @@ module _ {F L H W : Type 0} (step : L → Call → L → Type 0) (acts : H → H
     (contents : W → Option (List ℕ)) (asks : W → WriteCall → W → Type 0) (reads : FileReads F)
     (guards : ProtectedReads F) where
   pub guarded-obey : GuardedCommandsObey step acts contents asks reads guards
-  guarded-obey files named options before after old new answer serves name is =
-      files-is step acts contents asks reads guards files named
-      (ObeyFile reads ObeyRules files name named.form)
+  guarded-obey files task before after old new answer serves name is =
+      files-is step acts contents asks reads guards files task
+      (ObeyFile reads ObeyRules files name (form_of task.program))
       (λ loaded loads rules diagram ts are given file.
-      let read = read-text reads files named.rules name is loaded.rules loads.3 in
+      let read = read-text reads files task.options.rules name is loaded.rules loads.3 in
       let hold = subst (RulesHold loaded.load) read.2 rules in (
         read.0,
         read.1,
-        holds-obeys named.form (data_of loaded) loaded.load loads.6 read.0 hold.0 file ts are given
+        holds-obeys (form_of task.program) (data_of loaded) loaded.load loads.6 read.0 hold.0 file
+            ts are given
             hold.1,
-      )) options before after old new answer serves.loaded serves.loads serves.continuation
+      )) before after old new answer serves.loaded serves.loads serves.continuation
 
   pub guarded-harmless : GuardedCommandsAreHarmless step acts contents asks reads guards
-  guarded-harmless files named options before after old new answer serves name is =
-      files-is step acts contents asks reads guards files named
-      (ObeyFile reads ObeyDiagram files name named.form)
+  guarded-harmless files task before after old new answer serves name is =
+      files-is step acts contents asks reads guards files task
+      (ObeyFile reads ObeyDiagram files name (form_of task.program))
       (λ loaded loads rules diagram ts are given file.
-      let read = read-text reads files named.diagram name is loaded.diagram loads.4 in
+      let read = read-text reads files task.options.diagram name is loaded.diagram loads.4 in
       let hold = subst (DiagramHolds loaded.load) read.2 diagram in (
         read.0,
         read.1,
-        diagram-obeys named.form (data_of loaded) loaded.load loads.6 read.0 hold.0 file ts are
+        diagram-obeys (form_of task.program) (data_of loaded) loaded.load loads.6 read.0 hold.0 file
+            ts are
             given hold.1,
-      )) options before after old new answer serves.loaded serves.loads serves.continuation
+      )) before after old new answer serves.loaded serves.loads serves.continuation

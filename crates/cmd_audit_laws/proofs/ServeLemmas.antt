@@ -1,7 +1,8 @@
 -- The turns that files are served by, and what they are given.
 use Rattle.std.proofs.Common.{◌≡◌, ◌∙◌, ◌<◌, ℕ, zero, suc, Bool, List, [], length, Option, Some, None, Result, Ok, Err, inl, inr, ap, sym, subst, refl}
-use Rattle.std.specs.Prelude.{MatchResult, is_some, slice_get}
+use Rattle.std.specs.Prelude.{MatchResult, slice_get}
 use Rattle.bay_audit.specs.Rules.{program_of}
+use Rattle.bay_cli.specs.declared.task.ServeTask.{ServeTask}
 use Rattle.bay_device.specs.Device.{State}
 use Rattle.bay_files.specs.Files.{ProtectedReads, FileReads, FilesData}
 use Rattle.bay_io.specs.Calls.{WriteCall}
@@ -25,13 +26,12 @@ use Rattle.cmd_audit.specs.declared.judging.RulesVerdict.TheVariants as judged
 use Rattle.cmd_audit.specs.declared.judging_diagram.DiagramVerdict.{DiagramVerdict}
 use Rattle.cmd_audit.specs.declared.judging_diagram.DiagramVerdict.TheVariants as drawn
 use Rattle.cmd_serve.specs.Permits.{AfterPermit, WritesOnDiagram, WritesOnRules, permit_of, releases_held, rules_held}
-use Rattle.cmd_serve.specs.Serve.{BindsPorts, BindsProcess, EndsUnserved, FileNames, IsBound, LoadsFiles, ServesBound, ServesLoaded, ServesPorts, ServesRules, data_of, new_server, served_of, state_of}
+use Rattle.cmd_serve.specs.Serve.{BindsPorts, BindsProcess, EndsUnserved, IsBound, LoadsFiles, ServesBound, ServesLoaded, ServesPorts, ServesRules, data_of, form_of, is_recorded, name_of, new_server, served_of, state_of}
 use Rattle.cmd_serve.specs.Service.{AreTurns, DoneTurn, later_turns, past_of, turns_in}
 use Rattle.cmd_serve.proofs.HistoryLemmas.{stands-first}
 use Rattle.cmd_serve.proofs.TurnLemmas.{stands-turns}
 use Rattle.cmd_serve.specs.declared.serve.BoundServer.{BoundServer}
 use Rattle.cmd_serve.specs.declared.serve.LoadedFiles.{LoadedFiles}
-use Rattle.cmd_serve.specs.declared.serve.ServeOptions.{ServeOptions}
 use Rattle.cmd_serve.specs.declared.serve.ServeStartFault.{ServeStartFault}
 use Rattle.cmd_serve.specs.declared.serve.ServeStartFault.TheVariants as unserved
 use Rattle.cmd_serve.specs.declared.permit.Permit.{Permit}
@@ -93,51 +93,48 @@ module _ {L H : Type 0} (acts : H → HostCall L → H → Type 0) where
       let no : (let r : Result (BoundServer L) ServeStartFault = Ok ports in r) ≡ Err is.0 = is.1 in
       absurd cc
 
-  process-made : (records sends : Bool) (settings : Option SupervisionSettings) (s : State)
+  process-made : (task : ServeTask (List ℕ)) (settings : Option SupervisionSettings) (s : State)
       (link : L)
       (port : Option ℕ)
       (before after : H) (ports : BoundServer L)
-      → BindsProcess acts records sends settings s link port before after (Ok ports)
+      → BindsProcess acts task settings s link port before after (Ok ports)
       → ports.server ≡ new_server s
-  process-made records sends settings s link None before after ports binds =
-      is-made records s link None ports binds.1
-  process-made records sends settings s link (Some port) before after ports binds =
+  process-made task settings s link None before after ports binds =
+      is-made (is_recorded task.options) s link None ports binds.1
+  process-made task settings s link (Some port) before after ports binds =
       by-had binds.0 binds.2
     where
       by-had : (had : Result L BindFault)
           → MatchResult had
-          (λ other. IsBound records s link
-          (Some (record { link = other; port = initial_port sends settings }))
+          (λ other. IsBound (is_recorded task.options) s link
+          (Some (record { link = other; port = initial_port task.sends_releases settings }))
           (Ok ports)) (λ fault. (let r : Result (BoundServer L) ServeStartFault = Ok ports in r)
           ≡ Err (unserved.Unbound port fault))
           → ports.server ≡ new_server s
       by-had (Ok other) is =
-          is-made records s link
-          (Some (record { link = other; port = initial_port sends settings }))
+          is-made (is_recorded task.options) s link
+          (Some (record { link = other; port = initial_port task.sends_releases settings }))
           ports
           is
       by-had (Err fault) is = absurd cc
 
-  pub ports-made : (options : ServeOptions) (settings : Option SupervisionSettings) (s : State)
+  pub ports-made : (task : ServeTask (List ℕ)) (settings : Option SupervisionSettings) (s : State)
       (before after : H)
-      (ports : BoundServer L) → BindsPorts acts options settings s before after (Ok ports)
+      (ports : BoundServer L) → BindsPorts acts task settings s before after (Ok ports)
       → ports.server ≡ new_server s
-  ports-made options settings s before after ports (inr memory) = absurd (let e = memory.1 in cc)
-  ports-made options settings s before after ports (inl binds) = by-had binds.0 binds.3
+  ports-made task settings s before after ports (inr memory) = absurd (let e = memory.1 in cc)
+  ports-made task settings s before after ports (inl binds) = by-had binds.0 binds.3
     where
       by-had : (had : Result L BindFault)
           → MatchResult had
-          (λ link. BindsProcess acts (is_some options.record_most) options.sends_releases settings s
-          link
-          options.process binds.1 after (Ok ports))
+          (λ link. BindsProcess acts task settings s link task.options.process binds.1 after
+          (Ok ports))
           (λ fault. (after ≡ binds.1)
           × ((let r : Result (BoundServer L) ServeStartFault = Ok ports in r)
-          ≡ Err (unserved.Unbound options.port fault)))
+          ≡ Err (unserved.Unbound task.port fault)))
           → ports.server ≡ new_server s
       by-had (Ok link) is =
-          process-made (is_some options.record_most) options.sends_releases settings s link
-          options.process binds.1
-          after ports is
+          process-made task settings s link task.options.process binds.1 after ports is
       by-had (Err fault) is = absurd (let e = is.1 in cc)
 
 -- ---- the rules that are answered to hold
@@ -293,34 +290,34 @@ module _ {L H W : Type 0} (step : L → Call → L → Type 0) (acts : H → Hos
   -- what is so of all turns of a server of this device
   module _ (Is : ServerData → List DoneTurn → Type 0) (loaded : LoadedFiles)
       (each : (ts : List DoneTurn) → AreTurns (new_server (state_of loaded)) ts → AreGiven ts
-      → Is (new_server (state_of loaded)) ts) (options : ServeOptions) where
+      → Is (new_server (state_of loaded)) ts) (task : ServeTask (List ℕ)) where
     bound-is : (served : ServedFiles) (settings : Option SupervisionSettings)
         (before host after : H) (old new : WriterState W) (answer : Result ℕ WriteFault)
         (bound : Result (BoundServer L) ServeStartFault)
-        → BindsPorts acts options settings (state_of loaded) before host bound
+        → BindsPorts acts task settings (state_of loaded) before host bound
         → (goes : MatchResult bound
-        (λ ports. ServesBound step acts contents asks options served ports loaded.trace.items host
+        (λ ports. ServesBound step acts contents asks task served ports loaded.trace.items host
         after old new answer)
         (λ why. EndsUnserved contents asks why old new answer × (after ≡ host)))
-        → HoldsIfBound step acts contents asks Is options served loaded.trace.items host after old
+        → HoldsIfBound step acts contents asks Is task served loaded.trace.items host after old
         new
         answer bound goes
     bound-is served settings before host after old new answer (Ok ports) binds goes =
         let run = goes.5 in
         let made : ports.server ≡ new_server (state_of loaded) =
-        ports-made acts options settings (state_of loaded) before host ports binds in
+        ports-made acts task settings (state_of loaded) before host ports binds in
         let given : AreGiven run.done =
         subst AreGiven (sym run.are)
-        (turns-given step acts contents asks options.turns _ _ after new answer run.serves) in
+        (turns-given step acts contents asks task.turns _ _ after new answer run.serves) in
         subst (λ (h : ServerData). Is h run.done) (sym made)
         (each run.done (subst (λ (h : ServerData). AreTurns h run.done) made run.run.are) given)
     bound-is served settings before host after old new answer (Err why) binds goes = tt
 
     pub ports-is : (held : HeldCounts) (before after : H) (old new : WriterState W)
         (answer : Result ℕ WriteFault)
-        (ports : ServesPorts step acts contents asks options loaded held before after old new
+        (ports : ServesPorts step acts contents asks task loaded held before after old new
         answer)
-        → HoldsIfOpened step acts contents asks Is options loaded held before after old new answer
+        → HoldsIfOpened step acts contents asks Is task loaded held before after old new answer
         ports
     ports-is held before after old new answer ports =
         bound-is (served_of loaded held) _ before ports.host after old new answer ports.bound
@@ -339,10 +336,10 @@ module _ {L H W : Type 0} (step : L → Call → L → Type 0) (acts : H → Hos
   module _ (Is : ServerData → List DoneTurn → Type 0) (loaded : LoadedFiles)
       (each : RulesHold loaded.load loaded.rules → DiagramHolds loaded.load loaded.diagram
       → (ts : List DoneTurn) → AreTurns (new_server (state_of loaded)) ts → AreGiven ts
-      → Is (new_server (state_of loaded)) ts) (options : ServeOptions) where
+      → Is (new_server (state_of loaded)) ts) (task : ServeTask (List ℕ)) where
     rules-is : (before after : H) (old new : WriterState W) (answer : Result ℕ WriteFault)
-        (serves : ServesRules step acts contents asks options loaded before after old new answer)
-        → HoldsWithRules step acts contents asks Is options loaded before after old new answer
+        (serves : ServesRules step acts contents asks task loaded before after old new answer)
+        → HoldsWithRules step acts contents asks Is task loaded before after old new answer
         serves
     rules-is before after old new answer serves =
         in-permit _ _ serves.permit serves.continuation _
@@ -352,33 +349,35 @@ module _ {L H W : Type 0} (step : L → Call → L → Type 0) (acts : H → Hos
         (rules-hold contents asks loaded.load loaded.rules old serves.middle serves.permit
         serves.writes rules granted)
         (diagram-holds contents asks loaded.load loaded.diagram serves.middle drawn.middle
-        drawn.permit drawn.writes releases let_go)) options
+        drawn.permit drawn.writes releases let_go)) task
         (record { rules = rules; releases = releases }) before after drawn.middle new answer ports))
 
   module _ {F : Type 0} (reads : FileReads F) (guards : ProtectedReads F) (files : F)
-      (named : FileNames) (Is : FilesData → ServerData → List DoneTurn → Type 0)
-      (each : (loaded : LoadedFiles) → LoadsFiles reads guards files named (Ok loaded)
+      (task : ServeTask (List ℕ)) (Is : FilesData → ServerData → List DoneTurn → Type 0)
+      (each : (loaded : LoadedFiles)
+      → LoadsFiles reads guards files (form_of task.program) (name_of task.program) task
+      (Ok loaded)
       → RulesHold loaded.load loaded.rules → DiagramHolds loaded.load loaded.diagram
       → (ts : List DoneTurn) → AreTurns (new_server (state_of loaded)) ts → AreGiven ts
       → Is (data_of loaded) (new_server (state_of loaded)) ts) where
-    pub files-is : (options : ServeOptions) (before after : H)
+    pub files-is : (before after : H)
         (old new : WriterState W) (answer : Result ℕ WriteFault)
         (loaded : Result LoadedFiles ServeStartFault)
-        → LoadsFiles reads guards files named loaded
+        → LoadsFiles reads guards files (form_of task.program) (name_of task.program) task loaded
         → (goes : MatchResult loaded
-        (λ all. ServesLoaded step acts contents asks options all before after old new answer)
+        (λ all. ServesLoaded step acts contents asks task all before after old new answer)
         (λ why. EndsUnserved contents asks why old new answer × (after ≡ before)))
-        → HoldsIfRead step acts contents asks Is options before after old new answer loaded goes
-    files-is options before after old new answer (Ok loaded) loads goes =
+        → HoldsIfRead step acts contents asks Is task before after old new answer loaded goes
+    files-is before after old new answer (Ok loaded) loads goes =
         later-is _ _ goes.reported goes.continuation _
-        (rules-is (Is (data_of loaded)) loaded (each loaded loads) options before after goes.middle
+        (rules-is (Is (data_of loaded)) loaded (each loaded loads) task before after goes.middle
         new answer)
-    files-is options before after old new answer (Err why) loads goes = tt
+    files-is before after old new answer (Err why) loads goes = tt
 
   pub served-obey : {F : Type 0} (reads : FileReads F) (guards : ProtectedReads F)
       → ServedCommandsObey step acts contents asks reads guards
-  served-obey reads guards files named options before after old new answer serves =
-      files-is reads guards files named (ObeyAuditsOf named.form)
-      (λ loaded loads rules diagram. loaded-obeys named.form (data_of loaded) (state_of loaded)
-      (loaded.load, loads.6, refl)) options before after old new answer serves.loaded serves.loads
-      serves.continuation
+  served-obey reads guards files task before after old new answer serves =
+      files-is reads guards files task (ObeyAuditsOf (form_of task.program))
+      (λ loaded loads rules diagram. loaded-obeys (form_of task.program) (data_of loaded)
+      (state_of loaded) (loaded.load, loads.6, refl)) before after old new answer serves.loaded
+      serves.loads serves.continuation

@@ -2,6 +2,7 @@
 -- scans obeys each rule, and no command is a hazard.
 use Rattle.std.specs.Prelude.{ℕ, ◌≡◌, ◌<◌, length, slice_get, List, [], Option, None, Some, Result, Ok}
 use Rattle.bay_audit_laws.specs.Laws.{ScanObeysAt}
+use Rattle.bay_cli.specs.declared.task.ServeTask.{ServeTask}
 use Rattle.bay_base.specs.declared.switch.Operation.{Operation}
 use Rattle.bay_config.specs.declared.bay.Bay.{Bay}
 use Rattle.bay_diagram_file.specs.Diagram.{diagram_of_file}
@@ -20,9 +21,8 @@ use Rattle.bay_audit_rules.specs.declared.rule.Timing.{Timing}
 use Rattle.bay_server_turn.specs.Calls.{Call}
 use Rattle.bay_server_turn.specs.Turns.{ServerData}
 use Rattle.bay_server.specs.Host.{HostCall}
-use Rattle.cmd_serve.specs.Serve.{FileNames, ServesFiles}
+use Rattle.cmd_serve.specs.Serve.{ServesFiles, form_of}
 use Rattle.cmd_serve.specs.Service.{DoneTurn, past_of}
-use Rattle.cmd_serve.specs.declared.serve.ServeOptions.{ServeOptions}
 use Rattle.cmd_audit_laws.specs.Served.{IsFile, HoldsIfRead, OrdersAreHarmless, OrdersObey}
 use Rattle.cmd_audit_laws.specs.Waits.{OrdersWait}
 
@@ -69,22 +69,23 @@ module _ {F L H W : Type 0} (step : L → Call → L → Type 0) (acts : H → H
     (contents : W → Option (List ℕ)) (asks : W → WriteCall → W → Type 0) (reads : FileReads F)
     (guards : ProtectedReads F) where
   -- The turns of each service with a file of this kind obey it.
-  abbrev pub GuardedObey : (FileNames → Option (List ℕ))
+  abbrev pub GuardedObey : (ServeTask (List ℕ) → Option (List ℕ))
       → (List ℕ → List ℕ → ServerData → List DoneTurn → Type 0) → Type 0
   GuardedObey file_in Obey =
-      (files : F) (named : FileNames) (options : ServeOptions) (before after : H)
+      (files : F) (task : ServeTask (List ℕ)) (before after : H)
       (old new : WriterState W)
       (answer : Result ℕ WriteFault)
-      (serves : ServesFiles step acts contents asks reads guards files named options before after
-      old new answer) (name : List ℕ) → file_in named ≡ Some name
-      → HoldsIfRead step acts contents asks (ObeyFile reads Obey files name named.form) options
+      (serves : ServesFiles step acts contents asks reads guards files task before after
+      old new answer) (name : List ℕ) → file_in task ≡ Some name
+      → HoldsIfRead step acts contents asks (ObeyFile reads Obey files name (form_of task.program))
+      task
       before
       after old new answer serves.loaded serves.continuation
 
   -- The turns of each service with rules obey the rules in their file.
   abbrev pub GuardedCommandsObey : Type 0
-  GuardedCommandsObey = GuardedObey (λ named. named.rules) ObeyRules
+  GuardedCommandsObey = GuardedObey (λ task. task.options.rules) ObeyRules
 
   -- No command of a service with a diagram is a hazard in the diagram of its file.
   abbrev pub GuardedCommandsAreHarmless : Type 0
-  GuardedCommandsAreHarmless = GuardedObey (λ named. named.diagram) ObeyDiagram
+  GuardedCommandsAreHarmless = GuardedObey (λ task. task.options.diagram) ObeyDiagram

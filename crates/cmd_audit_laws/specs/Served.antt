@@ -3,6 +3,7 @@
 use Rattle.std.specs.Prelude.{ℕ, ◌≡◌, Bool, false, slice_get, List, [], ◌∷◌, Option, None, Some, Result, Ok, Err, MatchResult}
 use Rattle.bay_audit_hazards.specs.Judged.{is_hazard_of}
 use Rattle.bay_audit_laws.specs.Laws.{IsOutside, ScanObeysAt, process_of}
+use Rattle.bay_cli.specs.declared.task.ServeTask.{ServeTask}
 use Rattle.bay_base.specs.declared.switch.Operation.{Operation}
 use Rattle.bay_device.specs.Device.{State}
 use Rattle.bay_diagram.specs.declared.network.Network.{Network}
@@ -28,12 +29,11 @@ use Rattle.bay_server.specs.Host.{HostCall}
 use Rattle.cmd_serve.specs.Live.{HoldsLater}
 use Rattle.cmd_serve.specs.Requests.{IsRequested}
 use Rattle.cmd_serve.specs.Permits.{AfterPermit}
-use Rattle.cmd_serve.specs.Serve.{EndsUnserved, FileNames, ServesBound, ServesDiagram, ServesFiles, ServesLoaded, ServesPorts, ServesRules, data_of, served_of}
+use Rattle.cmd_serve.specs.Serve.{EndsUnserved, ServesBound, ServesDiagram, ServesFiles, ServesLoaded, ServesPorts, ServesRules, data_of, form_of, served_of}
 use Rattle.cmd_serve.specs.Service.{DoneTurn, server_after, past_after, past_of}
 use Rattle.cmd_serve.specs.Texts.{IsPrintedFor}
 use Rattle.cmd_serve.specs.declared.serve.BoundServer.{BoundServer}
 use Rattle.cmd_serve.specs.declared.serve.LoadedFiles.{LoadedFiles}
-use Rattle.cmd_serve.specs.declared.serve.ServeOptions.{ServeOptions}
 use Rattle.cmd_serve.specs.declared.serve.ServeStartFault.{ServeStartFault}
 use Rattle.cmd_serve.specs.declared.permit.Permit.{Permit}
 use Rattle.cmd_serve.specs.declared.permit.Permit.TheVariants.{Granted, Denied}
@@ -113,72 +113,72 @@ InPermit Ends Goes (Err fault) goes more = Unit {0}
 module _ {L H W : Type 0} (step : L → Call → L → Type 0) (acts : H → HostCall L → H → Type 0)
     (contents : W → Option (List ℕ)) (asks : W → WriteCall → W → Type 0) where
   -- the statement holds for the turns that were served, if the ports could be bound
-  abbrev pub HoldsIfBound : (Is : ServerData → List DoneTurn → Type 0) (options : ServeOptions)
+  abbrev pub HoldsIfBound : (Is : ServerData → List DoneTurn → Type 0) (task : ServeTask (List ℕ))
       (served : ServedFiles) (trace : List ℕ)
       (host after : H) (old new : WriterState W) (answer : Result ℕ WriteFault)
       (bound : Result (BoundServer L) ServeStartFault) → MatchResult bound
-      (λ ports. ServesBound step acts contents asks options served ports trace host after old new
+      (λ ports. ServesBound step acts contents asks task served ports trace host after old new
       answer)
       (λ why. EndsUnserved contents asks why old new answer × (after ≡ host))
       → Type 0
-  HoldsIfBound Is options served trace host after old new answer (Ok ports) goes =
+  HoldsIfBound Is task served trace host after old new answer (Ok ports) goes =
       Is ports.server goes.5.done
-  HoldsIfBound Is options served trace host after old new answer (Err why) goes = Unit {0}
+  HoldsIfBound Is task served trace host after old new answer (Err why) goes = Unit {0}
 
   -- the statement holds for the turns that were served, if the ports could be opened
-  abbrev pub HoldsIfOpened : (Is : ServerData → List DoneTurn → Type 0) (options : ServeOptions)
+  abbrev pub HoldsIfOpened : (Is : ServerData → List DoneTurn → Type 0) (task : ServeTask (List ℕ))
       (loaded : LoadedFiles) (held : HeldCounts)
       (before after : H) (old new : WriterState W) (answer : Result ℕ WriteFault)
-      → ServesPorts step acts contents asks options loaded held before after old new answer
+      → ServesPorts step acts contents asks task loaded held before after old new answer
       → Type 0
-  HoldsIfOpened Is options loaded held before after old new answer ports =
-      HoldsIfBound Is options (served_of loaded held) loaded.trace.items ports.host after old new
+  HoldsIfOpened Is task loaded held before after old new answer ports =
+      HoldsIfBound Is task (served_of loaded held) loaded.trace.items ports.host after old new
       answer
       ports.bound ports.continuation
 
   -- the statement holds for the turns that were served, if the releases hold by the diagram, or
   -- there is none
-  abbrev pub OfDiagram : (Is : ServerData → List DoneTurn → Type 0) (options : ServeOptions)
+  abbrev pub OfDiagram : (Is : ServerData → List DoneTurn → Type 0) (task : ServeTask (List ℕ))
       (loaded : LoadedFiles) (rules : ℕ)
       (before after : H) (old new : WriterState W) (answer : Result ℕ WriteFault)
-      → ServesDiagram step acts contents asks options loaded rules before after old new answer
+      → ServesDiagram step acts contents asks task loaded rules before after old new answer
       → Type 0
-  OfDiagram Is options loaded rules before after old new answer serves =
+  OfDiagram Is task loaded rules before after old new answer serves =
       InPermit _ _ serves.permit serves.continuation
-      (λ releases. HoldsIfOpened Is options loaded (record { rules = rules; releases = releases })
+      (λ releases. HoldsIfOpened Is task loaded (record { rules = rules; releases = releases })
       before
       after serves.middle new answer)
 
   -- the statement holds for the turns that were served, if the rules hold, or there are none
-  abbrev pub HoldsWithRules : (Is : ServerData → List DoneTurn → Type 0) (options : ServeOptions)
+  abbrev pub HoldsWithRules : (Is : ServerData → List DoneTurn → Type 0) (task : ServeTask (List ℕ))
       (loaded : LoadedFiles)
       (before after : H) (old new : WriterState W) (answer : Result ℕ WriteFault)
-      → ServesRules step acts contents asks options loaded before after old new answer → Type 0
-  HoldsWithRules Is options loaded before after old new answer serves =
+      → ServesRules step acts contents asks task loaded before after old new answer → Type 0
+  HoldsWithRules Is task loaded before after old new answer serves =
       InPermit _ _ serves.permit serves.continuation
-      (λ rules. OfDiagram Is options loaded rules before after serves.middle new answer)
+      (λ rules. OfDiagram Is task loaded rules before after serves.middle new answer)
 
   -- the statement holds for the turns that were served, if the line of the load could be written
-  abbrev pub HoldsIfLoaded : (Is : ServerData → List DoneTurn → Type 0) (options : ServeOptions)
+  abbrev pub HoldsIfLoaded : (Is : ServerData → List DoneTurn → Type 0) (task : ServeTask (List ℕ))
       (loaded : LoadedFiles)
       (before after : H) (old new : WriterState W) (answer : Result ℕ WriteFault)
-      → ServesLoaded step acts contents asks options loaded before after old new answer → Type 0
-  HoldsIfLoaded Is options loaded before after old new answer serves =
+      → ServesLoaded step acts contents asks task loaded before after old new answer → Type 0
+  HoldsIfLoaded Is task loaded before after old new answer serves =
       HoldsLater _ _ serves.reported serves.continuation
-      (HoldsWithRules Is options loaded before after serves.middle new answer)
+      (HoldsWithRules Is task loaded before after serves.middle new answer)
 
   -- the statement holds for the turns that were served, if the files could be read and loaded: with
   -- the octets of the bay file and of the program
   abbrev pub HoldsIfRead : (Is : FilesData → ServerData → List DoneTurn → Type 0)
-      (options : ServeOptions) (before after : H) (old new : WriterState W)
+      (task : ServeTask (List ℕ)) (before after : H) (old new : WriterState W)
       (answer : Result ℕ WriteFault) (loaded : Result LoadedFiles ServeStartFault)
       → MatchResult loaded
-      (λ all. ServesLoaded step acts contents asks options all before after old new answer)
+      (λ all. ServesLoaded step acts contents asks task all before after old new answer)
       (λ why. EndsUnserved contents asks why old new answer × (after ≡ before))
       → Type 0
-  HoldsIfRead Is options before after old new answer (Ok loaded) goes =
-      HoldsIfLoaded (Is (data_of loaded)) options loaded before after old new answer goes
-  HoldsIfRead Is options before after old new answer (Err why) goes = Unit {0}
+  HoldsIfRead Is task before after old new answer (Ok loaded) goes =
+      HoldsIfLoaded (Is (data_of loaded)) task loaded before after old new answer goes
+  HoldsIfRead Is task before after old new answer (Err why) goes = Unit {0}
 
 -- ---- the turns of the files
 
@@ -188,10 +188,11 @@ module _ {F L H W : Type 0} (step : L → Call → L → Type 0) (acts : H → H
   -- The turns of each service obey the answers of each audit of the same octets.
   abbrev pub ServedCommandsObey : Type 0
   ServedCommandsObey =
-      (files : F) (named : FileNames) (options : ServeOptions) (before after : H)
+      (files : F) (task : ServeTask (List ℕ)) (before after : H)
       (old new : WriterState W)
       (answer : Result ℕ WriteFault)
-      (serves : ServesFiles step acts contents asks reads guards files named options before after
+      (serves : ServesFiles step acts contents asks reads guards files task before after
       old new answer)
-      → HoldsIfRead step acts contents asks (ObeyAuditsOf named.form) options before after old new
+      → HoldsIfRead step acts contents asks (ObeyAuditsOf (form_of task.program)) task before after
+      old new
       answer serves.loaded serves.continuation

@@ -5,6 +5,7 @@ use Rattle.std.specs.List.{prefix_len}
 use Rattle.std.proofs.lemmas.Bool.{and_parts}
 use Rattle.std.proofs.lemmas.Bool.Decides.{nat_tests}
 use Rattle.std.proofs.lemmas.List.{length-take}
+use Rattle.bay_cli.specs.declared.task.ServeTask.{ServeTask}
 use Rattle.bay_files.specs.Files.{ProtectedReads}
 use Rattle.bay_files.specs.Keys.{ReadsKeyIfNamed, is_key_end, key_in}
 use Rattle.bay_device.specs.Device.{State}
@@ -26,7 +27,6 @@ use Rattle.bay_server.specs.ServeReport.{ServiceState, ServesTurns}
 use Rattle.cmd_serve.specs.Serve.{RunsText, key_of, ServesLoaded, ServesRun}
 use Rattle.cmd_serve.specs.declared.permit.Permit.{Permit}
 use Rattle.cmd_serve.specs.declared.serve.LoadedFiles.{LoadedFiles}
-use Rattle.cmd_serve.specs.declared.serve.ServeOptions.{ServeOptions}
 use Rattle.cmd_serve.specs.Service.{DoneTurn, IsBegun, turns_in}
 use Rattle.cmd_serve.proofs.BeginLemmas.{ordered-from}
 use Rattle.cmd_serve.proofs.LiveLemmas.{commands-live}
@@ -110,14 +110,14 @@ module _ {L H W : Type 0} (step : L → Call → L → Type 0) (acts : H → Hos
       }
 
   -- the line of a load could not be written
-  pub line-fails : (options : ServeOptions) (loaded : LoadedFiles) (report : Report)
+  pub line-fails : (task : ServeTask (List ℕ)) (loaded : LoadedFiles) (report : Report)
       → IsReport loaded.load.image report → (host : H) (old middle : WriterState W)
       (fault : WriteFault) → Prints contents asks (IsOutput (report_text report) 0) old middle
       (Err fault)
       → (answer : Result ℕ WriteFault) → IsErr answer
-      → ServesLoaded step acts contents asks options loaded host host old middle answer
-  line-fails options loaded report is host old middle fault printed (Ok n) e = absurd cc
-  line-fails options loaded report is host old middle fault printed (Err f) e = record {
+      → ServesLoaded step acts contents asks task loaded host host old middle answer
+  line-fails task loaded report is host old middle fault printed (Ok n) e = absurd cc
+  line-fails task loaded report is host old middle fault printed (Err f) e = record {
     report = report;
     is = is;
     middle = middle;

@@ -24,7 +24,7 @@ use Rattle.bay_server_turn_laws.specs.Flows.{IsTidy}
 use Rattle.bay_server_turn_laws.proofs.PartLemmas.{Part-turn}
 use Rattle.bay_server.specs.Clock.{jump_of}
 use Rattle.bay_server.specs.Host.{HostCall}
-use Rattle.bay_server.specs.ServeReport.{AfterTurn, ChosenInput, ProcessData, PollsProcess, MayPause, ServiceState, ServesTurns, TurnServed, chosen_input, choose_input, input_from_port, moment_of}
+use Rattle.bay_server.specs.ServeReport.{AfterTurn, AwaitsNext, ChosenInput, ProcessData, PollsProcess, ServiceState, ServesTurns, TurnServed, chosen_input, choose_input, input_from_port, moment_of}
 use Rattle.bay_server.specs.declared.clock.Clocks.{Clocks}
 use Rattle.cmd_serve.specs.Live.{CommandsLive, HoldsLater, IsSupervised, IsLiveProcess}
 use Rattle.cmd_serve.specs.Requests.{IsRequested}
@@ -350,11 +350,10 @@ module _ {L H W : Type 0} (step : L → Call → L → Type 0) (acts : H → Hos
             (port-chosen before k goes.clocks)
             polls)
 
-  paused-keeps : (after next : ServiceState L H) → MayPause acts after next → Keeps settings after
-      → Keeps settings next
-  paused-keeps after next (inl same) k = subst (Keeps settings) (sym same) k
-  paused-keeps after next (inr paused) k =
-      subst (Keeps settings) (sym paused.1)
+  paused-keeps : (after next : ServiceState L H) → AwaitsNext acts after next
+      → Keeps settings after → Keeps settings next
+  paused-keeps after next awaits k =
+      subst (Keeps settings) (sym awaits.1)
       (record { process = k.process; is = k.is; stands = k.stands; alone = k.alone })
 
   live-turns : (first : State) (turns : ℕ) (before : ServiceState L H) (old : WriterState W)

@@ -16,7 +16,7 @@ use Rattle.bay_server_turn_laws.specs.Flows.{IsInTime}
 use Rattle.bay_server_turn_laws.proofs.PartLemmas.{Part-turn}
 use Rattle.bay_server.specs.Clock.{moment_read}
 use Rattle.bay_server.specs.Host.{HostCall}
-use Rattle.bay_server.specs.ServeReport.{AfterTurn, MayPause, ServiceState, ServesTurns, TurnServed, chosen_input}
+use Rattle.bay_server.specs.ServeReport.{AfterTurn, AwaitsNext, ServiceState, ServesTurns, TurnServed, chosen_input}
 use Rattle.cmd_serve.specs.Service.{AreTurns, DoneTurn, IsService, IsTurn, server_after_all, server_after, later_turns, past_after, past_of, turn_in, turns_in}
 use Rattle.cmd_serve.proofs.HistoryLemmas.{Stands, one-run, stands-events, stands-first}
 
@@ -54,10 +54,9 @@ later-are Ends Goes h (Ok status) goes more each = each goes
 
 module _ {L H W : Type 0} (step : L → Call → L → Type 0) (acts : H → HostCall L → H → Type 0)
     (contents : W → Option (List ℕ)) (asks : W → WriteCall → W → Type 0) where
-  pub paused-held : (after next : ServiceState L H) → MayPause acts after next
+  pub paused-held : (after next : ServiceState L H) → AwaitsNext acts after next
       → next.held ≡ after.held
-  paused-held after next (inl same) = ap (λ (b : ServiceState L H). b.held) same
-  paused-held after next (inr paused) = ap (λ (b : ServiceState L H). b.held) paused.1
+  paused-held after next awaits = ap (λ (b : ServiceState L H). b.held) awaits.1
 
   pub is-turn : (before : ServiceState L H) (old : WriterState W) (after : ServiceState L H)
       (new : WriterState W)

@@ -13,6 +13,7 @@
 -- supervised process was alive when a turn with a command began.
 
 -- What public clauses cite of the crates below.
+pub use Rattle.bay_cli.specs.JobView
 pub use Rattle.bay_device.specs.Commands
 pub use Rattle.bay_device.specs.Fresh
 pub use Rattle.bay_device.specs.Meaning

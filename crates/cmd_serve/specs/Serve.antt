@@ -3,6 +3,10 @@
 use Rattle.bay_io.specs.Calls.{WriteCall}
 use Rattle.std.specs.declared.io.ErrorKind.{ErrorKind}
 use Rattle.std.specs.Prelude.{◌≡◌, ℕ, true, is_err, is_some, List, ◌∷◌, ◌++◌, replicate, option_map, codes, MatchResult, Bool, Option, None, Some, Result, Ok, Err, ◌⊎◌, [], unwrap_or}
+use Rattle.bay_cli.specs.declared.task.ProgramFile.{ProgramFile}
+use Rattle.bay_cli.specs.declared.task.ProgramFile.TheVariants as source
+use Rattle.bay_cli.specs.declared.task.ServeOptions.{ServeOptions}
+use Rattle.bay_cli.specs.declared.task.ServeTask.{ServeTask}
 use Rattle.bay_device.specs.Device.{State}
 use Rattle.bay_device.specs.Load.{IsLoaded, device_of}
 use Rattle.bay_device.specs.Meaning.{Runs}
@@ -25,7 +29,6 @@ use Rattle.bay_report.specs.LogLines.{IsLoggedOutput, PrintsLogs, RefusalReport,
 use Rattle.bay_report.specs.Report.{IsOutput, Prints, report_text}
 use Rattle.bay_report.specs.TextLines.{lines_of}
 use Rattle.bay_server_turn.specs.Calls.{Call}
-use Rattle.bay_server_turn.specs.Served.{text_in}
 use Rattle.bay_server_turn.specs.Turns.{ServerData}
 use Rattle.bay_server.specs.Clock.{initial_clock}
 use Rattle.bay_server.specs.ConnectionLines.{no_lines}
@@ -45,36 +48,29 @@ use Rattle.cmd_serve.specs.Sums.{sums_log}
 use Rattle.cmd_serve.specs.Texts.{ArePrinted}
 use Rattle.cmd_serve.specs.declared.serve.BoundServer.{BoundServer}
 use Rattle.cmd_serve.specs.declared.serve.LoadedFiles.{LoadedFiles}
-use Rattle.cmd_serve.specs.declared.serve.NamedFiles.{NamedFiles}
-use Rattle.cmd_serve.specs.declared.serve.ServeOptions.{ServeOptions}
 use Rattle.cmd_serve.specs.declared.serve.ServeStartFault.{ServeStartFault}
 use Rattle.cmd_serve.specs.declared.permit.Permit.{Permit}
 use Rattle.cmd_serve.specs.declared.sums.HeldCounts.{HeldCounts}
 use Rattle.cmd_serve.specs.declared.sums.ServedFiles.{ServedFiles}
 use Rattle.cmd_serve.specs.declared.serve.ServeStartFault.TheVariants as unserved
 
--- the names of the command's files: the bay, a program or an image, and the trace, the key, the
--- rules and the diagram, if they were given
-pub record FileNames : Type 0 where
-  pub bay : List ℕ
-  pub form : Form
-  pub program : List ℕ
-  pub trace : Option (List ℕ)
-  pub key : Option (List ℕ)
-  pub rules : Option (List ℕ)
-  pub diagram : Option (List ℕ)
+-- the form of a program, and the name of its file
+abbrev pub form_of : ProgramFile (List ℕ) → Form
+form_of (source.Logic name) = Logic
+form_of (source.Image name) = Image
 
--- the names of the command's files, as the code has them
-abbrev pub names_of : NamedFiles → FileNames
-names_of named = record {
-  bay = named.bay.now;
-  form = named.form;
-  program = named.program.now;
-  trace = text_in named.trace;
-  key = text_in named.key;
-  rules = text_in named.rules;
-  diagram = text_in named.diagram;
-}
+abbrev pub name_of : ProgramFile (List ℕ) → List ℕ
+name_of (source.Logic name) = name
+name_of (source.Image name) = name
+
+-- whether the session is recorded
+abbrev pub is_recorded : ServeOptions (List ℕ) → Bool
+is_recorded options = is_some options.record_file
+
+-- the most octets of a record, if one is named: 16,000,000 if the command names no number
+abbrev pub record_room : ServeOptions (List ℕ) → Option ℕ
+record_room options =
+    option_map (λ name. unwrap_or options.record_most 16000000) options.record_file
 
 -- a file without a key: the log line, the text and the status
 abbrev pub KeylessReport : List ℕ → KeyFault → Option (List ℕ) → List ℕ → ℕ → Type 0
@@ -139,38 +135,38 @@ data_of loaded =
 -- The files were read: the bay and the program or the image, then the trace, the key, the rules and
 -- the diagram, if they were named. Their contents were loaded; or one could not be read, or had no
 -- key, or the load was refused.
-abbrev pub LoadsFiles : {F : Type 0} → FileReads F → ProtectedReads F → F → FileNames
-    → Result LoadedFiles ServeStartFault → Type 0
-LoadsFiles reads guards files named (Ok loaded) =
-    ReadsBoth reads files named.bay named.program (Ok (data_of loaded))
-    × ReadsIfNamed reads files named.trace (Ok loaded.trace.items)
-    × ReadsKeyIfNamed guards files named.key (Ok (option_map (λ key. key.items) loaded.key))
-    × ReadsOptional reads files named.rules (Ok loaded.rules)
-    × ReadsOptional reads files named.diagram (Ok loaded.diagram)
-    × (loaded.form ≡ named.form)
-    × LoadsTo loaded.both.bay.items named.form loaded.both.program.items (Ok loaded.load)
-    × RunsText named.form (data_of loaded) (state_of loaded)
-LoadsFiles reads guards files named (Err (unserved.Unread unread)) =
-    ReadsBoth reads files named.bay named.program (Err (unread_view unread))
-    ⊎ ((both : FilesData) × ReadsBoth reads files named.bay named.program (Ok both)
-    × (ReadsIfNamed reads files named.trace (Err (unread_view unread))
-    ⊎ ((trace : List ℕ) × ReadsIfNamed reads files named.trace (Ok trace)
-    × ((key : Option (List ℕ)) × ReadsKeyIfNamed guards files named.key (Ok key)
-    × (ReadsOptional reads files named.rules (Err (unread_view unread))
-    ⊎ ((rules : Option (List ℕ)) × ReadsOptional reads files named.rules (Ok rules)
-    × ReadsOptional reads files named.diagram (Err (unread_view unread))))))))
-LoadsFiles reads guards files named (Err (unserved.KeyFileFault none)) =
-    (both : FilesData) × ReadsBoth reads files named.bay named.program (Ok both)
-    × ((trace : List ℕ) × ReadsIfNamed reads files named.trace (Ok trace)
-    × ReadsKeyIfNamed guards files named.key (Err (key_fault_view none)))
-LoadsFiles reads guards files named (Err (unserved.Refused error)) =
-    (both : FilesData) × ReadsBoth reads files named.bay named.program (Ok both)
-    × ((trace : List ℕ) × ReadsIfNamed reads files named.trace (Ok trace)
-    × ((key : Option (List ℕ)) × ReadsKeyIfNamed guards files named.key (Ok key)
-    × ((rules : Option (List ℕ)) × ReadsOptional reads files named.rules (Ok rules)
-    × ((diagram : Option (List ℕ)) × ReadsOptional reads files named.diagram (Ok diagram)
-    × MayLoadTo both.bay named.form both.program (Err error)))))
-LoadsFiles reads guards files named (Err _) = ⊥
+abbrev pub LoadsFiles : {F : Type 0} → FileReads F → ProtectedReads F → F → Form → List ℕ
+    → ServeTask (List ℕ) → Result LoadedFiles ServeStartFault → Type 0
+LoadsFiles reads guards files form program task (Ok loaded) =
+    ReadsBoth reads files task.bay program (Ok (data_of loaded))
+    × ReadsIfNamed reads files task.options.trace (Ok loaded.trace.items)
+    × ReadsKeyIfNamed guards files task.options.key (Ok (option_map (λ key. key.items) loaded.key))
+    × ReadsOptional reads files task.options.rules (Ok loaded.rules)
+    × ReadsOptional reads files task.options.diagram (Ok loaded.diagram)
+    × (loaded.form ≡ form)
+    × LoadsTo loaded.both.bay.items form loaded.both.program.items (Ok loaded.load)
+    × RunsText form (data_of loaded) (state_of loaded)
+LoadsFiles reads guards files form program task (Err (unserved.Unread unread)) =
+    ReadsBoth reads files task.bay program (Err (unread_view unread))
+    ⊎ ((both : FilesData) × ReadsBoth reads files task.bay program (Ok both)
+    × (ReadsIfNamed reads files task.options.trace (Err (unread_view unread))
+    ⊎ ((trace : List ℕ) × ReadsIfNamed reads files task.options.trace (Ok trace)
+    × ((key : Option (List ℕ)) × ReadsKeyIfNamed guards files task.options.key (Ok key)
+    × (ReadsOptional reads files task.options.rules (Err (unread_view unread))
+    ⊎ ((rules : Option (List ℕ)) × ReadsOptional reads files task.options.rules (Ok rules)
+    × ReadsOptional reads files task.options.diagram (Err (unread_view unread))))))))
+LoadsFiles reads guards files form program task (Err (unserved.KeyFileFault none)) =
+    (both : FilesData) × ReadsBoth reads files task.bay program (Ok both)
+    × ((trace : List ℕ) × ReadsIfNamed reads files task.options.trace (Ok trace)
+    × ReadsKeyIfNamed guards files task.options.key (Err (key_fault_view none)))
+LoadsFiles reads guards files form program task (Err (unserved.Refused error)) =
+    (both : FilesData) × ReadsBoth reads files task.bay program (Ok both)
+    × ((trace : List ℕ) × ReadsIfNamed reads files task.options.trace (Ok trace)
+    × ((key : Option (List ℕ)) × ReadsKeyIfNamed guards files task.options.key (Ok key)
+    × ((rules : Option (List ℕ)) × ReadsOptional reads files task.options.rules (Ok rules)
+    × ((diagram : Option (List ℕ)) × ReadsOptional reads files task.options.diagram (Ok diagram)
+    × MayLoadTo both.bay form both.program (Err error)))))
+LoadsFiles reads guards files form program task (Err _) = ⊥
 
 -- ---- ports
 
@@ -206,36 +202,35 @@ IsBound records s link process bound =
 
 module _ {L H : Type 0} (acts : H → HostCall L → H → Type 0) where
   -- the port of the process is opened, if there is one
-  abbrev pub BindsProcess : Bool → Bool → Option SupervisionSettings → State → L → Option ℕ → H
-      → H → Result (BoundServer L) ServeStartFault → Type 0
-  BindsProcess records sends settings s link None before after bound =
-      (after ≡ before) × IsBound records s link None bound
-  BindsProcess records sends settings s link (Some port) before after bound =
+  abbrev pub BindsProcess : ServeTask (List ℕ) → Option SupervisionSettings → State → L → Option ℕ
+      → H → H → Result (BoundServer L) ServeStartFault → Type 0
+  BindsProcess task settings s link None before after bound =
+      (after ≡ before) × IsBound (is_recorded task.options) s link None bound
+  BindsProcess task settings s link (Some port) before after bound =
       (had : Result L BindFault) × acts before (Binds port None had) after
       × MatchResult had
-      (λ other. IsBound records s link
-      (Some (record { link = other; port = initial_port sends settings })) bound)
+      (λ other. IsBound (is_recorded task.options) s link
+      (Some (record { link = other; port = initial_port task.sends_releases settings })) bound)
       (λ fault. bound ≡ Err (unserved.Unbound port fault))
 
   -- the port of the clients is opened, and then that of the process; or memory runs out for the
   -- device, before a port is opened
-  abbrev pub BindsPorts : ServeOptions → Option SupervisionSettings → State → H → H
+  abbrev pub BindsPorts : ServeTask (List ℕ) → Option SupervisionSettings → State → H → H
       → Result (BoundServer L) ServeStartFault
       → Type 0
-  BindsPorts options settings s before after bound =
+  BindsPorts task settings s before after bound =
       ((had : Result L BindFault) × (mid : H)
-      × acts before (Binds options.port options.idle_s had) mid
+      × acts before (Binds task.port task.options.idle_s had) mid
       × MatchResult had
-      (λ link. BindsProcess (is_some options.record_most) options.sends_releases settings s link
-      options.process mid after bound)
-      (λ fault. (after ≡ mid) × (bound ≡ Err (unserved.Unbound options.port fault))))
+      (λ link. BindsProcess task settings s link task.options.process mid after bound)
+      (λ fault. (after ≡ mid) × (bound ≡ Err (unserved.Unbound task.port fault))))
       ⊎ ((after ≡ before) × (bound ≡ Err unserved.OutOfMemory))
 
 -- what is logged before the first turn: the ports, the room of the record, if there is one, and the
 -- sums of the files that are served
-abbrev pub start_log : ℕ → ServeOptions → ServedFiles → List (List ℕ)
-start_log now options served =
-    ports_log now options.port options.process ∷ room_log now options.record_most
+abbrev pub start_log : ℕ → ServeTask (List ℕ) → ServedFiles → List (List ℕ)
+start_log now task served =
+    ports_log now task.port task.options.process ∷ room_log now (record_room task.options)
     ++ sums_log now served
 
 -- the files that are served, with the numbers of the rules and of the releases that hold
@@ -268,18 +263,18 @@ module _ {L H W : Type 0} (step : L → Call → L → Type 0) (acts : H → Hos
 
   -- the server's clock is started, the ports, the record's room and the sums of the files are
   -- logged, and turns are served
-  abbrev pub ServesBound : ServeOptions → ServedFiles → BoundServer L → List ℕ → H → H
+  abbrev pub ServesBound : ServeTask (List ℕ) → ServedFiles → BoundServer L → List ℕ → H → H
       → WriterState W → WriterState W
       → Result ℕ WriteFault → Type 0
-  ServesBound options served bound trace host after old new answer =
+  ServesBound task served bound trace host after old new answer =
       (clocks : Clocks) × (began : H) × (mid : WriterState W)
       × acts host (ReadsTimes clocks.system clocks.steady) began
-      × LogsAll contents asks old (start_log clocks.system options served) mid
-      × ServesRun options.turns
+      × LogsAll contents asks old (start_log clocks.system task served) mid
+      × ServesRun task.turns
       (record {
         link = bound.link;
         held = bound.server;
-        clock = initial_clock clocks;
+        clock = initial_clock clocks task.options.cycle_ms;
         count = no_lines;
         host = began;
         process = bound.process;
@@ -288,15 +283,16 @@ module _ {L H W : Type 0} (step : L → Call → L → Type 0) (acts : H → Hos
 
   -- the ports are opened, and the device is served, with these numbers of rules and releases that
   -- hold; or it is reported why no turn is served
-  pub record ServesPorts (options : ServeOptions) (loaded : LoadedFiles) (held : HeldCounts)
+  pub record ServesPorts (task : ServeTask (List ℕ)) (loaded : LoadedFiles) (held : HeldCounts)
       (before after : H) (old new : WriterState W) (answer : Result ℕ WriteFault) : Type 0 where
     pub bound : Result (BoundServer L) ServeStartFault
     pub host : H
-    pub binds : BindsPorts acts options
-        (settings_of options.limit_ms (key_of (option_map (λ digits. digits.items) loaded.key)))
+    pub binds : BindsPorts acts task
+        (settings_of task.options.limit_ms
+        (key_of (option_map (λ digits. digits.items) loaded.key)))
         (state_of loaded) before host bound
     pub continuation : MatchResult bound
-        (λ ports. ServesBound options (served_of loaded held) ports loaded.trace.items host after
+        (λ ports. ServesBound task (served_of loaded held) ports loaded.trace.items host after
         old new answer)
         (λ why. EndsUnserved contents asks why old new answer × (after ≡ host))
 
@@ -314,25 +310,26 @@ module _ {L H W : Type 0} (step : L → Call → L → Type 0) (acts : H → Hos
         (λ count. Goes count middle)
 
   -- the releases are judged by the diagram, if one was named, and then the ports are served
-  abbrev pub ServesDiagram : ServeOptions → LoadedFiles → ℕ → H → H → WriterState W → WriterState W
+  abbrev pub ServesDiagram : ServeTask (List ℕ) → LoadedFiles → ℕ → H → H → WriterState W
+      → WriterState W
       → Result ℕ WriteFault → Type 0
-  ServesDiagram options loaded rules before after old new answer =
+  ServesDiagram task loaded rules before after old new answer =
       ServesPermitted (WritesOnDiagram contents asks loaded.load loaded.diagram)
-      (λ releases middle. ServesPorts options loaded
+      (λ releases middle. ServesPorts task loaded
       (record { rules = rules; releases = releases }) before after middle new answer) before after
       old new answer
 
   -- the rules are judged, if they were named, and then the diagram
-  abbrev pub ServesRules : ServeOptions → LoadedFiles → H → H → WriterState W → WriterState W
+  abbrev pub ServesRules : ServeTask (List ℕ) → LoadedFiles → H → H → WriterState W → WriterState W
       → Result ℕ WriteFault → Type 0
-  ServesRules options loaded before after old new answer =
+  ServesRules task loaded before after old new answer =
       ServesPermitted (WritesOnRules contents asks loaded.load loaded.rules)
-      (λ rules middle. ServesDiagram options loaded rules before after middle new answer) before
+      (λ rules middle. ServesDiagram task loaded rules before after middle new answer) before
       after old new answer
 
   -- the line of a load is printed, then the rules and the diagram are judged, and the ports are
   -- served
-  pub record ServesLoaded (options : ServeOptions) (loaded : LoadedFiles) (before after : H)
+  pub record ServesLoaded (task : ServeTask (List ℕ)) (loaded : LoadedFiles) (before after : H)
       (old new : WriterState W) (answer : Result ℕ WriteFault) : Type 0 where
     pub report : Report
     pub is : IsReportOf loaded.load.image report
@@ -340,15 +337,16 @@ module _ {L H W : Type 0} (step : L → Call → L → Type 0) (acts : H → Hos
     pub reported : Result ℕ WriteFault
     pub printed : Prints contents asks (IsOutput (report_text report) 0) old middle reported
     pub continuation : AfterTurn reported ((new ≡ middle) × (after ≡ before) × (answer ≡ reported))
-        (ServesRules options loaded before after middle new answer)
+        (ServesRules task loaded before after middle new answer)
 
   -- Files are read and loaded, and their contents are served; or it is reported why no turn is
   -- served.
   pub record ServesFiles {F : Type 0} (reads : FileReads F) (guards : ProtectedReads F) (files : F)
-      (named : FileNames) (options : ServeOptions) (before after : H) (old new : WriterState W)
+      (task : ServeTask (List ℕ)) (before after : H) (old new : WriterState W)
       (answer : Result ℕ WriteFault) : Type 0 where
     pub loaded : Result LoadedFiles ServeStartFault
-    pub loads : LoadsFiles reads guards files named loaded
+    pub loads : LoadsFiles reads guards files (form_of task.program) (name_of task.program) task
+        loaded
     pub continuation : MatchResult loaded
-        (λ all. ServesLoaded options all before after old new answer)
+        (λ all. ServesLoaded task all before after old new answer)
         (λ why. EndsUnserved contents asks why old new answer × (after ≡ before))

@@ -1,9 +1,11 @@
 // Reads, loads and serves files.
-ghost use Rattle.std.specs.Prelude.{◌≡◌, None, Some, Ok, Err, false, is_some, replicate, IfErr, IfOk, ◌≤◌, length, option_map};
+ghost use Rattle.std.specs.Prelude.{◌≡◌, None, Some, Ok, Err, false, replicate, IfErr, IfOk, ◌≤◌, length, option_map};
+ghost use Rattle.bay_cli.specs.JobView.{options_view, program_view, serve_view};
 ghost use Rattle.bay_device.specs.Load.{device_of};
 ghost use Rattle.bay_device.specs.Outcomes.{associations};
 ghost use Rattle.bay_report.specs.LogLines.{PrintsLogs};
-ghost use Rattle.cmd_serve.specs.Serve.{BindsPorts, BindsProcess, EndsUnserved, IsBound, IsRecordFault, KeylessReport, LoadsFiles, ServesBound, ServesFiles, ServesLoaded, ServesPorts, Unrecorded, UnservedReport, settings_of, key_of, new_server, names_of, state_of};
+ghost use Rattle.cmd_serve.specs.Serve.{BindsPorts, BindsProcess, EndsUnserved, IsBound, IsRecordFault, KeylessReport, LoadsFiles, ServesBound, ServesFiles, ServesLoaded, ServesPorts, Unrecorded, UnservedReport, is_recorded, key_of, name_of, new_server, settings_of, state_of};
+ghost use Rattle.cmd_serve.specs.Serve as spec;
 ghost use Rattle.cmd_serve.specs.declared.serve.ServeStartFault.TheVariants as unserved;
 ghost use Rattle.bay_replay_laws.specs.ReadBack.{HaveIds};
 ghost use Rattle.bay_server_turn.specs.Calls.{CountedCall};
@@ -12,6 +14,7 @@ ghost use Rattle.cmd_serve.specs.Service.{IsBegun};
 use crate::permit::{Permit, prove_diagram, prove_rules};
 use crate::sums::{HeldCounts, ServedFiles, log_sums};
 use bay_base::listing::Listing;
+use bay_cli::task::{ProgramFile, ServeOptions, ServeTask};
 use bay_device::device::Device;
 use bay_files::files::{BothFiles, FileFault, FileSystem, UnreadFile, read_files, read_optional};
 use bay_files::key::{KeyFault, KeyFileFault, read_key};
@@ -40,34 +43,9 @@ use cmd_audit::audit_files::read_named;
 use std::alloc::{AllocError, AllocFailed, Global};
 use std::io::ErrorKind;
 
-/// The port for clients, the number of turns, the port for the process, if there is one, whether
-/// releases are sent to the process, for how many milliseconds it may be silent, if it is
-/// supervised, for how many seconds a client may send nothing, if that is limited, and the most
-/// octets of the record, if the session is recorded.
-#[derive(Clone, Copy)]
-pub struct ServeOptions {
-    pub port: u16,
-    pub turns: u32,
-    pub process: Option<u16>,
-    pub sends_releases: bool,
-    pub limit_ms: Option<u32>,
-    pub idle_s: Option<u32>,
-    pub record_most: Option<u32>,
-}
-
-/// The names of the files of a service: the bay, a program or an image, the trace of the process,
-/// the key that the process must send, the rules that must hold, and the single line diagram in
-/// which no release may be a hazard.
-#[derive(Clone, Copy)]
-pub struct NamedFiles<'a> {
-    pub bay: &'a str,
-    pub form: Form,
-    pub program: &'a str,
-    pub trace: Option<&'a str>,
-    pub key: Option<&'a str>,
-    pub rules: Option<&'a str>,
-    pub diagram: Option<&'a str>,
-}
+// The maximum number of octets of a record, unless the command has another: with the bay file and
+// the program such a record is a scenario that can be replayed.
+const MOST: u32 = 16_000_000;
 
 /// The contents of the files: a bay file and a program or an image, what was loaded of them, a
 /// trace, and a key, rules and a diagram, if there are some.
@@ -135,6 +113,17 @@ impl From<AllocError> for ServeStartFault<'_> {
 
     fn from(_: AllocError) -> Self {
         ServeStartFault::OutOfMemory
+    }
+}
+
+/// Returns the form of a program and the name of its file.
+pub fn form_of<'a>(program: ProgramFile<&'a str>) -> (Form, &'a str)
+    ensures form { result.0 ≡ spec.form_of (program_view program.entry) }
+    ensures name { result.1.now ≡ name_of (program_view program.entry) }
+{
+    match program {
+        ProgramFile::Logic(name) => (Form::Logic, name),
+        ProgramFile::Image(name) => (Form::Image, name),
     }
 }
 
@@ -211,31 +200,28 @@ fn report_unserved<W: Sink>(
 // if they are named, and loads them.
 fn read_and_load<'a, F: FileSystem>(
     alloc: Global,
-    named: NamedFiles<'a>,
+    task: ServeTask<&'a str>,
+    form: Form,
+    program: &'a str,
     files: &F,
 ) -> Result<LoadedFiles, ServeStartFault<'a>>
-    ensures ok { IfOk result
-        (λ loaded. LoadsFiles F.reads F.guards files.now (names_of named.entry) (Ok loaded)) }
-    ensures err { IfErr result
-        (λ why. LoadsFiles F.reads F.guards files.now (names_of named.entry) (Err why)) }
+    ensures ok { IfOk result (λ loaded. LoadsFiles F.reads F.guards files.now form program.now
+        (serve_view task.entry) (Ok loaded)) }
+    ensures err { IfErr result (λ why. LoadsFiles F.reads F.guards files.now form program.now
+        (serve_view task.entry) (Err why)) }
     ensures begun { IfOk result (λ loaded. IsBegun (new_server (state_of loaded))) }
     ensures named { IfOk result (λ loaded. HaveIds loaded.load.bay.switches) }
     ensures short { IfOk result
         (λ loaded. length (key_of (option_map (λ digits. digits.items) loaded.key)) ≤ 64) }
 {
-    let both = read_files(alloc, files, named.bay, named.program)?;
-    let trace = read_optional(alloc, files, named.trace)?;
-    let key = read_key(alloc, files, named.key)?;
-    let rules = read_named(alloc, files, named.rules)?;
-    let diagram = read_named(alloc, files, named.diagram)?;
-    let load = load_files(
-        alloc,
-        both.bay.as_slice(),
-        named.form,
-        both.program.as_slice(),
-    )?;
+    let both = read_files(alloc, files, task.bay, program)?;
+    let trace = read_optional(alloc, files, task.options.trace)?;
+    let key = read_key(alloc, files, task.options.key)?;
+    let rules = read_named(alloc, files, task.options.rules)?;
+    let diagram = read_named(alloc, files, task.options.diagram)?;
+    let load = load_files(alloc, both.bay.as_slice(), form, both.program.as_slice())?;
     Ok(LoadedFiles {
-        form: named.form,
+        form,
         both,
         rules,
         diagram,
@@ -266,22 +252,29 @@ fn make_settings(limit_ms: Option<u32>, key: &[u8]) -> Option<SupervisionSetting
     }
 }
 
-// Starts a server's record in a new file with this name, if the session is recorded.
+// Returns the most octets of a record, if one is named.
+fn record_room(options: ServeOptions<&str>) -> Option<u32>
+    ensures { result ≡ spec.record_room (options_view options.entry) }
+{
+    match options.record_file {
+        Some(_) => Some(options.record_most.unwrap_or(MOST)),
+        None => None,
+    }
+}
+
+// Starts a server's record in a new file, if the session is recorded.
 fn start_record<'a, F: FileSystem>(
     alloc: Global,
-    record_file: Option<&'a str>,
-    record_most: Option<u32>,
+    options: ServeOptions<&'a str>,
     files: &mut F,
     server: &mut Server,
 ) -> Result<(), ServeStartFault<'a>>
     ensures server { server.new ≡ server.old }
-    ensures files { is_some record_file.entry ≡ false → files.new ≡ files.old }
-    ensures fault { IfErr result (λ why. IsRecordFault (is_some record_file.entry) why) }
+    ensures files { is_recorded (options_view options.entry) ≡ false → files.new ≡ files.old }
+    ensures fault { IfErr result
+        (λ why. IsRecordFault (is_recorded (options_view options.entry)) why) }
 {
-    let Some(name) = record_file else {
-        return Ok(());
-    };
-    let Some(most) = record_most else {
+    let Some(name) = options.record_file else {
         return Ok(());
     };
     let file = match files.create(name) {
@@ -291,9 +284,9 @@ fn start_record<'a, F: FileSystem>(
             return Err(ServeStartFault::Unrecorded(name, kind));
         }
     };
-    match Record::new(alloc, file, most) {
-        Ok(record_file) => {
-            server.start_record(record_file);
+    match Record::new(alloc, file, options.record_most.unwrap_or(MOST)) {
+        Ok(record) => {
+            server.start_record(record);
             Ok(())
         }
         Err(AllocError) => Err(ServeStartFault::OutOfMemory),
@@ -307,20 +300,19 @@ fn make_bound_server<'a, F: FileSystem, L: Drop>(
     device: Device,
     link: L,
     process: Option<Process<L>>,
-    record_file: Option<&'a str>,
-    record_most: Option<u32>,
+    options: ServeOptions<&'a str>,
     files: &mut F,
 ) -> Result<BoundServer<L>, ServeStartFault<'a>>
     requires closed { device.connections ≡ replicate associations None }
-    ensures bound { IsBound (is_some record_file.entry) device link process result }
+    ensures bound { IsBound (is_recorded (options_view options.entry)) device link process result }
     ensures server { IfOk result (λ bound. bound.server ≡ new_server device) }
-    ensures files { is_some record_file.entry ≡ false → files.new ≡ files.old }
+    ensures files { is_recorded (options_view options.entry) ≡ false → files.new ≡ files.old }
 {
     let mut server = match Server::new(alloc, device) {
         Ok(server) => server,
         Err(AllocFailed { value: _ }) => return Err(ServeStartFault::OutOfMemory),
     };
-    match start_record(alloc, record_file, record_most, files, &mut server) {
+    match start_record(alloc, options, files, &mut server) {
         Ok(()) => Ok(BoundServer {
             server,
             link,
@@ -336,28 +328,24 @@ fn bind_process<'a, F: FileSystem, L: Link + Drop, H: Host<L>>(
     device: Device,
     link: L,
     host: &mut H,
-    options: ServeOptions,
+    task: ServeTask<&'a str>,
     settings: Option<SupervisionSettings>,
-    record_file: Option<&'a str>,
     files: &mut F,
 ) -> Result<BoundServer<L>, ServeStartFault<'a>>
     requires closed { device.connections ≡ replicate associations None }
-    requires records { is_some options.record_most ≡ is_some record_file }
-    ensures binds { BindsProcess H.does (is_some options.record_most) options.sends_releases
-        settings
-        device link options.process host.old host.new result }
+    ensures binds { BindsProcess H.does (serve_view task.entry) settings device link
+        (serve_view task.entry).options.process host.old host.new result }
     ensures server { IfOk result (λ bound. bound.server ≡ new_server device) }
-    ensures files { is_some options.record_most ≡ false → files.new ≡ files.old }
+    ensures files { is_recorded (serve_view task.entry).options ≡ false → files.new ≡ files.old }
 {
-    let most = options.record_most;
-    let Some(port) = options.process else {
-        return make_bound_server(alloc, device, link, None, record_file, most, files);
+    let Some(port) = task.options.process else {
+        return make_bound_server(alloc, device, link, None, task.options, files);
     };
     match host.bind(port, None) {
         Ok(had) => {
-            let port = Port::new(alloc, options.sends_releases, settings)?;
+            let port = Port::new(alloc, task.sends_releases, settings)?;
             let process = Some(Process::new(had, port));
-            make_bound_server(alloc, device, link, process, record_file, most, files)
+            make_bound_server(alloc, device, link, process, task.options, files)
         }
         Err(fault) => Err(ServeStartFault::Unbound(port, fault)),
     }
@@ -369,29 +357,19 @@ fn bind_ports<'a, F: FileSystem, L: Link + Drop, H: Host<L>>(
     alloc: Global,
     load: Loaded,
     host: &mut H,
-    options: ServeOptions,
+    task: ServeTask<&'a str>,
     settings: Option<SupervisionSettings>,
-    record_file: Option<&'a str>,
     files: &mut F,
 ) -> Result<BoundServer<L>, ServeStartFault<'a>>
-    requires records { is_some options.record_most ≡ is_some record_file }
-    ensures binds { BindsPorts H.does options settings (device_of load) host.old host.new result }
+    ensures binds { BindsPorts H.does (serve_view task.entry) settings (device_of load) host.old
+        host.new result }
     ensures server { IfOk result (λ bound. bound.server ≡ new_server (device_of load)) }
-    ensures files { is_some options.record_most ≡ false → files.new ≡ files.old }
+    ensures files { is_recorded (serve_view task.entry).options ≡ false → files.new ≡ files.old }
 {
     let device = Device::new(alloc, load)?;
-    match host.bind(options.port, options.idle_s) {
-        Ok(link) => bind_process(
-            alloc,
-            device,
-            link,
-            host,
-            options,
-            settings,
-            record_file,
-            files,
-        ),
-        Err(fault) => Err(ServeStartFault::Unbound(options.port, fault)),
+    match host.bind(task.port, task.options.idle_s) {
+        Ok(link) => bind_process(alloc, device, link, host, task, settings, files),
+        Err(fault) => Err(ServeStartFault::Unbound(task.port, fault)),
     }
 }
 
@@ -402,17 +380,18 @@ fn serve_bound<L: Link + Drop, H: Host<L>, W: Sink>(
     served: ServedFiles,
     trace: &[u8],
     host: &mut H,
-    options: ServeOptions,
+    task: ServeTask<&str>,
     writer: &mut WatchedWriter<W>,
 ) -> Result<u8, WriteFault>
     requires begun { IsBegun bound.server }
     requires named { HaveIds bound.server.device.switches }
-    ensures { ServesBound (CountedCall L.does L.failures) H.does W.contents W.does options served
-        bound trace.now host.old host.new writer.old writer.new result }
+    ensures { ServesBound (CountedCall L.does L.failures) H.does W.contents W.does
+        (serve_view task.entry) served bound trace.now host.old host.new writer.old writer.new
+        result }
 {
     let clocks = host.clocks();
-    log_ports(writer, clocks.system, options.port, options.process);
-    log_room(writer, clocks.system, options.record_most);
+    log_ports(writer, clocks.system, task.port, task.options.process);
+    log_room(writer, clocks.system, record_room(task.options));
     log_sums(writer, clocks.system, &served);
     drop(served);
     let BoundServer {
@@ -420,16 +399,9 @@ fn serve_bound<L: Link + Drop, H: Host<L>, W: Sink>(
         link,
         process,
     } = bound;
-    let clock = ServeClock::start(clocks);
+    let clock = ServeClock::start(clocks, task.options.cycle_ms);
     serve_turns(
-        server,
-        clock,
-        link,
-        process,
-        host,
-        trace,
-        options.turns,
-        writer,
+        server, clock, link, process, host, trace, task.turns, writer,
     )
 }
 
@@ -439,20 +411,18 @@ fn serve_ports<F: FileSystem, L: Link + Drop, H: Host<L>, W: Sink>(
     alloc: Global,
     loaded: LoadedFiles,
     held: HeldCounts,
-    record_file: Option<&str>,
     files: &mut F,
     host: &mut H,
-    options: ServeOptions,
+    task: ServeTask<&str>,
     writer: &mut WatchedWriter<W>,
 ) -> Result<u8, WriteFault>
-    requires records { is_some options.record_most ≡ is_some record_file }
     requires begun { IsBegun (new_server (state_of loaded)) }
     requires named { HaveIds loaded.load.bay.switches }
     requires short { length (key_of (option_map (λ digits. digits.items) loaded.key)) ≤ 64 }
-    ensures serves { ServesPorts (CountedCall L.does L.failures) H.does W.contents W.does options
-        loaded
+    ensures serves { ServesPorts (CountedCall L.does L.failures) H.does W.contents W.does
+        (serve_view task.entry) loaded
         held host.old host.new writer.old writer.new result }
-    ensures files { is_some options.record_most ≡ false → files.new ≡ files.old }
+    ensures files { is_recorded (serve_view task.entry).options ≡ false → files.new ≡ files.old }
 {
     let LoadedFiles {
         form,
@@ -470,9 +440,9 @@ fn serve_ports<F: FileSystem, L: Link + Drop, H: Host<L>, W: Sink>(
         diagram,
         held,
     };
-    let settings = make_settings(options.limit_ms, key_octets(&key));
-    match bind_ports(alloc, load, host, options, settings, record_file, files) {
-        Ok(bound) => serve_bound(bound, served, trace.as_slice(), host, options, writer),
+    let settings = make_settings(task.options.limit_ms, key_octets(&key));
+    match bind_ports(alloc, load, host, task, settings, files) {
+        Ok(bound) => serve_bound(bound, served, trace.as_slice(), host, task, writer),
         Err(why) => report_unserved(writer, why),
     }
 }
@@ -482,20 +452,18 @@ fn serve_ports<F: FileSystem, L: Link + Drop, H: Host<L>, W: Sink>(
 fn serve_loaded<F: FileSystem, L: Link + Drop, H: Host<L>, W: Sink>(
     alloc: Global,
     loaded: LoadedFiles,
-    record_file: Option<&str>,
     files: &mut F,
     host: &mut H,
-    options: ServeOptions,
+    task: ServeTask<&str>,
     writer: &mut WatchedWriter<W>,
 ) -> Result<u8, WriteFault>
-    requires records { is_some options.record_most ≡ is_some record_file }
     requires begun { IsBegun (new_server (state_of loaded)) }
     requires named { HaveIds loaded.load.bay.switches }
     requires short { length (key_of (option_map (λ digits. digits.items) loaded.key)) ≤ 64 }
-    ensures serves { ServesLoaded (CountedCall L.does L.failures) H.does W.contents W.does options
-        loaded
+    ensures serves { ServesLoaded (CountedCall L.does L.failures) H.does W.contents W.does
+        (serve_view task.entry) loaded
         host.old host.new writer.old writer.new result }
-    ensures files { is_some options.record_most ≡ false → files.new ≡ files.old }
+    ensures files { is_recorded (serve_view task.entry).options ≡ false → files.new ≡ files.old }
 {
     write_report(writer, loaded.load.report())?;
     let permit = prove_rules(alloc, &loaded.load, &loaded.rules, writer)?;
@@ -509,16 +477,7 @@ fn serve_loaded<F: FileSystem, L: Link + Drop, H: Host<L>, W: Sink>(
         Permit::Denied(status) => return Ok(status),
     };
     let held = HeldCounts { rules, releases };
-    serve_ports(
-        alloc,
-        loaded,
-        held,
-        record_file,
-        files,
-        host,
-        options,
-        writer,
-    )
+    serve_ports(alloc, loaded, held, files, host, task, writer)
 }
 
 /// Serves files by their names. Reads the bay, then the program or the image, then the trace, the
@@ -542,21 +501,18 @@ fn serve_loaded<F: FileSystem, L: Link + Drop, H: Host<L>, W: Sink>(
 /// supervision before the moment of this turn.
 pub fn serve<F: FileSystem, L: Link + Drop, H: Host<L>, W: Sink>(
     alloc: Global,
-    named: NamedFiles<'_>,
-    record_file: Option<&str>,
+    task: ServeTask<&str>,
     files: &mut F,
     host: &mut H,
-    options: ServeOptions,
     writer: &mut WatchedWriter<W>,
 ) -> Result<u8, WriteFault>
-    requires records { is_some options.record_most ≡ is_some record_file }
     ensures serves { ServesFiles (CountedCall L.does L.failures) H.does W.contents W.does F.reads
-        F.guards files.old (names_of named.entry) options host.old host.new writer.old writer.new
-        result }
-    ensures files { is_some options.record_most ≡ false → files.new ≡ files.old }
+        F.guards files.old (serve_view task.entry) host.old host.new writer.old writer.new result }
+    ensures files { is_recorded (serve_view task.entry).options ≡ false → files.new ≡ files.old }
 {
-    match read_and_load(alloc, named, files) {
-        Ok(loaded) => serve_loaded(alloc, loaded, record_file, files, host, options, writer),
+    let (form, program) = form_of(task.program);
+    match read_and_load(alloc, task, form, program, files) {
+        Ok(loaded) => serve_loaded(alloc, loaded, files, host, task, writer),
         Err(why) => report_unserved(writer, why),
     }
 }

@@ -227,6 +227,26 @@ def turns(checks) -> None:
                  f'100 turns take {least:.2f} s')
 
 
+# Shows P-121.
+def cycles(checks) -> None:
+    """With a cycle, no turn is shorter: neither the turns of a server that nobody uses, nor those
+    beside a client that asks without a pause."""
+    cycle, count = 0.050, 20
+    words = ['--cycle', str(round(cycle * 1000))]
+    seconds = took(subprocess.run, [checks.bayctl, 'serve', '--bay', BAY, '--logic', LOGIC,
+                                    '--turns', str(count), '--port', str(free_port()), *words],
+                   stdout=subprocess.DEVNULL)
+    checks.holds('a turn is shorter than its cycle', seconds >= count * cycle,
+                 f'{count} turns take {seconds:.2f} s')
+    with Server(checks.bayctl, BAY, LOGIC, *words) as server:
+        client = server.client()
+        answered(client, IDENTIFY, 1)
+        seconds = took(lambda: [answered(client, IDENTIFY, 1) for _ in range(count)])
+        checks.holds('a busy client shortens the turns', seconds >= (count - 1) * cycle,
+                     f'{count} requests take {seconds:.2f} s')
+        client.close()
+
+
 # Shows P-126.
 def pieces(checks) -> None:
     """What comes at once is read in pieces of 4,096 octets, without a rest between them."""
@@ -336,6 +356,6 @@ def all_of(checks) -> None:
     """Does all of it. The connections that are silent for ten seconds are so meanwhile."""
     silent = threading.Thread(target=checks.run_part, args=(silence,))
     silent.start()
-    for part in (clients, closings, eight, moments, turns, pieces, wakes, rests, unread):
+    for part in (clients, closings, eight, moments, turns, cycles, pieces, wakes, rests, unread):
         checks.run_part(part)
     silent.join()

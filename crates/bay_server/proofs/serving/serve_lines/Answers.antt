@@ -1,7 +1,7 @@
 use Rattle.std.proofs.Common.{◌≡◌, ◌+◌, ◌-◌, suc, arith}
 use Rattle.std.proofs.lemmas.Bool.Decides.{nat_tests}
 use Rattle.bay_server.specs.Serving.{with_host}
-use Rattle.bay_server.proofs.ServeLemmas.{Reached-done, Reached-end, Reached-ends, Reached-fails, may-pause}
+use Rattle.bay_server.proofs.ServeLemmas.{Reached-done, Reached-end, Reached-ends, Reached-fails, awaits-next}
 use Rattle.bay_server_turn.specs.Calls.{CountedCall}
 use Rattle.bay_server.proofs.serving.serve_lines.Goals as goal
 
@@ -36,10 +36,10 @@ loop-turn-preserved g c =
           g.W.Sink.does _ _ _ _ _ _ _ c.loop-turn.invariant.reached more
           (with_host c.try_turn.new.served c.try_turn.new.host c.try_turn.new.lines) _
           c.try_turn.new.writer _ _ c.in-Done.is c.in_ok-status.ensures
-          (may-pause (CountedCall g.L.Link.does g.L.Link.failures) g.H.Host.does
+          (awaits-next (CountedCall g.L.Link.does g.L.Link.failures) g.H.Host.does
           g.W.Sink.contents
           g.W.Sink.does (with_host c.try_turn.new.served c.try_turn.new.host c.try_turn.new.lines)
-          _ c.pause_if_idle.ensures);
+          _ (rw c.turn_end.ensures at c.await_turn.ensures));
     }
 
 pub returns : goal.returns

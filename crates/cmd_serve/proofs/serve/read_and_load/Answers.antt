@@ -106,7 +106,7 @@ returns-clause-ok g c =
       c.in_ok-diagram.ensures.ok,
       refl,
       loads,
-      text-runs c.args.named.form both (device_of c.in_ok-load.load)
+      text-runs c.args.form both (device_of c.in_ok-load.load)
           (c.in_ok-load.load, loads, refl),
     )
 

@@ -4,13 +4,13 @@ use Rattle.cmd_serve.proofs.serve.serve.Goals as goal
 pub returns-in-Ok-clause-serves : goal.returns-in-Ok-clause-serves
 returns-in-Ok-clause-serves g c = record {
   loaded = Ok c.in-Ok.loaded;
-  loads = c.in-Ok.ensures.ok;
+  loads = rw (c.form_of-form.ensures.form, c.form_of-form.ensures.name) at c.in-Ok.ensures.ok;
   continuation = c.serve_loaded.ensures.serves;
 }
 
 pub returns-in-Err-clause-serves : goal.returns-in-Err-clause-serves
 returns-in-Err-clause-serves g c = record {
   loaded = Err c.in-Err.why;
-  loads = c.in-Err.ensures.err;
+  loads = rw (c.form_of-form.ensures.form, c.form_of-form.ensures.name) at c.in-Err.ensures.err;
   continuation = (c.report_unserved.ensures, refl);
 }

@@ -13,7 +13,8 @@ returns g c = (
     c.log_ports.new.writer,
     c.log_ports.ensures,
     logs-then g.W.Sink.contents g.W.Sink.does c.log_ports.new.writer c.log_room.new.writer
-        c.log_sums.new.writer _ _ c.log_room.ensures c.log_sums.ensures,
+        c.log_sums.new.writer _ _ (rw c.record_room.ensures at c.log_room.ensures)
+        c.log_sums.ensures,
   ),
   one-run (CountedCall g.L.Link.does g.L.Link.failures) g.H.Host.does g.W.Sink.contents
       g.W.Sink.does _

@@ -1,4 +1,5 @@
 use Rattle.std.proofs.Common.{Ok, Err, refl}
+use Rattle.bay_cli.specs.JobView.{serve_view}
 use Rattle.bay_server_turn.specs.Calls.{CountedCall}
 use Rattle.cmd_serve.specs.declared.permit.Permit.TheVariants.{Granted, Denied}
 use Rattle.cmd_serve.proofs.FileLemmas.{answer-fails, line-fails}
@@ -7,7 +8,8 @@ use Rattle.cmd_serve.proofs.serve.serve_loaded.Goals as goal
 pub returns-in_err-write_report-clause-serves : goal.returns-in_err-write_report-clause-serves
 returns-in_err-write_report-clause-serves g c =
     line-fails (CountedCall g.L.Link.does g.L.Link.failures) g.H.Host.does g.W.Sink.contents
-    g.W.Sink.does c.args.options c.args.loaded c.report.result c.report.ensures c.args.host.now
+    g.W.Sink.does (serve_view c.args.task) c.args.loaded c.report.result c.report.ensures
+    c.args.host.now
     c.args.writer.now c.write_report.new.writer c.in_err-write_report.field-0.0
     c.in_err-write_report.ensures c.from_residual.result c.from_residual.ensures.0
 
