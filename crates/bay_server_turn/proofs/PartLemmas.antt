@@ -3,7 +3,7 @@ use Rattle.std.proofs.Common.{◌≡◌, ℕ, ◌+◌, Bool, true, false, Option
 use Rattle.std.specs.declared.net.socket_addr.SocketAddrV4.{SocketAddrV4}
 use Rattle.bay_server_turn.specs.Calls.{Call, Accepts, Reads, Closes, MakesCalls, ReadOutcome, Silence, Octets, StreamEnd, Failure, read_outcome_of}
 use Rattle.bay_server_turn.specs.Offers.{Offer}
-use Rattle.bay_server_turn.specs.Served.{Performs, PerformsEach, Offers, Opens, Serves, HandlesOctets}
+use Rattle.bay_server_turn.specs.Served.{Performs, PerformsEach, Offers, Opens, Serves, HandlesOctets, reading_count}
 use Rattle.bay_server_turn.specs.AssociationStates.{is_draining}
 use Rattle.bay_server_turn.specs.Turns.{ServerData, TurnData, Script, TurnState, accept_calls_at, after_accept, after_each, after_loss, after_line, loss_event, after_reads, after_scan, turn_begin, calls_of_each, close_at_once, lowest_free_association, calls_on_read, after_end, is_open_at, event_calls, with_event, offer_calls, offer_end, queue_offer, offer_one, on_accept, on_read, opening_at, after_opening, after_closing, turn_queue, read_calls, read_one, scan_calls, after_turn_scan, after_closing_full, calls_closing_full, state_at, after_turn, turn_state, with_queue}
 use Rattle.bay_server_turn.specs.declared.link.ReadResult.{ReadResult}
@@ -224,7 +224,7 @@ module _ {L : Type 0} (step : L → Call → L → Type 0) where
       → Opens step now old k (turn_begin before) s opened
       → MakesCalls step k (event_calls now (loss_event given) s) l
       → z ≡ with_event now (loss_event given) s
-      → PerformsEach step (read_one now) (read_calls now) l m 8 z t
+      → PerformsEach step (read_one now) (read_calls now) l m (reading_count given) z t
       → MakesCalls step m (event_calls now given.event t) p → u ≡ with_event now given.event t
       → MakesCalls step p (scan_calls now u) q → v ≡ after_turn_scan now u
       → PerformsEach step (offer_one now) (offer_calls now) q new 8 v (turn_state after noted)
@@ -304,7 +304,7 @@ module _ {L : Type 0} (step : L → Call → L → Type 0) where
       → turn_state before first ≡ turn_begin before → first_event ≡ loss_event given
       → Opens step now old k (turn_state before first) s opened
       → MakesCalls step k (event_calls now first_event s) l → z ≡ with_event now first_event s
-      → PerformsEach step (read_one now) (read_calls now) l m 8 z t
+      → PerformsEach step (read_one now) (read_calls now) l m (reading_count given) z t
       → MakesCalls step m (event_calls now given.event t) p → u ≡ with_event now given.event t
       → MakesCalls step p (scan_calls now u) q → v ≡ after_turn_scan now u
       → PerformsEach step (offer_one now) (offer_calls now) q new 8 v (turn_state after noted)

@@ -48,9 +48,9 @@ event_in_line s text = option_and_then (process_event s) (line_of text)
 abbrev pub TurnInput : Type 0
 TurnInput = Result ProcessReport ServeFault
 
--- a report of an event alone, or of nothing
+-- a report of an event alone, or of nothing, to a turn that reads clients
 abbrev pub report_of_event : Option ProcessEvent → ProcessReport
-report_of_event event = record { is_lost = false; event = event }
+report_of_event event = record { is_lost = false; event = event; skips_reads = false }
 
 -- the input of a turn from the event of a line; without an event the line is bad
 abbrev pub input_of_event : Option ProcessEvent → TurnInput
@@ -67,7 +67,8 @@ is_loss_line (Some (at_moment moment other)) = false
 -- the input of a turn from a line of a trace: the loss of the process, or an event of it
 abbrev pub turn_input_of_line : State → List ℕ → TurnInput
 turn_input_of_line s text =
-    if is_loss_line (trace_line_of text) then Ok (record { is_lost = true; event = None })
+    if is_loss_line (trace_line_of text)
+    then Ok (record { is_lost = true; event = None; skips_reads = false })
     else input_of_event (event_in_line s text)
 
 -- the line of a turn, if there is one
@@ -83,6 +84,10 @@ turn_input_of s (Some text) = turn_input_of_line s text
 abbrev pub report_in : TurnInput → ProcessReport
 report_in (Ok given) = given
 report_in (Err fault) = report_of_event None
+
+-- how many associations a turn may read: all of them, or none
+abbrev pub reading_count : ProcessReport → ℕ
+reading_count given = if given.skips_reads then 0 else associations
 
 -- A turn is refused first for a bad line, then for a moment that is too large.
 abbrev pub turn_refusal : ℕ → TurnInput → ServerData → Option ServeFault
@@ -143,13 +148,13 @@ module _ {L : Type 0} (step : L → Call → L → Type 0) where
 
   -- ---- a turn
 
-  -- There is a script, of the results of an accept, eight reads and eight offers and of where
-  -- memory ran out, such that the calls on the link, the server after them and the report of the
+  -- There is a script, of the results of an accept, eight reads (none, if the turn skips reads) and
+  -- eight offers and of where memory ran out, such that the calls on the link, the server after them and the report of the
   -- turn are those of the script.
   pub record Serves (old new : L) (now : ℕ) (given : ProcessReport) (before after : ServerData)
       (turn : Turn) : Type 0 where
     pub script : Script
-    pub all_read : length script.readings ≡ associations
+    pub all_read : length script.readings ≡ reading_count given
     pub all_offered : length script.offers ≡ associations
     pub makes : MakesCalls step old (turn_calls now given script before) new
     pub server : after ≡ (after_turn now given script before).server

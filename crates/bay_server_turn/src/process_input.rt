@@ -1,5 +1,6 @@
 // Events of the process, and the lines that spell them.
-ghost use Rattle.std.specs.Prelude.{◌≡◌};
+ghost use Rattle.std.specs.Prelude.{◌≡◌, ◌≤◌};
+ghost use Rattle.bay_device.specs.Outcomes.{associations};
 ghost use Rattle.bay_device.specs.Steps.{IsWithoutOctets};
 ghost use Rattle.bay_server_turn.specs.Turns.{event_of, loss_event};
 ghost use Rattle.bay_server_turn.specs.Served.{turn_input_of_line, report_of_event, event_in_line};
@@ -10,7 +11,7 @@ use crate::fault::ServeFault;
 use bay_base::position::Dbpos;
 use bay_config::bay::MeterField;
 use bay_device::device::Device;
-use bay_device::event::Event;
+use bay_device::event::{ASSOCIATIONS, Event};
 use bay_trace::trace::{NamedEvent, TraceLine, read_process_line, read_trace_line};
 
 /// An event of the process. Switches, inputs and meters have indices from 0.
@@ -42,25 +43,36 @@ pub enum ProcessEvent {
 }
 
 /// The report of the process to a turn: whether the process is lost, which the turn handles before
-/// it reads clients, and an event, if there is one.
+/// it reads clients, and an event, if there is one; and whether the turn reads clients.
 #[derive(Clone, Copy)]
 pub struct ProcessReport {
     pub is_lost: bool,
     pub event: Option<ProcessEvent>,
+    /// Whether the turn leaves what clients have sent for a later turn.
+    pub skips_reads: bool,
 }
 
 /// The input of a turn, or why a line has none.
 pub type TurnInput = Result<ProcessReport, ServeFault>;
 
 impl ProcessReport {
-    /// Creates a report of an event alone, or of nothing.
+    /// Creates a report of an event alone, or of nothing, to a turn that reads clients.
     pub fn of(event: Option<ProcessEvent>) -> Self
         ensures { result ≡ report_of_event event }
     {
         ProcessReport {
             is_lost: false,
             event,
+            skips_reads: false,
         }
+    }
+
+    /// Returns how many associations the turn may read: all of them, or none.
+    pub(crate) fn reading_count(self) -> usize
+        ensures count { result ≡ spec.reading_count self }
+        ensures within { result ≤ associations }
+    {
+        if self.skips_reads { 0 } else { ASSOCIATIONS }
     }
 
     /// Returns the event that the turn applies before it reads clients: the loss of the process, or
@@ -151,6 +163,7 @@ pub fn read_line(device: &Device, line: &[u8]) -> TurnInput
         return Ok(ProcessReport {
             is_lost: true,
             event: None,
+            skips_reads: false,
         });
     }
     match read_process_event(device, line) {

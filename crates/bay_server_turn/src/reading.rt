@@ -12,7 +12,7 @@ use crate::sending::{put_all, put_ended, report_commands, step_without_replies};
 use crate::server::Server;
 use crate::turn_builder::TurnBuilder;
 use crate::turn_report::CloseReason;
-use bay_device::event::{ASSOCIATIONS, Event, Why};
+use bay_device::event::{Event, Why};
 use std::net::SocketAddrV4;
 
 // The maximum number of octets read from a client in a turn.
@@ -110,14 +110,21 @@ fn read_one<L: Link>(
     }
 }
 
-/// Reads all clients, in the order of their numbers.
-pub fn read_clients<L: Link>(server: &mut Server, notes: &mut TurnBuilder, link: &mut L, now: u64)
-    requires { length notes.old.commands ≤ 0 }
+/// Reads the first `count` clients, in the order of their numbers.
+pub fn read_clients<L: Link>(
+    server: &mut Server,
+    notes: &mut TurnBuilder,
+    link: &mut L,
+    now: u64,
+    count: usize,
+)
+    requires count { count ≤ associations }
+    requires room { length notes.old.commands ≤ 0 }
     ensures { PerformsEach (CountedCall L.does L.failures) (spec.read_one now) (read_calls now)
         link.old
-        link.new associations (turn_state server.old notes.old) (turn_state server.new notes.new) }
+        link.new count (turn_state server.old notes.old) (turn_state server.new notes.new) }
 {
-    for slot in 0..ASSOCIATIONS {
+    for slot in 0..count {
         read_one(server, notes, link, now, slot);
     }
 }

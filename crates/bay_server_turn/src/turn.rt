@@ -73,8 +73,8 @@ fn scan<L: Link>(server: &mut Server, notes: &mut TurnBuilder, link: &mut L, now
 ///
 /// - accepts at most one waiting connection, under the lowest free number;
 /// - reports the loss of the process to the device, if the process is lost;
-/// - reads each open association once, in order, up to 4,096 octets; closes one whose client sends
-///   no more, and one whose read fails (131);
+/// - unless `given` says that it skips reads, reads each open association once, in order, up to
+///   4,096 octets; closes one whose client sends no more, and one whose read fails (131);
 /// - applies the event of the process, if there is one;
 /// - runs the program once;
 /// - writes each queue as far as the link takes it; closes an association whose write fails (131).
@@ -121,7 +121,7 @@ pub fn serve_event<L: Link>(
         given.loss_event(),
         source_line,
     );
-    read_clients(server, &mut notes, link, now);
+    read_clients(server, &mut notes, link, now, given.reading_count());
     apply_event_if_any(server, &mut notes, link, now, given.event, source_line);
     scan(server, &mut notes, link, now);
     offer_each(server, &mut notes, link, now);

@@ -210,7 +210,7 @@ module _ (now p : ℕ) (low : p < 8) (past : now ≤ last_moment) where
       (Open (slot + 1)) (turn_begin h) (Still-refl p nothing_noted refl)) (nothing-known p low))
 
 pub knows-turn : (now : ℕ) (given : ProcessReport) (script : Script) (h : ServerData) → IsTidy h
-    → IsInTime now h → length script.readings ≡ 8 → length script.offers ≡ 8
+    → IsInTime now h → length script.readings ≤ 8 → length script.offers ≡ 8
     → (p : ℕ) → p < 8
     → Known p (turn_calls now given script h)
     (outcomes_at now (turn_events now given script h) h.device).answers
@@ -229,7 +229,7 @@ knows-turn now given script h tidy time readings offers p low =
     })).known
 
 pub has-its-cause : (now : ℕ) (given : ProcessReport) (script : Script) (h : ServerData) → IsTidy h
-    → IsInTime now h → length script.readings ≡ 8 → length script.offers ≡ 8
+    → IsInTime now h → length script.readings ≤ 8 → length script.offers ≡ 8
     → (p : ℕ) → p < 8 → HasItsCause now given script h (p + 1)
 has-its-cause now given script h tidy time readings offers p low =
     (knows-turn now given script h tidy time readings offers p low).caused

@@ -18,7 +18,7 @@ told-by false u e f = absurd (let no : false ≡ true = sym e ∙ f refl in cc)
 
 pub told-where-full : (now : ℕ) (given : ProcessReport) (script : Script) (h : ServerData)
     → IsTidy h
-    → IsInTime now h → AreInRoom h → length script.readings ≡ 8
+    → IsInTime now h → AreInRoom h → length script.readings ≤ 8
     → length script.offers ≡ 8 → (p : ℕ) → p < 8 → IsOpenIn p script h
     → IsReportedIfFull now given script h p
 told-where-full now given script h tidy time room readings offers p low up =

@@ -5,6 +5,7 @@ pub mod DoneLemmas
 pub mod QuietLemmas
 pub mod SameLemmas
 pub mod PartLemmas
+pub mod ReadingLemmas
 pub mod StandingLemmas
 pub mod UpLemmas
 pub mod KeepLemmas

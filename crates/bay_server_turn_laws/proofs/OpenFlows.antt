@@ -178,7 +178,7 @@ module _ (now p : ℕ) (low : p < 8) where
       ∙ rises (has_open p h) _ (open-outcome-up None now (slot + 1) p h.device) up
 
   pub turned-open : (given : ProcessReport) (script : Script) (h : ServerData) → IsInTime now h
-      → length script.readings ≡ 8 → length script.offers ≡ 8
+      → length script.readings ≤ 8 → length script.offers ≡ 8
       → IsOpenIn p script h → Opened (after_turn now given script h)
   turned-open given script h time readings offers is =
       let m = turn-is-acts now 8 given script h (omega (arith, readings)) (omega (arith, offers)) in

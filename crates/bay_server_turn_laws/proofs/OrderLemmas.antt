@@ -185,7 +185,7 @@ fails-later a xs ys f =
     record { is = some-append (fails_for a) xs ys ∙ or_right _ _ f.is }
 
 pub in-order : (now : ℕ) (given : ProcessReport) (script : Script) (h : ServerData)
-    → length script.readings ≡ 8 → length script.offers ≡ 8 → IsInOrder now given script h
+    → length script.readings ≤ 8 → length script.offers ≡ 8 → IsInOrder now given script h
 in-order now given script h readings offers =
     let s1 : TurnState = after_accept now script h in
     let z : TurnState = after_loss now given script h in

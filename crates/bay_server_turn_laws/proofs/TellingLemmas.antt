@@ -164,7 +164,7 @@ once-kept = record {
 
 -- of each association it is told once at most
 pub told-once : (now : ℕ) (given : ProcessReport) (script : Script) (h : ServerData) (slot : ℕ)
-    → length script.readings ≡ 8 → length script.offers ≡ 8
+    → length script.readings ≤ 8 → length script.offers ≡ 8
     → times_reported (slot + 1) (after_turn now given script h).noted.closed
     (after_turn now given script h).noted.memory ≤ 1
 told-once now given script h slot reads offers =

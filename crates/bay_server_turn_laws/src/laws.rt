@@ -46,7 +46,7 @@ pub fn an_association_is_reported_once<L: Link>(_link: &L)
 /// only if nothing else closed it.
 pub fn each_closing_has_its_cause()
     ensures { (now : ℕ) (given : ProcessReport) (script : Script) (h : ServerData) → IsTidy h
-        → IsInTime now h → length script.readings ≡ associations
+        → IsInTime now h → length script.readings ≤ associations
         → length script.offers ≡ associations → (slot : ℕ)
         → slot < associations → HasItsCause now given script h (slot + 1) }
 {}
@@ -68,7 +68,7 @@ pub fn a_turn_is_its_events()
     ensures events { (now : ℕ) (given : ProcessReport) (script : Script) (h : ServerData)
         → TurnIsItsEvents now given script h }
     ensures order { (now : ℕ) (given : ProcessReport) (script : Script) (h : ServerData)
-        → length script.readings ≡ associations → length script.offers ≡ associations
+        → length script.readings ≤ associations → length script.offers ≡ associations
         → IsInOrder now given script h }
 {}
 
@@ -106,7 +106,7 @@ pub fn queues_stay_in_their_room()
 /// it.
 pub fn a_full_queue_is_reported()
     ensures { (now : ℕ) (given : ProcessReport) (script : Script) (h : ServerData) → IsTidy h
-        → IsInTime now h → AreInRoom h → length script.readings ≡ associations
+        → IsInTime now h → AreInRoom h → length script.readings ≤ associations
         → length script.offers ≡ associations → (slot : ℕ) → slot < associations
         → IsOpenIn slot script h
         → IsReportedIfFull now given script h slot }

@@ -35,6 +35,7 @@ use Rattle.bay_server_turn_laws.specs.Events.{ChosenEvent, outcomes_at, with_mem
 use Rattle.bay_server_turn_laws.specs.Order.{AreClosings, FirstThen, received_events, open_events, open_events_at, events_of_read, process_events}
 use Rattle.bay_server_turn_laws.proofs.OrderLemmas.{in-order}
 use Rattle.bay_server_turn_laws.proofs.PartLemmas.{Part-turn}
+use Rattle.bay_server_turn_laws.proofs.ReadingLemmas.{few-read}
 use Rattle.cmd_serve.specs.Requests.{IsRequested}
 use Rattle.cmd_serve.specs.Service.{AreTurns, DoneTurn, server_after, past_after, past_of}
 use Rattle.cmd_serve.proofs.FrontLemmas.{Begins, Behind, Reads, closings-all, reads-all, then-all, why_closed}
@@ -99,7 +100,7 @@ read-typed place r d = by-open (is_some (connection_at (Some place) d))
     by-open false = All-nil IsTyped
 
 pub events-typed : (now : ℕ) (given : ProcessReport) (script : Script) (h : ServerData)
-    → length script.readings ≡ 8 → length script.offers ≡ 8 → IfSome given.event EventFits
+    → length script.readings ≤ 8 → length script.offers ≡ 8 → IfSome given.event EventFits
     → AreTyped (turn_events now given script h)
 events-typed now given script h readings offers fits =
     let reported = (after_turn now given script h).noted.closed in
@@ -148,7 +149,7 @@ turns-typed first (t ∷ ts) h past are given before =
     let events = turn_events t.now t.given t.script h in
     turns-typed first ts (server_after t h) (past_after t.now events h.device past) are.1 given.1
     (events-behind t.now events first h.device past
-    (events-typed t.now t.given t.script h are.0.all_read are.0.all_offered given.0) before)
+    (events-typed t.now t.given t.script h (few-read t.given _ are.0.all_read) are.0.all_offered given.0) before)
 
 -- ---- a device whose scans halt
 
@@ -211,7 +212,7 @@ module _ (bay : Bay) (image : Image) (is_bay : IsBay bay) where
     turns-avoid first of_bay (t ∷ ts) h past are given g =
         let events = turn_events t.now t.given t.script h in
         let typed : AreTyped events =
-        events-typed t.now t.given t.script h are.0.all_read are.0.all_offered given.0 in
+        events-typed t.now t.given t.script h (few-read t.given _ are.0.all_read) are.0.all_offered given.0 in
         let avoids : (command : Command) (o : IsRequested first h t past command)
         → IsOutside set k operation (outcomes_at t.now o.heard.front h.device).after command =
         λ command o.

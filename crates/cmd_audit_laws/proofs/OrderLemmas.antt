@@ -23,6 +23,7 @@ use Rattle.bay_server_turn.specs.declared.turn_report.Turn.{Turn}
 use Rattle.bay_server_turn_laws.specs.Events.{ChosenEvent, accept_events_at, outcomes_at, events_of_each, failed_events, events_on_read, offer_events, read_events, scan_events, events_closing_full, events_closing_some_full, events_closing_next_full, with_memory, turn_events}
 use Rattle.bay_server_turn_laws.specs.Flows.{event_octets, received_of}
 use Rattle.bay_server_turn_laws.proofs.GivenLemmas.{turn-brings}
+use Rattle.bay_server_turn_laws.proofs.ReadingLemmas.{few-read}
 use Rattle.cmd_serve.specs.Requests.{AreRequested, ReceivesOctets, IsRequested}
 use Rattle.cmd_serve.specs.Service.{DoneTurn, IsTurn}
 use Rattle.cmd_serve.proofs.FrontLemmas.{AreWithout, IsFree, IsWithout, not-told, same-events}
@@ -269,7 +270,7 @@ told-lost-orders-none first h t past command is reported o =
     let i : ReceivesOctets h t = o.heard in
     let no : true ≡ false =
     sym reported ∙ not-told t.now t.given t.script h i.front i.choice i.association i.octets i.back
-    is.all_read is.all_offered i.is i.first in
+    (few-read t.given _ is.all_read) is.all_offered i.is i.first in
     absurd cc
 
 -- ---- octets that come to no command

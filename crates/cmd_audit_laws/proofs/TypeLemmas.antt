@@ -222,7 +222,7 @@ given-fits s text = by-lost (is_loss_line (trace_line_of text))
     by-told (Some event) h = h
 
     by-lost : (b : Bool)
-        → GivenFits (cond b (Ok (record { is_lost = true; event = None }))
+        → GivenFits (cond b (Ok (record { is_lost = true; event = None; skips_reads = false }))
         (input_of_event (event_in_line s text)))
     by-lost true = tt
     by-lost false = by-told (event_in_line s text) (told-by-fits s text)

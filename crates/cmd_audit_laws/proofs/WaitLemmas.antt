@@ -23,6 +23,7 @@ use Rattle.bay_audit_rules.specs.declared.rule.Timing.{Timing}
 use Rattle.bay_server_turn.specs.Turns.{ServerData}
 use Rattle.bay_server_turn_laws.specs.Events.{ChosenEvent, outcomes_at, turn_events}
 use Rattle.bay_server_turn_laws.proofs.PartLemmas.{Part-turn}
+use Rattle.bay_server_turn_laws.proofs.ReadingLemmas.{few-read}
 use Rattle.cmd_serve.specs.Service.{AreTurns, DoneTurn, server_after, past_after}
 use Rattle.il_image.specs.Images.{Image}
 use Rattle.cmd_audit_laws.specs.Waits.{OrdersWait, PastWaits, scans_after_events, scans_of}
@@ -72,7 +73,7 @@ module _ (bay : Bay) (image : Image) (rule : Rule) (timing : Timing) (n : ℕ) (
   turns-wait first (t ∷ ts) h scans past are given r =
       let events = turn_events t.now t.given t.script h in
       let typed : AreTyped events =
-      events-typed t.now t.given t.script h are.0.all_read are.0.all_offered given.0 in
+      events-typed t.now t.given t.script h (few-read t.given _ are.0.all_read) are.0.all_offered given.0 in
       let behind = scans_after_events timing.condition t.now events h.device scans in (
         λ command o.
             has-waited bay image rule timing n is_bay there bears

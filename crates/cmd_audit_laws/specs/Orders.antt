@@ -93,7 +93,7 @@ octets_refused octets = record { heard = Octets octets; choice = Some 0 }
 abbrev pub turn_with : Reading → Turn → DoneTurn
 turn_with reading reported = record {
   now = 0;
-  given = record { is_lost = false; event = None };
+  given = record { is_lost = false; event = None; skips_reads = false };
   script = record {
     accepted = None;
     readings = reading ∷ replicate 7 no_octets;

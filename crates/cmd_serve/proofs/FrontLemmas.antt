@@ -236,7 +236,7 @@ Begins now given script h d events =
     (Reads now given script h) d events
 
 halves : (now : ℕ) (given : ProcessReport) (script : Script) (h : ServerData)
-    → length script.readings ≡ 8 → length script.offers ≡ 8
+    → length script.readings ≤ 8 → length script.offers ≡ 8
     → Halves (turn_events now given script h)
 halves now given script h readings offers =
     let reported = (after_turn now given script h).noted.closed in
@@ -276,7 +276,7 @@ front-of (x ∷ reads) rest (f ∷ front) e back is of without octets =
 early-before : (now : ℕ) (given : ProcessReport) (script : Script) (h : ServerData)
     (front : List ChosenEvent) (choice : Option ℕ) (a : ℕ) (octets : Bor (List ℕ))
     (back : List ChosenEvent)
-    → length script.readings ≡ 8 → length script.offers ≡ 8
+    → length script.readings ≤ 8 → length script.offers ≡ 8
     → turn_events now given script h ≡ front ++ (choice, Recv a octets) ∷ back → AreEarly front
 early-before now given script h front choice a octets back readings offers split =
     let both : Halves (turn_events now given script h) =
@@ -346,7 +346,7 @@ module _ (now : ℕ) (soon : now ≤ last_moment) where
 pub before-octets : (now : ℕ) (given : ProcessReport) (script : Script) (h : ServerData)
     (front : List ChosenEvent) (choice : Option ℕ) (a : ℕ) (octets : Bor (List ℕ))
     (back : List ChosenEvent)
-    → length script.readings ≡ 8 → length script.offers ≡ 8 → IsInTime now h
+    → length script.readings ≤ 8 → length script.offers ≡ 8 → IsInTime now h
     → turn_events now given script h ≡ front ++ (choice, Recv a octets) ∷ back
     → (outcomes_at now front h.device).after.is_lost ≡ false → OfAssociations front
 before-octets now given script h front choice a octets back readings offers time split heard =
@@ -394,7 +394,7 @@ starts-with y ys (m ∷ more) e back is free octets =
 pub not-told : (now : ℕ) (given : ProcessReport) (script : Script) (h : ServerData)
     (front : List ChosenEvent) (choice : Option ℕ) (a : ℕ) (octets : Bor (List ℕ))
     (back : List ChosenEvent)
-    → length script.readings ≡ 8 → length script.offers ≡ 8
+    → length script.readings ≤ 8 → length script.offers ≡ 8
     → turn_events now given script h ≡ front ++ (choice, Recv a octets) ∷ back
     → OfAssociations front → given.is_lost ≡ false
 not-told now given script h front choice a octets back readings offers split of =
@@ -444,7 +444,7 @@ early-mute : (es : List ChosenEvent) → AreEarly es → AreMute es
 early-mute es early = λ k d low. inl (early k d low)
 
 mute-turn : (now : ℕ) (given : ProcessReport) (script : Script) (h : ServerData)
-    → length script.readings ≡ 8 → length script.offers ≡ 8 → given.event ≡ None
+    → length script.readings ≤ 8 → length script.offers ≡ 8 → given.event ≡ None
     → AreMute (turn_events now given script h)
 mute-turn now given script h readings offers none =
     then-all now reported IsMute closed (open_events script.accepted h.device)
@@ -492,7 +492,7 @@ loss-behind [] ys reports_close = reports_close
 loss-behind (x ∷ xs) ys reports_close = inr (loss-behind xs ys reports_close)
 
 turn-loss : (now : ℕ) (given : ProcessReport) (script : Script) (h : ServerData)
-    → length script.readings ≡ 8 → length script.offers ≡ 8 → given.is_lost ≡ true
+    → length script.readings ≤ 8 → length script.offers ≡ 8 → given.is_lost ≡ true
     → TellsLoss (turn_events now given script h)
 turn-loss now given script h readings offers lost =
     let reported = (after_turn now given script h).noted.closed in
@@ -536,7 +536,7 @@ module _ (now : ℕ) (soon : now ≤ last_moment) where
 
 -- the process is lost behind such a turn, where it was before it, or the turn was told of the loss
 pub turn-ends-lost : (now : ℕ) (given : ProcessReport) (script : Script) (h : ServerData)
-    → length script.readings ≡ 8 → length script.offers ≡ 8 → IsInTime now h
+    → length script.readings ≤ 8 → length script.offers ≡ 8 → IsInTime now h
     → given.event ≡ None → (h.device.is_lost ≡ true) ⊎ (given.is_lost ≡ true)
     → (outcomes_at now (turn_events now given script h) h.device).after.is_lost ≡ true
 turn-ends-lost now given script h readings offers time none lost =

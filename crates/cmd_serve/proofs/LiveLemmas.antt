@@ -22,6 +22,7 @@ use Rattle.bay_server_turn.specs.Turns.{ServerData}
 use Rattle.bay_server_turn_laws.specs.Events.{ChosenEvent, turn_events}
 use Rattle.bay_server_turn_laws.specs.Flows.{IsTidy}
 use Rattle.bay_server_turn_laws.proofs.PartLemmas.{Part-turn}
+use Rattle.bay_server_turn_laws.proofs.ReadingLemmas.{few-read}
 use Rattle.bay_server.specs.Clock.{jump_of}
 use Rattle.bay_server.specs.Host.{HostCall}
 use Rattle.bay_server.specs.ServeReport.{AfterTurn, AwaitsNext, ChosenInput, ProcessData, PollsProcess, ServiceState, ServesTurns, TurnServed, chosen_input, choose_input, input_from_port, moment_of}
@@ -50,7 +51,7 @@ heeds first h t past command is o = record {
       (same-events t.now o.heard.front h.device o.heard.first)) ∙ o.allowed.heard;
   not_told =
       not-told t.now t.given t.script h o.heard.front o.heard.choice o.heard.association
-      o.heard.octets o.heard.back is.all_read is.all_offered o.heard.is o.heard.first;
+      o.heard.octets o.heard.back (few-read t.given _ is.all_read) is.all_offered o.heard.is o.heard.first;
 }
 
 some-command : (commands : List Command) → commands ≢ []
@@ -114,7 +115,7 @@ module _ (settings : SupervisionSettings) (h : ServerData) (t : DoneTurn) (is : 
       → last.is_lost ≡ true
   ends-lost none lost =
       ap (λ (d : State). d.is_lost) (Part-turn t.now t.given t.script h).device
-      ∙ turn-ends-lost t.now t.given t.script h is.all_read is.all_offered is.in_time none lost
+      ∙ turn-ends-lost t.now t.given t.script h (few-read t.given _ is.all_read) is.all_offered is.in_time none lost
 
   module _ (reported : ReportedTurn) (script : Script) where
     abbrev behind : PortData

@@ -197,7 +197,7 @@ module _ (now : ℕ) (reported : List (ℕ × CloseReason)) (a : ℕ) where
 
 pub received-once : (now : ℕ) (given : ProcessReport) (script : Script) (h : ServerData)
     (c : Option ℕ)
-    (a : ℕ) (octets : Bor (List ℕ)) → length script.readings ≡ 8 → length script.offers ≡ 8
+    (a : ℕ) (octets : Bor (List ℕ)) → length script.readings ≤ 8 → length script.offers ≡ 8
     → Contains (turn_events now given script h) (c, Recv a octets)
     → received_of a (turn_events now given script h) ≡ octets.now
 received-once now given script h c a octets readings offers has =

@@ -30,6 +30,7 @@ use Rattle.bay_server_turn_laws.proofs.MoveLemmas.{sent-append}
 use Rattle.bay_server_turn_laws.proofs.PartLemmas.{Part-turn}
 use Rattle.bay_server_turn_laws.proofs.TurnFlows.{loses-nothing}
 use Rattle.bay_server_turn_laws.proofs.UpLemmas.{number-of}
+use Rattle.bay_server_turn_laws.proofs.ReadingLemmas.{few-read}
 use Rattle.std.proofs.lemmas.Bool.{and_parts}
 use Rattle.std.proofs.lemmas.Bool.Decides.{nat_tests}
 use Rattle.cmd_serve.specs.Requests.{AreRequested, ReceivesOctets, IsRequested, IsPartOf}
@@ -208,7 +209,7 @@ module _ (first : State) (h : ServerData) (t : DoneTurn) (past : List PastEvent)
     where
       before : OfAssociations front
       before =
-          before-octets t.now t.given t.script h front choice a octets back is.all_read
+          before-octets t.now t.given t.script h front choice a octets back (few-read t.given _ is.all_read)
           is.all_offered is.in_time split allowed.heard
 
       heard : ReceivesOctets h t
@@ -221,7 +222,7 @@ module _ (first : State) (h : ServerData) (t : DoneTurn) (past : List PastEvent)
         is = split;
         first = before;
         given = turn-brings a t.now t.given t.script h
-            ∙ received-once t.now t.given t.script h choice a octets is.all_read is.all_offered
+            ∙ received-once t.now t.given t.script h choice a octets (few-read t.given _ is.all_read) is.all_offered
             (subst (λ es. Contains es (choice, Recv a octets)) (sym split)
             (Contains-append_right front ((choice, Recv a octets) ∷ back) (choice, Recv a octets)
             (0, omega arith, refl)));

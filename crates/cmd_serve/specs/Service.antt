@@ -9,7 +9,7 @@ use Rattle.bay_io.specs.Watched.{WriterState}
 use Rattle.bay_io.specs.declared.outbox.WriteFault.{WriteFault}
 use Rattle.cmd_replay.specs.Runs.{IsGuardedRun}
 use Rattle.bay_server_turn.specs.Calls.{Call}
-use Rattle.bay_server_turn.specs.Served.{report_in}
+use Rattle.bay_server_turn.specs.Served.{reading_count, report_in}
 use Rattle.bay_server_turn.specs.Turns.{ServerData, Script, after_turn}
 use Rattle.bay_server_turn.specs.declared.process_input.ProcessReport.{ProcessReport}
 use Rattle.bay_server_turn.specs.declared.turn_report.Turn.{Turn}
@@ -44,11 +44,11 @@ abbrev pub server_after_all : List DoneTurn → ServerData → ServerData
 server_after_all [] h = h
 server_after_all (t ∷ ts) h = server_after_all ts (server_after t h)
 
--- A turn was done on a server: the script has the results of eight reads and eight offers, the
--- moment is not before the last nor too large, and the turn reported the commands that it
+-- A turn was done on a server: the script has the results of eight reads, or of none if the turn
+-- skips them, and of eight offers, the moment is not before the last nor too large, and the turn reported the commands that it
 -- collected.
 pub record IsTurn (h : ServerData) (t : DoneTurn) : Type 0 where
-  pub all_read : length t.script.readings ≡ associations
+  pub all_read : length t.script.readings ≡ reading_count t.given
   pub all_offered : length t.script.offers ≡ associations
   pub in_time : IsInTime t.now h
   pub commands : t.reported.commands ≡ (after_turn t.now t.given t.script h).noted.commands

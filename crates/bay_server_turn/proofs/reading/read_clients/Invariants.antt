@@ -6,7 +6,7 @@ use Rattle.bay_server_turn.proofs.reading.read_clients.Given as goal
 
 abbrev pub invariant-loop-slot : goal.invariant-loop-slot
 invariant-loop-slot g l = record {
-  within : l.slot ≤ 8;
+  within : l.slot ≤ l.count;
   room : length l.notes.commands ≤ l.slot;
   each : PerformsEach (CountedCall g.L.Link.does g.L.Link.failures) (read_one l.now)
       (read_calls l.now)

@@ -11,7 +11,7 @@ returns-clause-ok g c =
     (ap (turn_state c.args.server.now) c.new-notes.ensures) c.loss_event.ensures
     c.accept_one-opened.ensures.opens c.apply_event_if_any.ensures.makes
     c.apply_event_if_any.ensures.after
-    c.read_clients.ensures
+    (rw c.reading_count.ensures.count at c.read_clients.ensures)
     c.apply_event_if_any-2.ensures.makes c.apply_event_if_any-2.ensures.after c.scan.ensures.makes
     c.scan.ensures.after c.offer_each.ensures (search rules) c.into_turn.ensures)
     now (search rules)
