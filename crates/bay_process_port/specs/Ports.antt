@@ -119,6 +119,16 @@ judge_port s now jump p =
 
 -- ---- what a turn takes
 
+-- a line that is whole
+abbrev pub is_whole : LineSearchData → Bool
+is_whole Waiting = false
+is_whole Overlong = false
+is_whole (Whole line rest) = true
+
+-- The process has sent a whole line that no turn has taken.
+abbrev pub has_line : PortData → Bool
+has_line p = is_whole (first_line_of p.buffer)
+
 -- a line that was judged is taken
 abbrev pub line_reading : ℕ → TimedMessage → LineSearchData → PortData → PortReading
 line_reading now received Waiting p = empty_reading p

@@ -180,6 +180,13 @@ impl Port {
         (self.buffer.as_slice().len(), self.queue.as_slice().len())
     }
 
+    /// Returns whether the process has sent a whole line that no turn has taken.
+    pub fn has_line(&self) -> bool
+        ensures { result ≡ spec.has_line self.now }
+    {
+        matches!(self.found, LineSearch::Whole { .. })
+    }
+
     /// Sets the state of the process. Drops all octets that are buffered or queued, and forgets
     /// which releases were sent and what is known of the process.
     pub(crate) fn set_presence(&mut self, presence: Presence)

@@ -11,7 +11,7 @@ use Rattle.bay_server.specs.Clock.{ClockData, after_reading, jump_of, moment_rea
 use Rattle.bay_server.specs.Host.{HostCall, ReadsTimes}
 use Rattle.bay_report.specs.Report.{IsOutput, Prints}
 use Rattle.bay_report.specs.TextLines.{CutsLine, lines_of}
-use Rattle.bay_server.specs.ServeReport.{AfterTurn, AwaitsNext, AwaitsTurn, ChosenInput, ProcessData, PollsProcess, ServiceState, ServesTurns, ReportsAndPolls, ReportsConnectionEvent, ReportsTurn, ReportsTurnRefusal, TurnRefused, TurnServed, chosen_input, choose_input, moment_of, numbered_lines}
+use Rattle.bay_server.specs.ServeReport.{AfterTurn, AwaitsNext, AwaitsTurn, ChosenInput, ProcessData, PollsProcess, ServiceState, ServesTurns, ReportsAndPolls, ReportsConnectionEvent, ReportsTurn, ReportsTurnRefusal, TurnRefused, TurnServed, chosen_input, choose_input, moment_of, numbered_lines, skips_reads}
 use Rattle.bay_process_port.specs.declared.connection_event.ConnectionEvent.{ConnectionEvent}
 use Rattle.bay_server.specs.Serving.{TriesTurn}
 use Rattle.bay_server.specs.ChangeLines.{bay_view}
@@ -345,6 +345,7 @@ module _ {L H W : Type 0} (step : L → Call → L → Type 0) (acts : H → Hos
   hears-cut now turn s (Some before) (Some after) old new one other h = record {
     connection_event = h.connection_event;
     attends = h.attends;
+    skips_left = h.skips_left;
     printed = news-cut now h.connection_event old new one other h.printed;
   }
 
@@ -478,7 +479,8 @@ module _ {L H W : Type 0} (step : L → Call → L → Type 0) (acts : H → Hos
 
   -- what was waited for after it
   pub awaits-next : (before : ServiceState L H) (after : H)
-      → AwaitsTurn acts (turn_end before.clock) before.host after
+      → MatchBool (skips_reads before.process) (after ≡ before.host)
+      (AwaitsTurn acts (turn_end before.clock) before.host after)
       → AwaitsNext acts before (record before { host = after })
   awaits-next before after awaits = (awaits, refl)
 

@@ -1,6 +1,6 @@
 -- Serving, turn by turn: what each turn does, and what is printed for it.
 use Rattle.bay_io.specs.Calls.{WriteCall}
-use Rattle.std.specs.Prelude.{◌≡◌, ℕ, zero, suc, ◌+◌, List, ◌∷◌, drop, slice_get, Option, None, Some, Result, Ok, Err, ◌⊎◌, MatchBool, Bool, false, ◌||◌, []}
+use Rattle.std.specs.Prelude.{◌≡◌, ℕ, zero, suc, ◌+◌, ◌-◌, nat_lt, ◌&&◌, true, List, ◌∷◌, drop, slice_get, Option, None, Some, Result, Ok, Err, ◌⊎◌, MatchBool, Bool, false, ◌||◌, []}
 use Rattle.std.specs.Borrow.{Bor}
 use Rattle.bay_device.specs.Device.{State}
 use Rattle.bay_io.specs.Sent.{Logs}
@@ -17,7 +17,7 @@ use Rattle.bay_server.specs.LogLines.{connection_event_log, shift_log, turn_refu
 use Rattle.bay_server.specs.RecordLine.{record_log}
 use Rattle.bay_process_port.specs.Polling.{Polls, poll_outcome}
 use Rattle.bay_lines.specs.Escaped.{escaped_text}
-use Rattle.bay_process_port.specs.Ports.{PortData, shown_line, port_reading, loss_reading}
+use Rattle.bay_process_port.specs.Ports.{PortData, has_line, shown_line, port_reading, loss_reading}
 use Rattle.bay_process_port.specs.ProcessOutput.{reported_turn}
 use Rattle.bay_process_port.specs.declared.connection_event.ConnectionEvent.{ConnectionEvent}
 use Rattle.bay_server_turn.specs.Calls.{Call}
@@ -76,10 +76,11 @@ abbrev pub AfterTurn : Result ℕ WriteFault → Type 0 → Type 0 → Type 0
 AfterTurn (Err fault) ends goes = ends
 AfterTurn (Ok status) ends goes = goes
 
--- the process: its link and its port
+-- the process: its link, its port, and how many of the next turns may skip their reads
 pub record ProcessData (L : Type 0) : Type 0 where
   pub link : L
   pub port : PortData
+  pub skips_left : ℕ
 
 -- the state of a service, before or after a turn: the link, the server, its clock, the count of the
 -- log lines of connections, the host, the process, if there is one, and the lines of the trace that
@@ -110,13 +111,29 @@ abbrev pub after_loss : {L : Type 0} → State → ℕ → ℕ → Option (Proce
     → Option (ProcessData L)
 after_loss s now jump None = None
 after_loss s now jump (Some p) =
-    Some (record { link = p.link; port = (loss_reading s now jump p.port).port })
+    Some (record { link = p.link; port = (loss_reading s now jump p.port).port; skips_left = 0 })
+
+-- A turn skips its reads if a line of the process waits and the turn may skip them; of 64 turns in a
+-- row at least one does not.
+abbrev pub skips_reads_of : {L : Type 0} → ProcessData L → Bool
+skips_reads_of p = nat_lt 0 p.skips_left && has_line p.port
+
+-- how many of the next turns may skip their reads, after a turn that skipped its own or did not
+abbrev pub skips_after : Bool → ℕ → ℕ
+skips_after true left = left - 1
+skips_after false left = 63
+
+-- the next turn skips its reads, if no line of a trace is left
+abbrev pub skips_reads : {L : Type 0} → Option (ProcessData L) → Bool
+skips_reads None = false
+skips_reads (Some p) = skips_reads_of p
 
 -- the input of a turn with a line, with the loss of the process
 abbrev pub with_loss : Bool → TurnInput → TurnInput
 with_loss is_lost (Err fault) = Err fault
 with_loss is_lost (Ok given) =
-    Ok (record { is_lost = is_lost || given.is_lost; event = given.event })
+    Ok (record
+    { is_lost = is_lost || given.is_lost; event = given.event; skips_reads = given.skips_reads })
 
 -- the input of a turn from a line of the trace
 abbrev pub input_from_line : State → Bool → ℕ × List ℕ → NextInput
@@ -141,10 +158,15 @@ input_from_port s now jump lines (Some p) =
       next = record {
         number = 0;
         shown = shown_line taken.line;
-        given = Ok (record { is_lost = taken.is_lost; event = taken.event });
+        given = Ok (record
+            { is_lost = taken.is_lost; event = taken.event; skips_reads = skips_reads_of p });
       };
       lines = lines;
-      process = Some (record { link = p.link; port = taken.port });
+      process = Some (record {
+        link = p.link;
+        port = taken.port;
+        skips_left = skips_after (skips_reads_of p) p.skips_left;
+      });
     }
 
 -- The input of a turn is the next line of the trace, with the loss of the process, if it is lost;
@@ -196,12 +218,13 @@ pub record AwaitsTurn {L H : Type 0} (acts : H → HostCall L → H → Type 0) 
   pub pause : (rested ≡ before) ⊎ acts before Pauses rested
   pub waits : WaitsForEnd acts end rested after
 
--- the state of a service at the next turn
+-- The state of a service at the next turn: at once, if that turn skips its reads.
 abbrev pub AwaitsNext : {L H : Type 0} → (H → HostCall L → H → Type 0) → ServiceState L H
     → ServiceState L H
     → Type 0
 AwaitsNext acts before after =
-    AwaitsTurn acts (turn_end before.clock) before.host after.host
+    MatchBool (skips_reads before.process) (after.host ≡ before.host)
+    (AwaitsTurn acts (turn_end before.clock) before.host after.host)
     × (after ≡ record before { host = after.host })
 
 -- an event of the process's connection is logged, printed and flushed
@@ -223,6 +246,7 @@ module _ {L W : Type 0} (step : L → Call → L → Type 0) (contents : W → O
     pub attends : Polls step
         (λ script. poll_outcome (reported_turn now turn s) s script before.port)
         before.link after.link after.port connection_event
+    pub skips_left : after.skips_left ≡ before.skips_left
     pub printed : ReportsConnectionEvent contents asks now connection_event old new answer
 
   -- The process's connection is served, if there is a process; without one the writer stays as it

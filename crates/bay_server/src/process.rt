@@ -28,11 +28,16 @@ pub struct NextInput {
     pub given: TurnInput,
 }
 
-/// A process with a link of its own, and whether anything is known to have happened there.
+// The maximum number of turns in a row that skip their reads, so that the process is served sooner.
+const MOST_SKIPS: u8 = 63;
+
+/// A process with a link of its own, how many of the next turns may skip their reads, and whether
+/// anything is known to have happened on the link.
 #[derive(Drop)]
 pub struct Process<L> {
     link: L,
     port: Port,
+    skips_left: u8,
     is_busy: bool,
 }
 
@@ -41,19 +46,39 @@ impl<L> Model for Process<L> {
 
     ghost Value = { ProcessData L };
 
-    ghost view = { λ p. record { link = p.link; port = p.port } };
+    ghost view = { λ p. record { link = p.link; port = p.port; skips_left = p.skips_left } };
 }
 
 impl<L> Process<L> {
     /// Creates a process on whose link nothing has happened yet.
     pub fn new(link: L, port: Port) -> Self
-        ensures { result ≡ record { link = link; port = port } }
+        ensures { result ≡ record { link = link; port = port; skips_left = 0 } }
     {
         Process {
             link,
             port,
+            skips_left: 0,
             is_busy: false,
         }
+    }
+
+    // Returns whether the next turn skips its reads: it may, and a line of the process waits.
+    fn skips_reads(&self) -> bool
+        ensures { result ≡ spec.skips_reads_of self.now }
+    {
+        self.skips_left > 0 && self.port.has_line()
+    }
+
+    // Counts a turn that skipped its reads, or did not.
+    fn count_turn(&mut self, skipped: bool)
+        ensures { self.new ≡ record self.old
+            { skips_left = spec.skips_after skipped self.old.skips_left } }
+    {
+        self.skips_left = if skipped {
+            self.skips_left.saturating_sub(1)
+        } else {
+            MOST_SKIPS
+        };
     }
 
     // Returns whether anything has happened since the last call of this function.
@@ -90,13 +115,16 @@ fn take_port_input<L>(
 {
     match process {
         Some(process) => {
+            let skips_reads = process.skips_reads();
             let port_input = process.port.take_line(device, moment, jump);
+            process.count_turn(skips_reads);
             NextInput {
                 number: 0,
                 shown: port_input.shown,
                 given: Ok(ProcessReport {
                     is_lost: port_input.is_lost,
                     event: port_input.event,
+                    skips_reads,
                 }),
             }
         }
@@ -108,13 +136,28 @@ fn take_port_input<L>(
     }
 }
 
-// Takes whether a process has gone, or is believed no more, and is lost now.
+// Takes whether a process has gone, or is believed no more, and is lost now. The next turn does not
+// skip its reads.
 fn take_loss<L>(process: &mut Option<Process<L>>, device: &Device, moment: u64, jump: u64) -> bool
     ensures lost { result ≡ loss_of device.now moment jump process.old }
     ensures process { process.new ≡ after_loss device.now moment jump process.old }
 {
     match process {
-        Some(process) => process.port.take_loss(device, moment, jump),
+        Some(process) => {
+            process.skips_left = 0;
+            process.port.take_loss(device, moment, jump)
+        }
+        None => false,
+    }
+}
+
+/// Returns whether the next turn skips its reads: a line of the process waits, and fewer than 63
+/// turns in a row have skipped them.
+pub fn skips_reads<L>(process: &Option<Process<L>>) -> bool
+    ensures { result ≡ spec.skips_reads process.now }
+{
+    match process {
+        Some(process) => process.skips_reads(),
         None => false,
     }
 }
@@ -127,6 +170,7 @@ fn with_loss(given: TurnInput, is_lost: bool) -> TurnInput
     Ok(ProcessReport {
         is_lost: is_lost || given.is_lost,
         event: given.event,
+        skips_reads: given.skips_reads,
     })
 }
 
@@ -144,8 +188,10 @@ fn read_next(device: &Device, is_lost: bool, line: (usize, &[u8])) -> NextInput
 }
 
 /// Returns what a turn at a moment is given: the next line of the trace, or after the last one what
-/// the process has. That the process is lost is given beside a line of the trace. `jump` is how
-/// many milliseconds the system's clock has gone on beyond the steady one since the turn before.
+/// the process has. That the process is lost is given beside a line of the trace. A turn that takes
+/// a line which waited skips its reads, unless 63 turns in a row have; one with a line of the trace
+/// does not. `jump` is how many milliseconds the system's clock has gone on beyond the steady one
+/// since the turn before.
 pub fn next_input<L>(
     lines: &mut TraceLines<'_>,
     process: &mut Option<Process<L>>,

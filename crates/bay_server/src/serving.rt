@@ -1,10 +1,11 @@
 // Serves a device, turn by turn.
-ghost use Rattle.std.specs.Prelude.{◌≡◌, ◌⊎◌};
+ghost use Rattle.std.specs.Prelude.{◌≡◌, ◌⊎◌, MatchBool};
 ghost use Rattle.bay_server.specs.ConnectionLines.{no_lines};
 ghost use Rattle.bay_server.specs.Cycle.{TurnsLast};
 ghost use Rattle.bay_server.specs.Host.{Pauses};
 ghost use Rattle.bay_report.specs.TextLines.{lines_of};
 ghost use Rattle.bay_server.specs.ServeReport.{AwaitsTurn, ReportsAndPolls, ServesTurns, numbered_lines};
+ghost use Rattle.bay_server.specs.ServeReport as spec;
 ghost use Rattle.bay_server.specs.Serving.{TriesTurn, with_host};
 ghost use Rattle.bay_server_turn.specs.Calls.{CountedCall};
 
@@ -14,7 +15,7 @@ use crate::clock::ServeClock;
 use crate::connection_lines::LineCount;
 use crate::host::Host;
 use crate::log_lines::{log_all_served, log_shift};
-use crate::process::{NextInput, Process, next_input, poll_process, was_busy};
+use crate::process::{NextInput, Process, next_input, poll_process, skips_reads, was_busy};
 use crate::record_line::log_record;
 use crate::trace_lines::TraceLines;
 use crate::turns::{report_turn, report_turn_refusal};
@@ -163,10 +164,25 @@ fn await_turn<L, H: Host<L>>(host: &mut H, was_idle: bool, end: Option<u64>)
     }
 }
 
+// Waits for the next turn, unless that turn skips its reads.
+fn await_next<L, H: Host<L>>(
+    process: &Option<Process<L>>,
+    host: &mut H,
+    was_idle: bool,
+    end: Option<u64>,
+)
+    ensures { MatchBool (spec.skips_reads process.now) (host.new ≡ host.old)
+        (AwaitsTurn H.does end host.old host.new) }
+{
+    if !skips_reads(process) {
+        await_turn::<L, H>(host, was_idle, end);
+    }
+}
+
 // Serves the given number of turns, logs and prints what each reports, and logs that all are
 // served. Returns the exit status: 0 after the last turn, or 3 at a turn that is refused. Pauses
 // after a turn that left nothing to do at once, and waits for the end of each turn that is too
-// short.
+// short, but not before a turn that skips its reads.
 fn serve_lines<L: Link, H: Host<L>, W: Sink>(
     served: &mut Service<L>,
     host: &mut H,
@@ -181,7 +197,7 @@ fn serve_lines<L: Link, H: Host<L>, W: Sink>(
         match try_turn(served, host, lines, writer)? {
             TurnAttempt::Ends(status) => return Ok(status),
             TurnAttempt::Done { was_idle } => {
-                await_turn::<L, H>(host, was_idle, served.clock.turn_end())
+                await_next::<L, H>(&served.process, host, was_idle, served.clock.turn_end());
             }
         }
     }
@@ -192,7 +208,8 @@ fn serve_lines<L: Link, H: Host<L>, W: Sink>(
 /// Serves the given number of turns over a link by a clock, each with the next line of a trace, or,
 /// after the last one, with what the process reports, if there is one. The device's events go into
 /// a record, if there is one. Logs and prints what each turn reports, and logs that all are served.
-/// Waits after each turn until it has lasted as long as the clock says that it must.
+/// Waits after each turn until it has lasted as long as the clock says that it must, unless the next
+/// turn skips its reads: while lines of the process wait, at most 63 turns in a row do.
 /// Returns the exit status: 0 after the last turn, or 3 at a turn that is refused. Fails if a write
 /// or a flush fails.
 pub fn serve_turns<L: Link + Drop, H: Host<L>, W: Sink>(
@@ -228,7 +245,8 @@ pub fn serve_turns<L: Link + Drop, H: Host<L>, W: Sink>(
 }
 
 /// On a host that keeps time, turns with a least length last that long: between the readings of the
-/// steady clock at the starts of a turn and of the next one at least this many milliseconds pass.
+/// steady clock at the starts of a turn and of the next one at least this many milliseconds pass,
+/// unless the next one skips its reads.
 pub fn turns_last<L: Link, H: Host<L>, W: Sink>(_link: &L, _host: &H, _sink: &W)
     ensures { TurnsLast (CountedCall L.does L.failures) H.does W.contents W.does }
 {}

@@ -107,13 +107,13 @@ module _ {L H : Type 0} (acts : H → HostCall L → H → Type 0) where
       by-had : (had : Result L BindFault)
           → MatchResult had
           (λ other. IsBound (is_recorded task.options) s link
-          (Some (record { link = other; port = initial_port task.sends_releases settings }))
+          (Some (record { link = other; port = initial_port task.sends_releases settings; skips_left = 0 }))
           (Ok ports)) (λ fault. (let r : Result (BoundServer L) ServeStartFault = Ok ports in r)
           ≡ Err (unserved.Unbound port fault))
           → ports.server ≡ new_server s
       by-had (Ok other) is =
           is-made (is_recorded task.options) s link
-          (Some (record { link = other; port = initial_port task.sends_releases settings }))
+          (Some (record { link = other; port = initial_port task.sends_releases settings; skips_left = 0 }))
           ports
           is
       by-had (Err fault) is = absurd cc

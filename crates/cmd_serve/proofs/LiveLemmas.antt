@@ -25,7 +25,7 @@ use Rattle.bay_server_turn_laws.proofs.PartLemmas.{Part-turn}
 use Rattle.bay_server_turn_laws.proofs.ReadingLemmas.{few-read}
 use Rattle.bay_server.specs.Clock.{jump_of}
 use Rattle.bay_server.specs.Host.{HostCall}
-use Rattle.bay_server.specs.ServeReport.{AfterTurn, AwaitsNext, ChosenInput, ProcessData, PollsProcess, ServiceState, ServesTurns, TurnServed, chosen_input, choose_input, input_from_port, moment_of}
+use Rattle.bay_server.specs.ServeReport.{AfterTurn, AwaitsNext, ChosenInput, ProcessData, PollsProcess, ServiceState, ServesTurns, TurnServed, chosen_input, choose_input, input_from_port, moment_of, skips_after, skips_reads_of}
 use Rattle.bay_server.specs.declared.clock.Clocks.{Clocks}
 use Rattle.cmd_serve.specs.Live.{CommandsLive, HoldsLater, IsSupervised, IsLiveProcess}
 use Rattle.cmd_serve.specs.Requests.{IsRequested}
@@ -308,8 +308,11 @@ module _ {L H W : Type 0} (step : L → Call → L → Type 0) (acts : H → Hos
     -- the process was attended to
     by-process : (process : Option (ProcessData L)) → after.process ≡ process
         → PollsProcess step contents asks t.now goes.turn after.held.device
-        (Some (record { link = k.process.link; port = taken.port })) process goes.reports.between
-        goes.reported answer
+        (Some (record {
+          link = k.process.link;
+          port = taken.port;
+          skips_left = skips_after (skips_reads_of k.process) k.process.skips_left;
+        })) process goes.reports.between goes.reported answer
         → Keeps settings after
     by-process None is polls = absurd polls
     by-process (Some process) is polls = record {

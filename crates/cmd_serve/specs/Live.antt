@@ -18,7 +18,7 @@ pub record IsSupervised {L H : Type 0} (settings : SupervisionSettings) (b : Ser
     : Type 0 where
   pub link : L
   pub sends : Bool
-  pub is : b.process ≡ Some (record { link = link; port = initial_port sends (Some settings) })
+  pub is : b.process ≡ Some (record { link = link; port = initial_port sends (Some settings); skips_left = 0 })
   pub alone : b.lines ≡ []
 
 -- The process is connected and supervised by these settings, it has introduced itself as the

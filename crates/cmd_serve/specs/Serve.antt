@@ -210,7 +210,7 @@ module _ {L H : Type 0} (acts : H → HostCall L → H → Type 0) where
       (had : Result L BindFault) × acts before (Binds port None had) after
       × MatchResult had
       (λ other. IsBound (is_recorded task.options) s link
-      (Some (record { link = other; port = initial_port task.sends_releases settings })) bound)
+      (Some (record { link = other; port = initial_port task.sends_releases settings; skips_left = 0 })) bound)
       (λ fault. bound ≡ Err (unserved.Unbound port fault))
 
   -- the port of the clients is opened, and then that of the process; or memory runs out for the

@@ -39,7 +39,7 @@ loop-turn-preserved g c =
           (awaits-next (CountedCall g.L.Link.does g.L.Link.failures) g.H.Host.does
           g.W.Sink.contents
           g.W.Sink.does (with_host c.try_turn.new.served c.try_turn.new.host c.try_turn.new.lines)
-          _ (rw c.turn_end.ensures at c.await_turn.ensures));
+          _ (rw c.turn_end.ensures at c.await_next.ensures));
     }
 
 pub returns : goal.returns
