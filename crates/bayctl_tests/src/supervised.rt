@@ -30,7 +30,7 @@ const STRANGER: ServedCase = ServedCase {
     ..SUPERVISED
 };
 
-const ROWS: [ServedCase; 13] = [
+const ROWS: [ServedCase; 15] = [
     // With a cycle, 100 ms and one reading of the clock are between the starts of two turns.
     ServedCase {
         words: "serve --log --bay bay --logic logic --port 7 --turns 3 --cycle 100",
@@ -51,6 +51,55 @@ const ROWS: [ServedCase; 13] = [
 | 1970-01-01T00:00:00.240Z association 1 closed 0: its client ended it
 240 closed 1 0
 | 1970-01-01T00:00:00.240Z all turns are served
+",
+        ..HEARD
+    },
+    // Lines of the process that wait are taken at once, in turns that skip their reads: only after
+    // the last of them does the server wait for the end of the turn.
+    ServedCase {
+        words: "serve --log --bay bay --logic logic --port 7 --turns 5 --process 9 --cycle 100",
+        processes: 1,
+        lines: "0 contact Q 1\n0 contact Q 2\n0 contact Q 1\n",
+        step: 10,
+        wanted: "instructions=2 depth=1 budget=2
+| 1970-01-01T00:00:00.010Z clients on 127.0.0.1:7, process on 127.0.0.1:9
+| 1970-01-01T00:00:00.010Z bay SHA-256 039109cc180841997e6c30d729870d020103592c027cddd03bd60221d0cb410f
+| 1970-01-01T00:00:00.010Z program SHA-256 191643a54f5dd1f9a729a29e20b4c496ac41c7d182285acc1f461dd8a2d01fee
+| 1970-01-01T00:00:00.020Z process open
+20 process open
+| 1970-01-01T00:00:00.030Z position Q open
+| 1970-01-01T00:00:00.040Z position Q closed
+| 1970-01-01T00:00:00.050Z position Q open
+| 1970-01-01T00:00:00.050Z process closed 0: it ended its connection
+50 process closed 0
+| 1970-01-01T00:00:00.160Z process lost
+| 1970-01-01T00:00:00.160Z position Q bad
+| 1970-01-01T00:00:00.160Z all turns are served
+",
+        ..HEARD
+    },
+    // At most 63 turns in a row skip their reads: the second client, which the second turn accepts,
+    // is read in turn 65, while lines of the process still wait.
+    ServedCase {
+        words: "serve --log --bay bay --logic logic --port 7 --turns 66 --process 9",
+        clients: Some(2),
+        processes: 1,
+        lines: "\n\n\n\n\n\n\n\n\n\n\n\n\n\n\n\n\n\n\n\n\n\n\n\n\n\n\n\n\n\n\n\n\n\n\n\
+            \n\n\n\n\n\n\n\n\n\n\n\n\n\n\n\n\n\n\n\n\n\n\n\n\n\n\n\n\n\n\n\n\n\n\n",
+        step: 1,
+        wanted: "instructions=2 depth=1 budget=2
+| 1970-01-01T00:00:00.001Z clients on 127.0.0.1:7, process on 127.0.0.1:9
+| 1970-01-01T00:00:00.001Z bay SHA-256 039109cc180841997e6c30d729870d020103592c027cddd03bd60221d0cb410f
+| 1970-01-01T00:00:00.001Z program SHA-256 191643a54f5dd1f9a729a29e20b4c496ac41c7d182285acc1f461dd8a2d01fee
+| 1970-01-01T00:00:00.002Z association 1 open from 127.0.0.1:40000
+| 1970-01-01T00:00:00.002Z association 1 closed 0: its client ended it
+2 closed 1 0
+| 1970-01-01T00:00:00.002Z process open
+2 process open
+| 1970-01-01T00:00:00.003Z association 1 open from 127.0.0.1:40000
+| 1970-01-01T00:00:00.066Z association 1 closed 0: its client ended it
+66 closed 1 0
+| 1970-01-01T00:00:00.067Z all turns are served
 ",
         ..HEARD
     },
