@@ -3,6 +3,7 @@ use Rattle.std.specs.Prelude.{ℕ}
 use Rattle.bay_process_port.specs.declared.connection_event.DisconnectReason.{DisconnectReason}
 use Rattle.bay_process_port.specs.declared.connection_event.DisconnectReason.TheVariants.{Ended, BadLine, QueueFull, LinkFailed, Foreign, Untimely, OutOfOrder, Silent, Jumped}
 
+-- the number of a reason
 abbrev pub code_of : DisconnectReason → ℕ
 code_of Ended = 0
 code_of (BadLine line) = 120

@@ -174,6 +174,7 @@ port_reading s now jump p = presence_reading p.presence s now jump p
 abbrev pub loss_only : PortReading → PortData → PortReading
 loss_only taken p = if taken.is_lost then taken else empty_reading p
 
+-- what a turn takes of the port if it has a line of a trace
 abbrev pub loss_reading : State → ℕ → ℕ → PortData → PortReading
 loss_reading s now jump p = loss_only (port_reading s now jump p) p
 

@@ -20,6 +20,7 @@ with_ends (line ∷ lines) = line ++ 10 ∷ with_ends lines
 abbrev pub words_in : List ℕ → List (List ℕ)
 words_in line = slice_split (λ b. b == 32) line
 
+-- the parts of a word, at each `=`
 abbrev pub parts_in : List ℕ → List (List ℕ)
 parts_in word = slice_split (λ b. b == 61) word
 
@@ -44,6 +45,7 @@ truth_of b = if b == 49 then Some true else if b == 48 then Some false else None
 
 -- ---- the line of a load
 
+-- the budget in the words of the line of a load
 abbrev pub budget_in : List (List ℕ) → Option ℕ
 budget_in (instructions ∷ depth ∷ budget ∷ []) =
     number_after (codes "budget") (parts_in budget)
@@ -61,6 +63,7 @@ pub record PrintedSwitch : Type 0 where
   pub opens : Bool
   pub closes : Bool
 
+-- a switch with what its digits say, if both are digits
 abbrev pub switch_from_parts : List ℕ → Option Bool → Option Bool → Option PrintedSwitch
 switch_from_parts id (Some opens) (Some closes) =
     Some (record { id = id; opens = opens; closes = closes })
@@ -71,10 +74,12 @@ abbrev pub switch_digits : List ℕ → List ℕ → Option PrintedSwitch
 switch_digits id (x ∷ y ∷ []) = switch_from_parts id (truth_of x) (truth_of y)
 switch_digits id _ = None
 
+-- the switch in the parts of a word
 abbrev pub switch_in : List (List ℕ) → Option PrintedSwitch
 switch_in (id ∷ digits ∷ []) = switch_digits id digits
 switch_in _ = None
 
+-- the switches in words, if each has one
 abbrev pub switches_in : List (List ℕ) → Option (List PrintedSwitch)
 switches_in [] = Some []
 switches_in (word ∷ words) =
@@ -87,11 +92,13 @@ pub record PrintedScan : Type 0 where
   pub steps : ℕ
   pub switches : List PrintedSwitch
 
+-- a scan, if each of its parts can be read
 abbrev pub scan_from_parts : Option ℕ → Option ℕ → Option (List PrintedSwitch) → Option PrintedScan
 scan_from_parts (Some moment) (Some steps) (Some switches) =
     Some (record { moment = moment; steps = steps; switches = switches })
 scan_from_parts _ _ _ = None
 
+-- the scan in the words of a line
 abbrev pub scan_in : List (List ℕ) → Option PrintedScan
 scan_in (moment ∷ verb ∷ steps ∷ switches) =
     if bytes_eq verb (codes "scan")
@@ -119,11 +126,13 @@ operation_of word =
     else if bytes_eq word (codes "off") then Some operations.Open
     else None
 
+-- a command, if each of its parts can be read
 abbrev pub command_from_parts : Option ℕ → List ℕ → Option Operation → Option PrintedCommand
 command_from_parts (Some moment) id (Some operation) =
     Some (record { moment = moment; id = id; operation = operation })
 command_from_parts _ id _ = None
 
+-- the command in the words of a line
 abbrev pub command_in : List (List ℕ) → Option PrintedCommand
 command_in (moment ∷ verb ∷ id ∷ order ∷ []) =
     if bytes_eq verb (codes "command")
@@ -142,6 +151,7 @@ pub record PrintedSend : Type 0 where
   pub association : List ℕ
   pub octets : List ℕ
 
+-- what is sent, in the words of a line
 abbrev pub send_in : List (List ℕ) → Option PrintedSend
 send_in (moment ∷ verb ∷ association ∷ octets ∷ []) =
     if bytes_eq verb (codes "send")

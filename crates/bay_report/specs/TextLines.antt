@@ -3,6 +3,7 @@ use Rattle.std.specs.Prelude.{◌≡◌, ℕ, ◌-◌, Bool, ◌==◌, List, ◌
 use Rattle.std.specs.List.{onto_first}
 use Rattle.std.specs.Str.{bytes_eq}
 
+-- the octet is a line feed
 abbrev pub is_line_feed : ℕ → Bool
 is_line_feed b = b == 10
 

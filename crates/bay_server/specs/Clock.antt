@@ -24,6 +24,7 @@ side_of moment system =
     else if nat_lt (system + 1000) moment then Behind
     else Near
 
+-- two sides are equal
 abbrev pub is_same_side : ClockSide → ClockSide → Bool
 is_same_side Near Near = true
 is_same_side Ahead Ahead = true

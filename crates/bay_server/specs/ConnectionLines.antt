@@ -41,6 +41,7 @@ abbrev pub left_out_line : ℕ → ℕ → List ℕ
 left_out_line now n =
     concat (utc_text now ∷ codes " " ∷ decimal n ∷ codes " lines of connections left out\n" ∷ [])
 
+-- the line that says how many were left out, if some were
 abbrev pub left_out_log : ℕ → ℕ → List (List ℕ)
 left_out_log now zero = []
 left_out_log now (suc n) = left_out_line now (suc n) ∷ []

@@ -132,6 +132,7 @@ abbrev pub position_words : Operation → List ℕ
 position_words operation =
     if is_close operation then codes " close orCat=" else codes " open orCat="
 
+-- a minus before a negative number
 abbrev pub sign_text : ℤ → List ℕ
 sign_text number = if is_negative number then codes "-" else []
 
@@ -177,6 +178,7 @@ abbrev pub refused_line : ℕ → ℕ → List ℕ → List ℕ
 refused_line now code shown =
     concat (utc_text now ∷ codes " refused " ∷ decimal code ∷ codes ": " ∷ shown ∷ codes "\n" ∷ [])
 
+-- the line about an event that the device refused, if it refused one
 abbrev pub refused_log : ℕ → Option ℕ → List ℕ → List (List ℕ)
 refused_log now None shown = []
 refused_log now (Some code) shown = refused_line now code shown ∷ []

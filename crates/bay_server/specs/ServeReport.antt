@@ -107,6 +107,7 @@ abbrev pub loss_of : {L : Type 0} → State → ℕ → ℕ → Option (ProcessD
 loss_of s now jump None = false
 loss_of s now jump (Some p) = (loss_reading s now jump p.port).is_lost
 
+-- the process after a turn with a line of a trace took its loss, if there was one
 abbrev pub after_loss : {L : Type 0} → State → ℕ → ℕ → Option (ProcessData L)
     → Option (ProcessData L)
 after_loss s now jump None = None

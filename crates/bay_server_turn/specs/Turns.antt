@@ -46,6 +46,7 @@ pub record TurnState : Type 0 where
   pub server : ServerData
   pub noted : TurnData
 
+-- a turn under way, of a server and what the turn has collected
 abbrev pub turn_state : ServerData → TurnData → TurnState
 turn_state server noted = record { server = server; noted = noted }
 
@@ -55,6 +56,7 @@ turn_state server noted = record { server = server; noted = noted }
 abbrev pub server_queue : ℕ → ServerData → List ℕ
 server_queue slot h = slice_index_or h.queues slot []
 
+-- the queue of an association within a turn
 abbrev pub turn_queue : ℕ → TurnState → List ℕ
 turn_queue slot s = server_queue slot s.server
 
@@ -62,6 +64,7 @@ turn_queue slot s = server_queue slot s.server
 abbrev pub has_open : ℕ → ServerData → Bool
 has_open slot h = is_some (connection_at (Some slot) h.device)
 
+-- an association is open at this point of a turn
 abbrev pub is_open_at : ℕ → TurnState → Bool
 is_open_at slot s = has_open slot s.server
 
@@ -69,6 +72,7 @@ is_open_at slot s = has_open slot s.server
 abbrev pub noted_state : ℕ → TurnData → AssociationState
 noted_state slot n = slice_index_or n.states slot Steady
 
+-- the state of an association at this point of a turn
 abbrev pub state_at : ℕ → TurnState → AssociationState
 state_at slot s = noted_state slot s.noted
 
@@ -81,6 +85,7 @@ with_device device s =
 abbrev pub put_queue : ℕ → List ℕ → ServerData → ServerData
 put_queue slot queue h = record { device = h.device; queues = slice_set h.queues slot queue }
 
+-- a turn with another queue of an association
 abbrev pub with_queue : ℕ → List ℕ → TurnState → TurnState
 with_queue slot queue s = record { server = put_queue slot queue s.server; noted = s.noted }
 
@@ -199,6 +204,7 @@ calls_closing_next_full now None s later = []
 calls_closing_next_full now (Some slot) s later =
     Closes (slot + 1) ∷ later (close_at_once now closing.QueueFull slot s)
 
+-- the calls that close at most n of them, the lowest first
 abbrev pub calls_closing_some_full : ℕ → ℕ → TurnState → List Call
 calls_closing_some_full now zero s = []
 calls_closing_some_full now (suc count) s =
@@ -269,6 +275,7 @@ abbrev pub start_closing_if_closed : ℕ → Option (ℕ × Why) → TurnData �
 start_closing_if_closed slot None n = n
 start_closing_if_closed slot (Some closed) n = start_closing slot closed.1 n
 
+-- the turn after the device closed an association, or did not
 abbrev pub after_device_close : ℕ → Option (ℕ × Why) → TurnState → TurnState
 after_device_close slot closed s = with_noted (start_closing_if_closed slot closed s.noted) s
 
@@ -466,16 +473,20 @@ turn_begin h = turn_state h nothing_noted
 abbrev pub after_accept : ℕ → Script → ServerData → TurnState
 after_accept now script h = with_accept now script.accepted (turn_begin h)
 
+-- after the loss of the process, if it is lost
 abbrev pub after_loss : ℕ → ProcessReport → Script → ServerData → TurnState
 after_loss now given script h = with_event now (loss_event given) (after_accept now script h)
 
+-- after the reads
 abbrev pub after_reads : ℕ → ProcessReport → Script → ServerData → TurnState
 after_reads now given script h =
     after_each (read_one now) 0 script.readings (after_loss now given script h)
 
+-- after the event of the process, if there is one
 abbrev pub after_line : ℕ → ProcessReport → Script → ServerData → TurnState
 after_line now given script h = with_event now given.event (after_reads now given script h)
 
+-- after the scan
 abbrev pub after_scan : ℕ → ProcessReport → Script → ServerData → TurnState
 after_scan now given script h = after_turn_scan now (after_line now given script h)
 

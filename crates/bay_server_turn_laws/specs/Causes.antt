@@ -57,16 +57,19 @@ abbrev pub has_reason : List Why → Bool
 has_reason [] = false
 has_reason (reason ∷ reasons) = true
 
+-- the device closed it as ended
 abbrev pub is_end : Why → Bool
 is_end why.Ended = true
 is_end (why.Fault code) = false
 is_end why.Memory = false
 
+-- the device refused its octets with the fault of this number
 abbrev pub is_refusal : ℕ → Why → Bool
 is_refusal code why.Ended = false
 is_refusal code (why.Fault number) = number == code
 is_refusal code why.Memory = false
 
+-- the device closed it because it was out of memory
 abbrev pub is_memory : Why → Bool
 is_memory why.Ended = false
 is_memory (why.Fault code) = false
@@ -74,18 +77,21 @@ is_memory why.Memory = true
 
 -- ---- what is reported of it
 
+-- the report says that it ended
 abbrev pub is_ended : CloseReason → Bool
 is_ended Ended = true
 is_ended (Fault code) = false
 is_ended QueueFull = false
 is_ended LinkFailed = false
 
+-- the report has the fault of this number
 abbrev pub is_fault : ℕ → CloseReason → Bool
 is_fault code Ended = false
 is_fault code (Fault number) = number == code
 is_fault code QueueFull = false
 is_fault code LinkFailed = false
 
+-- the report says that its queue was full
 abbrev pub is_queue_full : CloseReason → Bool
 is_queue_full Ended = false
 is_queue_full (Fault code) = false

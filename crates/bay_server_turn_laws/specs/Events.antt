@@ -39,11 +39,13 @@ events_closing_next_full now None s later = []
 events_closing_next_full now (Some slot) s later =
     closing_of slot ∷ later (close_at_once now closing.QueueFull slot s)
 
+-- at most n of them, the lowest first
 abbrev pub events_closing_some_full : ℕ → ℕ → TurnState → List ChosenEvent
 events_closing_some_full now zero s = []
 events_closing_some_full now (suc count) s =
     events_closing_next_full now (first_full s.noted) s (events_closing_some_full now count)
 
+-- all of them: after eight none is left
 unfoldable pub events_closing_full : ℕ → TurnState → List ChosenEvent
 events_closing_full now s = events_closing_some_full now 8 s
 
@@ -56,6 +58,7 @@ accept_events_at now (Some slot) (Some None) s = []
 accept_events_at now (Some slot) (Some (Some from)) s =
     with_memory (Open (slot + 1)) ∷ events_closing_full now (after_opening now slot s)
 
+-- the events of a connection that is accepted
 abbrev pub accept_events : ℕ → Option (Option SocketAddrV4) → TurnState → List ChosenEvent
 accept_events now taken s = accept_events_at now (lowest_free_association s.server) taken s
 
@@ -100,6 +103,7 @@ offer_events now slot o s =
 
 -- ---- the events of a turn
 
+-- the events for one association after another
 abbrev pub events_of_each : {C : Type 0} → (ℕ → C → TurnState → TurnState)
     → (ℕ → C → TurnState → List ChosenEvent) → ℕ → List C → TurnState → List ChosenEvent
 events_of_each f events slot [] s = []

@@ -21,6 +21,8 @@ abbrev pub hazard_case_text : Bay → Diagram → List ℕ → List TestAnswer �
     → List ℕ
 hazard_case_text bay d word case shown = word ++ (case_text bay case ++ shown_text d shown)
 
+-- the answer on an operation: that it holds, or a case with a hazard, or that there are too many
+-- cases
 abbrev pub hazard_answer_text : Bay → Diagram → HazardAnswer → Option ShownHazard → List ℕ
 hazard_answer_text bay d (Holds cases) shown = holds_text cases
 hazard_answer_text bay d (Broken case) shown = hazard_case_text bay d (codes " broken") case shown

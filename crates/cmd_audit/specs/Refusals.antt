@@ -24,6 +24,7 @@ table_of (places.Node k) = Some (codes " node ", number_of k)
 table_of (places.Between k) = Some (codes " between ", number_of k)
 table_of (places.Switch k) = Some (codes " switch ", number_of k)
 
+-- the table with the fault, if it is one
 abbrev pub table_text : Option (List ℕ × ℕ) → List ℕ
 table_text None = []
 table_text (Some table) = table.0 ++ decimal table.1
@@ -34,6 +35,7 @@ numbered_diagram None table = []
 numbered_diagram (Some code) table =
     codes "diagram refused " ++ (decimal code ++ (table_text table ++ codes "\n"))
 
+-- the line of a fault of a diagram
 abbrev pub diagram_refusal : DiagramFault → List ℕ
 diagram_refusal fault = numbered_diagram (code_of fault.kind) (table_of fault.place)
 
@@ -44,6 +46,7 @@ logged_diagram (Some code) table words =
     Some (codes "bayctl: diagram refused " ++ (decimal code
     ++ (table_text table ++ (codes ": " ++ (words ++ codes "\n")))))
 
+-- the log line of a fault of a diagram
 abbrev pub diagram_log : DiagramFault → Option (List ℕ)
 diagram_log fault = logged_diagram (code_of fault.kind) (table_of fault.place) (words_of fault.kind)
 

@@ -22,17 +22,20 @@ pub record PrintedHold : Type 0 where
   pub id : List ℕ
   pub operation : Operation
 
+-- the operation in a word
 abbrev pub operation_in : List ℕ → Option Operation
 operation_in word =
     if bytes_eq word (codes "open") then Some operations.Open
     else if bytes_eq word (codes "close") then Some operations.Close
     else None
 
+-- a rule that holds, if its operation can be read
 abbrev pub hold_from_parts : List ℕ → List ℕ → Option Operation → Option PrintedHold
 hold_from_parts line id None = None
 hold_from_parts line id (Some operation) =
     Some (record { line = line; id = id; operation = operation })
 
+-- the rule that holds, in the words of a line
 abbrev pub hold_in : List (List ℕ) → Option PrintedHold
 hold_in (rule ∷ line ∷ id ∷ operation ∷ verdict ∷ more) =
     if bytes_eq rule (codes "rule") && bytes_eq verdict (codes "holds")

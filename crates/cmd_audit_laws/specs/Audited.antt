@@ -71,6 +71,7 @@ abbrev pub Plainly : RuleAnswer → Type 0
 Plainly (Holds cases) = Unit {0}
 Plainly other = ⊥
 
+-- the answer is that a timer establishes the rule
 abbrev pub ByTimer : RuleAnswer → Type 0
 ByTimer (Since timer cases) = Unit {0}
 ByTimer other = ⊥
