@@ -134,7 +134,7 @@ def plain(kind: str) -> str:
     return kind.removesuffix(' nz')
 
 
-def joined(first: str, second: str) -> str:
+def join_kinds(first: str, second: str) -> str:
     """Returns the least kind that includes two."""
     if first == second:
         return first
@@ -147,7 +147,7 @@ def kinds_after(image: Image, code: int, operand: bytes, kinds: Kinds) -> Kinds:
     number = int.from_bytes(operand, 'big', signed=code in PUSHED)
     top = plain(kinds[-1]) if kinds else ''
 
-    def wants(holds: bool) -> None:
+    def require(holds: bool) -> None:
         if not holds:
             raise Refused(92)
 
@@ -159,27 +159,27 @@ def kinds_after(image: Image, code: int, operand: bytes, kinds: Kinds) -> Kinds:
     if code == 0x07:
         return *kinds, slots[number]
     if code in (0x08, 0x09, 0x0A):
-        wants(top == slots[number] and (code == 0x08 or top == 'BOOL'))
+        require(top == slots[number] and (code == 0x08 or top == 'BOOL'))
     elif code in (0x0B, 0x1C, 0x1D):
-        wants(top == 'BOOL')
+        require(top == 'BOOL')
     elif code in (0x0C, 0x0D, 0x0E):
-        wants(top == plain(kinds[-2]) == 'BOOL')
+        require(top == plain(kinds[-2]) == 'BOOL')
         return kinds[:-1]
     elif 0x0F <= code <= 0x13:
         width = WIDTHS[number]
-        wants(top == plain(kinds[-2]) == width)
+        require(top == plain(kinds[-2]) == width)
         if code in (0x12, 0x13) and kinds[-1] != width + ' nz':
             raise Refused(93)
         return *kinds[:-2], width
     elif 0x14 <= code <= 0x19:
-        wants(top == plain(kinds[-2]) != 'any' and (top != 'BOOL' or code in (0x16, 0x17)))
+        require(top == plain(kinds[-2]) != 'any' and (top != 'BOOL' or code in (0x16, 0x17)))
         return *kinds[:-2], 'BOOL'
     elif code in (0x1A, 0x24):
         low, high = ('INT', 'DINT') if code == 0x1A else ('DINT', 'LINT')
-        wants(top == low)
+        require(top == low)
         return *kinds[:-1], kinds[-1].replace(low, high)
     elif code in (0x1E, 0x1F):
-        wants(top == ('BOOL' if code == 0x1E else 'TIME'))
+        require(top == ('BOOL' if code == 0x1E else 'TIME'))
         return kinds[:-1]
     elif code in (0x21, 0x22):
         return *kinds, 'BOOL' if code == 0x21 else 'TIME'
@@ -223,7 +223,7 @@ def check_instruction(image: Image, at: int, pending: dict[int, Kinds]) -> None:
         raise Refused(98)
     for place in successors:
         found = pending.get(place, after)
-        pending[place] = tuple(map(joined, found, after))
+        pending[place] = tuple(map(join_kinds, found, after))
 
 
 def fault_number(octets: bytes, bay: dict[str, tuple[str, bool]]) -> int:

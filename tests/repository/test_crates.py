@@ -26,7 +26,7 @@ def section_of(page: str, heading: str) -> str:
     return text_of(page).partition(f'\n## {heading}\n')[2].partition('\n## ')[0]
 
 
-def listed_in(text: str) -> list[str]:
+def crates_in(text: str) -> list[str]:
     """The crates that the first cells of tables list, as often as they do."""
     known = set(crates())
     return [name for cell in ROW.findall(text) for name in cell.split(', ') if name in known]
@@ -38,7 +38,7 @@ class Crates(unittest.TestCase):
         self.assertEqual(set(crates()), folders)
 
     def test_architecture_has_each_crate_once(self):
-        found = listed_in(section_of('docs/ARCHITECTURE.md', 'The crates'))
+        found = crates_in(section_of('docs/ARCHITECTURE.md', 'The crates'))
         self.assertEqual(sorted(found), sorted(crates()))
 
     def test_readme_names_what_is_only_tested(self):
@@ -60,13 +60,13 @@ class Crates(unittest.TestCase):
 
     def test_the_table_of_the_gate_has_each_crate(self):
         """`dev/gate_table` writes it anew."""
-        self.assertEqual(listed_in(text_of('bench/GATE.md')), crates())
+        self.assertEqual(crates_in(text_of('bench/GATE.md')), crates())
 
 
 class Changes(unittest.TestCase):
     def test_each_file_of_a_list_is_there(self):
         """A file is of the crate that its step named last, or below the folder named with it."""
-        found = [it for text in lists() for it in named_in(text)]
+        found = [it for text in lists() for it in files_in(text)]
         self.assertGreater(len(found), 150)
         for it in found:
             self.assertTrue(is_there(it), it)
@@ -75,7 +75,7 @@ class Changes(unittest.TestCase):
         told = re.findall(r'^\| (An? [^|]+?) \|([\d |]+)\|$', text_of('CONTRIBUTING.md'), re.M)
         self.assertEqual(
             {title: [int(it) for it in cells.split('|')] for title, cells in told},
-            {text.partition('\n')[0]: counts(named_in(text)) for text in lists()[:-2]})
+            {text.partition('\n')[0]: counts(files_in(text)) for text in lists()[:-2]})
 
 
 def lists() -> list[str]:
@@ -83,7 +83,7 @@ def lists() -> list[str]:
     return section_of('CONTRIBUTING.md', 'How a thing is added').split('\n### ')[1:]
 
 
-def named_in(text: str) -> set[str]:
+def files_in(text: str) -> set[str]:
     """The files that a list names, from the top of the repository."""
     crate, folder, found = '', '', set()
     for quoted, plain in re.findall(r'`([^`\n]+)`|\b(\w+)\b', text):

@@ -134,11 +134,11 @@ class Documents(unittest.TestCase):
 
     def test_version(self):
         """The newest version of CHANGELOG is what the program and its cases say."""
-        def found(path, pattern):
+        def find_first(path, pattern):
             return re.search(pattern, (TOP / path).read_text(encoding='utf-8'), re.MULTILINE)[1]
-        said = {found('CHANGELOG.md', r'^## (\d\S*)'),
-                found('crates/bay_cli/src/command.rt', r'const VERSION: &str = "([^"]*)"'),
-                found('crates/bayctl_cases/stdin', r'^bayctl (\d\S*)$')}
+        said = {find_first('CHANGELOG.md', r'^## (\d\S*)'),
+                find_first('crates/bay_cli/src/command.rt', r'const VERSION: &str = "([^"]*)"'),
+                find_first('crates/bayctl_cases/stdin', r'^bayctl (\d\S*)$')}
         self.assertEqual(len(said), 1, said)
 
     def test_faults(self):

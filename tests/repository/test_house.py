@@ -46,7 +46,7 @@ def scripts() -> list[pathlib.Path]:
             if it.is_file() and (it.suffix == '.py' or it.read_bytes().startswith(SHEBANG))]
 
 
-def imported(path: pathlib.Path) -> set[str]:
+def imported_packages(path: pathlib.Path) -> set[str]:
     """The packages that a file imports, by their first names."""
     found = set()
     for node in ast.walk(ast.parse(path.read_text(encoding='utf-8'))):
@@ -72,7 +72,7 @@ class Layout(unittest.TestCase):
         self.assertGreater(min(len(users), len(developers)), 40)
         for paths, others in ((users, {'devtools', 'tests'}), (developers, {'tests'})):
             for path in paths:
-                self.assertEqual(imported(path) & others, set(), path)
+                self.assertEqual(imported_packages(path) & others, set(), path)
 
     def test_one_module_of_each_package_says_where_things_are(self):
         found = [str(it.relative_to(TOP)) for it in modules()

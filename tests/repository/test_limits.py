@@ -61,7 +61,7 @@ def source(place):
     return (TOP / 'crates' / path).read_text(encoding='utf-8'), said
 
 
-def held_by(place):
+def numbers_at(place):
     """The numbers of the lines that a cell names: a constant's value, a text, or the whole file."""
     text, said = source(place)
     if CONSTANT.fullmatch(said):
@@ -77,7 +77,7 @@ class Limits(unittest.TestCase):
         for what, number, definition, code in rows():
             for place in (definition, code):
                 if place:
-                    self.assertIn(number, held_by(place), f'{what}: {place}')
+                    self.assertIn(number, numbers_at(place), f'{what}: {place}')
 
     def test_what_is_answered_past_them(self):
         """A number there is one of the faults that the crate defines, where it defines any."""

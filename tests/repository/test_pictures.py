@@ -7,7 +7,7 @@ from tests.tool import Tools
 
 
 class Pictures(Tools):
-    def drawn(self, picture: pathlib.Path) -> str:
+    def draw(self, picture: pathlib.Path) -> str:
         """What the tools draw of an example."""
         folder, out = picture.parent, self.folder / 'drawn.svg'
         if picture.name == 'timeline.svg':
@@ -24,7 +24,7 @@ class Pictures(Tools):
         pictures = sorted(TOP.glob('examples/**/*.svg'))
         self.assertGreaterEqual(len(pictures), 9)
         for picture in pictures:
-            self.assertTrue(self.drawn(picture) == picture.read_text(encoding='utf-8'),
+            self.assertTrue(self.draw(picture) == picture.read_text(encoding='utf-8'),
                             f'{picture.relative_to(TOP)} is drawn otherwise today: draw it anew')
 
 

@@ -87,7 +87,7 @@ six : ℕ
 '''
 
 
-def told_of(it: Promise) -> str:
+def place_text(it: Promise) -> str:
     return f'{it.page.name}:{it.line}'
 
 
@@ -130,14 +130,14 @@ class Reading(unittest.TestCase):
             [(standards.OWN, 'bay_tree: views')], [('X.690', '8.1.2.2'), ('X.690', '8.4')], []])
 
     def test_a_last_column(self):
-        def resolved(by):
+        def resolve(by):
             borne = Resolver(Promise(PAGES[1], '', 1, '', by, ('bay_device',))).resolved()
             return {it.title: labels for it, labels in borne.calls.items()}, borne.unknown
-        self.assertEqual(resolved('`step` and `run`: `commanded`; at most one: `single`, with '
-                                  '`load`: `idle`'),
+        self.assertEqual(resolve('`step` and `run`: `commanded`; at most one: `single`, with '
+                                 '`load`: `idle`'),
                          ({'Device::step': {'commanded', 'single'},
                            'Device::run': {'commanded', 'single'}, 'load': {'idle'}}, []))
-        self.assertEqual(resolved('`no_such_call`, `load`: `no_such_label`'),
+        self.assertEqual(resolve('`no_such_call`, `load`: `no_such_label`'),
                          ({'load': set()}, ['no_such_call', 'no_such_label']))
 
     def test_markdown(self):
@@ -153,18 +153,19 @@ class Promises(unittest.TestCase):
         self.assertGreater(len(promises()), 100)
         for it in promises():
             borne = borne_by(it)
-            self.assertEqual(borne.unknown, [], told_of(it))
-            self.assertEqual(bool(borne.calls), it.by != 'the proof of each function', told_of(it))
+            self.assertEqual(borne.unknown, [], place_text(it))
+            self.assertEqual(bool(borne.calls), it.by != 'the proof of each function',
+                             place_text(it))
             for call in borne.calls:
-                self.assertTrue(borne.clauses(call), f'{told_of(it)}: {call.title}')
+                self.assertTrue(borne.clauses(call), f'{place_text(it)}: {call.title}')
 
     def test_each_row_has_an_id_of_its_own(self):
         """An id is never used twice: the register keeps each, with the call that bears it."""
         with_id = [it for it in promises() if it.page.name != 'README.md']
         for it in with_id:
-            self.assertRegex(it.id, r'^P-\d{3}$', told_of(it))
+            self.assertRegex(it.id, r'^P-\d{3}$', place_text(it))
             self.assertEqual(registered().get(it.id), key_of(borne_by(it)) or 'every function',
-                             f'{told_of(it)}: {it.id}')
+                             f'{place_text(it)}: {it.id}')
         ids = [it.id for it in with_id]
         self.assertEqual(len(ids), len(set(ids)))
         gone = {it for it, told in registered().items() if told.startswith('gone')}
@@ -197,7 +198,7 @@ class Promises(unittest.TestCase):
         """Each row that has nothing has a reason, and each reason is of such a row."""
         for it in without:
             self.assertTrue(lacking.reason(reasons, it),
-                            f'{told_of(it)}: {lacking.key_of(borne_by(it))}')
+                            f'{place_text(it)}: {lacking.key_of(borne_by(it))}')
         needed = {lacking.key_in(reasons, borne_by(it)) for it in without}
         self.assertEqual(set(reasons) - needed, set())
 
@@ -227,7 +228,7 @@ class Promises(unittest.TestCase):
 
     def test_each_row_has_a_case_or_a_reason(self):
         for it in promises():
-            self.assertNotEqual(bool(shown.cases_of(it)), bool(shown.no_cases(it)), told_of(it))
+            self.assertNotEqual(bool(shown.cases_of(it)), bool(shown.no_cases(it)), place_text(it))
 
     def test_each_case_shows_a_promise_that_there_is(self):
         known = {it.id for it in promises()}

@@ -94,7 +94,7 @@ def sources() -> list[tuple[pathlib.Path, str]]:
             *((path, '--') for path in sorted(TOP.glob('crates/*/specs/**/*.antt')))]
 
 
-def found_words() -> list[str]:
+def find_words() -> list[str]:
     """Each use of a word to avoid: the file, the word, what to write and why, and the comment."""
     found = []
     for path, mark in sources():
@@ -107,7 +107,7 @@ def found_words() -> list[str]:
 class Words(unittest.TestCase):
     def test_no_comment_has_a_word_to_avoid(self):
         self.assertGreater(len(sources()), 700)
-        self.assertEqual(found_words(), [])
+        self.assertEqual(find_words(), [])
 
     def test_the_table_of_contributing_has_each_word(self):
         page = (TOP / 'CONTRIBUTING.md').read_text(encoding='utf-8')

@@ -36,22 +36,22 @@ class Copy(Tools):
             path.write_text(name)
         self.room.mkdir()
 
-    def copied(self, names: list[str], with_gate: bool) -> set[str]:
+    def copied_files(self, names: list[str], with_gate: bool) -> set[str]:
         """What stands in the copy of the crate."""
         loaded('wrong_bodies').copy_of(self.crates, self.room, names, with_gate, {'rlib'})
         top = self.room / 'crates' / 'low'
         return {str(it.relative_to(top)) for it in top.rglob('*') if it.is_file()}
 
     def test_a_wrong_body_stands_where_the_gates_edits_did(self) -> None:
-        self.assertEqual(self.copied(['low'], False),
+        self.assertEqual(self.copied_files(['low'], False),
                          {'src/lib.rt', 'out/rlib/stamp', 'must-fail/b.edit'})
 
     def test_with_those_of_the_gate(self) -> None:
-        self.assertEqual(self.copied(['low'], True),
+        self.assertEqual(self.copied_files(['low'], True),
                          {'src/lib.rt', 'out/rlib/stamp', 'must-fail/a.edit', 'must-fail/b.edit'})
 
     def test_a_crate_that_is_not_named(self) -> None:
-        self.assertEqual(self.copied([], True), {'src/lib.rt', 'out/rlib/stamp'})
+        self.assertEqual(self.copied_files([], True), {'src/lib.rt', 'out/rlib/stamp'})
 
     def test_a_twin_stands_where_the_gates_edits_did(self) -> None:
         tool = loaded('wrong_bodies')
@@ -71,7 +71,7 @@ class Copy(Tools):
         self.assertEqual((crate / 'src' / 'lib.rt').read_text(), 'src/lib.rt')
 
     def test_the_sources_stay_as_they_are(self) -> None:
-        self.copied(['low'], True)
+        self.copied_files(['low'], True)
         (self.room / 'crates' / 'low' / 'src' / 'lib.rt').write_text('changed')
         self.assertEqual((self.crates / 'low' / 'src' / 'lib.rt').read_text(), 'src/lib.rt')
 
@@ -89,7 +89,7 @@ class Tried(Tools):
 class Twins(Tools):
     """A twin passes if the kit says that it is not refused."""
 
-    def tried(self, *answers: str) -> tuple[int, str]:
+    def try_one(self, *answers: str) -> tuple[int, str]:
         """The exit status and the last line for one twin and these answers of the kit."""
         folder = self.folder / 'crates' / 'low' / 'must-fail'
         folder.mkdir(parents=True, exist_ok=True)
@@ -104,26 +104,26 @@ class Twins(Tools):
         return status, printed.getvalue().splitlines()[-1]
 
     def test_one_that_is_proved(self) -> None:
-        self.assertEqual(self.tried('must-fail low/a.edit: NOT REFUSED: the crate is still proved'),
-                         (0, '1 passed, 0 failed'))
+        answer = 'must-fail low/a.edit: NOT REFUSED: the crate is still proved'
+        self.assertEqual(self.try_one(answer), (0, '1 passed, 0 failed'))
 
     def test_one_that_is_refused(self) -> None:
-        self.assertEqual(self.tried('must-fail low/a.edit: refused, as it must be: src/lib.rt:1:1'),
+        self.assertEqual(self.try_one('must-fail low/a.edit: refused, as it must be: src/lib.rt:1:1'),
                          (1, '0 passed, 1 failed'))
 
     def test_one_that_was_not_tried(self) -> None:
-        self.assertEqual(self.tried('must-fail low/a.edit: BAD EDIT: it is no edit'),
+        self.assertEqual(self.try_one('must-fail low/a.edit: BAD EDIT: it is no edit'),
                          (1, '0 passed, 1 failed'))
-        self.assertEqual(self.tried('rt: the library low did not build'), (1, '0 passed, 1 failed'))
+        self.assertEqual(self.try_one('rt: the library low did not build'), (1, '0 passed, 1 failed'))
 
     def test_each_has_its_edit_of_the_same_text(self) -> None:
-        def changed(path: pathlib.Path) -> list[str]:
+        def lines_but_new(path: pathlib.Path) -> list[str]:
             lines = path.read_text(encoding='utf-8').splitlines()
             return [it for it in lines if not it.startswith('new:')]
         for twin in CRATES.glob('*/*/*.twin'):
             with self.subTest(twin.relative_to(CRATES)):
                 edit = twin.with_suffix('.edit')
-                self.assertEqual(changed(twin), changed(edit))
+                self.assertEqual(lines_but_new(twin), lines_but_new(edit))
                 self.assertNotEqual(twin.read_text(), edit.read_text())
                 self.assertNotIn('file: specs', twin.read_text())
 

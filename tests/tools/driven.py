@@ -92,7 +92,7 @@ class Counting(FakeModule):
         return super().answer(pdu)
 
 
-def tried(test):
+def retry(test):
     """A test that goes by real time, and is tried again where it fails: the machine may stall."""
     @functools.wraps(test)
     def run(self):
@@ -116,13 +116,13 @@ class Driven(unittest.TestCase):
     def __init_subclass__(cls):
         for name, test in list(vars(cls).items()):
             if name.startswith('test_'):
-                setattr(cls, name, tried(test))
+                setattr(cls, name, retry(test))
 
     def setUp(self):
         self.module = Counting()
         self.addCleanup(lambda: self.module.server_close())
         self.addCleanup(lambda: self.module.shutdown())
-        self.sets_up(self.module)
+        self.set_module_up(self.module)
         self.port = self.module.server_address[1]
         folder = tempfile.TemporaryDirectory()
         self.addCleanup(folder.cleanup)
@@ -134,12 +134,12 @@ class Driven(unittest.TestCase):
         self.wiring.write_text(text)
         self.server = FakeServer()
         self.addCleanup(lambda: self.assertEqual(self.server.went_back, [], 'a time goes back'))
-        self.addCleanup(self.server.ends)
+        self.addCleanup(self.server.end)
         self.out = tempfile.NamedTemporaryFile('a+')
         self.addCleanup(self.out.close)
-        self.starts()
+        self.start_driver()
 
-    def sets_up(self, module):
+    def set_module_up(self, module):
         module.contacts[0] = module.contacts[2] = module.contacts[3] = True
         module.contacts[6] = True
         module.registers[0] = 65_535
@@ -148,59 +148,60 @@ class Driven(unittest.TestCase):
         return [sys.executable, '-B', TOOLS / 'modbus', '--bay', self.bay, '--wiring', self.wiring,
                 *more]
 
-    def starts(self):
+    def start_driver(self):
         """Starts a driver."""
         self.run = subprocess.Popen(self.words('--process', str(self.server.port)),
                                     stdout=self.out, stderr=subprocess.STDOUT)
-        self.addCleanup(self.ends_one, self.run)
+        self.addCleanup(self.end_driver, self.run)
 
-    def ends_one(self, run):
+    def end_driver(self, run):
         run.send_signal(signal.SIGCONT)
         run.terminate()
         run.wait(10)
 
-    def printed(self):
+    def printed_text(self):
         return pathlib.Path(self.out.name).read_text()
 
-    def waits(self, test, told='', seconds=10.0):
+    def wait_until(self, test, told='', seconds=10.0):
         end = time.monotonic() + seconds
         while not test():
-            self.assertLess(time.monotonic(), end, f'{told}\n{self.printed()}')
+            self.assertLess(time.monotonic(), end, f'{told}\n{self.printed_text()}')
             time.sleep(0.002)
 
-    def is_told(self, wanted):
-        self.waits(lambda: all(self.server.last(point) == value
-                               for point, value in wanted.items()), wanted)
+    def wait_for_values(self, wanted):
+        self.wait_until(lambda: all(self.server.last(point) == value
+                                    for point, value in wanted.items()), wanted)
 
     def wait_for_lines(self, *told):
         for one in told:
-            self.waits(lambda: one in self.printed(), one)
+            self.wait_until(lambda: one in self.printed_text(), one)
 
-    def good(self):
+    def wait_until_good(self):
         """The driver has told that all is well."""
-        self.is_told(GOOD)
+        self.wait_for_values(GOOD)
 
     def pulses(self, coil):
         """The moments at which a coil was switched on."""
         return [at for where, value, at in self.module.written if where == coil and value]
 
-    def lasted(self, coil=CLOSE):
+    def pulse_length(self, coil=CLOSE):
         """How long the first pulse of a coil lasted, in milliseconds."""
-        self.waits(lambda: not self.module.coils[coil], 'the coil is off')
+        self.wait_until(lambda: not self.module.coils[coil], 'the coil is off')
         begun = self.pulses(coil)[0]
         return 1000 * (next(at for where, value, at in self.module.written
                             if where == coil and not value and at > begun) - begun)
 
-    def begins(self, way='on', coil=CLOSE):
+    def begin_pulse(self, way='on', coil=CLOSE):
         """A pulse has begun, by a command."""
-        self.good()
+        self.wait_until_good()
         self.server.send_lines(f'command QA1 {way}')
-        self.waits(lambda: self.module.coils[coil], 'the coil is on')
+        self.wait_until(lambda: self.module.coils[coil], 'the coil is on')
 
-    def is_pulsed_once(self, coil=CLOSE):
+    def check_one_pulse(self, coil=CLOSE):
         """No more pulse comes."""
         time.sleep(0.3)
-        self.assertEqual((len(self.pulses(coil)), self.module.both), (1, False), self.printed())
+        self.assertEqual((len(self.pulses(coil)), self.module.both), (1, False),
+                         self.printed_text())
 
-    def all_off(self):
-        self.waits(lambda: not any(self.module.coils), 'the coils are off')
+    def wait_until_off(self):
+        self.wait_until(lambda: not any(self.module.coils), 'the coils are off')

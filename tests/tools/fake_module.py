@@ -20,12 +20,12 @@ class FakeModule(socketserver.ThreadingTCPServer):
         self.contacts, self.coils, self.registers = [False] * 16, [False] * 16, [0] * 16
         self.holding, self.written, self.peers, self.both = {}, [], set(), False
         self.exception, self.exception_of_writes, self.is_silent, self.late = 0, 0, False, 0.0
-        self.asked = lambda function: None
+        self.on_request = lambda function: None
         threading.Thread(target=self.serve_forever, args=(0.01,), daemon=True).start()
 
     def answer(self, pdu):
         function, at, value = struct.unpack('>BHH', pdu)
-        self.asked(function)
+        self.on_request(function)
         exception = self.exception or (self.exception_of_writes if function == 5 else 0)
         if exception:
             return bytes([function | 0x80, exception])
@@ -40,25 +40,25 @@ class FakeModule(socketserver.ThreadingTCPServer):
         if function == 6:
             self.holding[at] = value
         else:
-            self.put(at, value == 0xFF00)
+            self.put_coil(at, value == 0xFF00)
         return pdu
 
-    def put(self, coil, value):
+    def put_coil(self, coil, value):
         self.coils[coil] = value
         self.written.append((coil, value, time.monotonic()))
         self.both |= self.coils[0] and self.coils[1]
 
-    def cut(self):
+    def end_connections(self):
         """Ends all connections."""
         for peer in list(self.peers):
             with contextlib.suppress(OSError):
                 peer.shutdown(socket.SHUT_RDWR)
 
-    def stops(self):
+    def stop(self):
         """Ends as if it had lost its power."""
         self.shutdown()
         self.server_close()
-        self.cut()
+        self.end_connections()
         self.coils = [False] * 16
 
 
@@ -76,7 +76,7 @@ class Peer(socketserver.StreamRequestHandler):
     def converse(self, transaction, unit, pdu):
         server = self.server
         if server.late and pdu[0] == 5 and pdu[3]:  # (a coil is to be switched on)
-            threading.Timer(server.late, server.put, (pdu[2], True)).start()
+            threading.Timer(server.late, server.put_coil, (pdu[2], True)).start()
             server.late = 0.0
             return
         answer = server.answer(pdu)
@@ -113,12 +113,12 @@ class FakeServer:
                 threading.Thread(target=self.live, args=(connection,), daemon=True).start()
                 with contextlib.suppress(OSError), connection.makefile() as file:
                     for line in file:
-                        self.takes(line.rstrip('\n'))
+                        self.take_line(line.rstrip('\n'))
                         if self.went_back:
                             break
                 self.drop(connection)
 
-    def takes(self, line):
+    def take_line(self, line):
         moment, _, rest = line.partition(' ')
         if self.last_line and int(moment) < int(self.last_line.split(' ')[0]):
             self.went_back.append((self.last_line, line))
@@ -158,7 +158,7 @@ class FakeServer:
         found = [line for line in self.told if line.startswith(point + ' ')]
         return found[-1].rpartition(' ')[2] if found else ''
 
-    def ends(self):
+    def end(self):
         self.is_over = True
         self.socket.close()
         if self.connection:

@@ -12,7 +12,7 @@ from baytools.wire.ber import element, number
 from baytools.wire.mms import BITS, BOOLEAN, INTEGER, OCTETS, STRUCTURE, TEXT, UNSIGNED, Data
 from tests.tool import Tools
 from tests.tools.loopback import needs_loopback
-from tests.tools.test_client import Bay, respond, served
+from tests.tools.test_client import Bay, respond, serve_once
 from tests.tools.test_same_bay import Model
 
 BAY = '''[bay]
@@ -104,7 +104,7 @@ class Gear(Model):
         yield from super().__call__(pdu)
 
 
-def replayed(octets, bayctl, report=None):
+def replay(octets, bayctl, report=None):
     """What a replay of a scenario prints, by the same bay."""
     gear = Gear()
     talk, printed = Bay(gear), ['instructions=0 depth=0 budget=0']
@@ -112,7 +112,7 @@ def replayed(octets, bayctl, report=None):
         moment, verb, *words = line.split(' ')
         if verb == 'recv':
             for got in talk.stream.feed(bytes.fromhex(words[1])):
-                printed += [f'{moment} send 1 {it.hex()}' for it in talk.answers(got)]
+                printed += [f'{moment} send 1 {it.hex()}' for it in talk.answer_octets(got)]
             printed += [f'{moment} command {it}' for it in gear.orders]
             gear.orders.clear()
         elif verb == 'scan':
@@ -137,7 +137,7 @@ class Steps(unittest.TestCase):
         self.assertEqual([it.cause for it in second.steps if it.kind == 'refused'], [10])
 
     def test_keys(self):
-        def tried(text):
+        def tried_keys(text):
             return [it.tried for it in steps_of(read_steps('steps', text, KEYED)) if it.is_expected]
 
         local = 'do key QA1 local\ndo operate QA1 open\n'
@@ -153,7 +153,7 @@ class Steps(unittest.TestCase):
                 ('do key QB1 remote\ndo lost\ndo operate QB1 open\nexpect refused\n', ['QB1']),
                 ('do select QB1 open\nexpect refused\n', ['']),
                 (local + 'do key QA1 remote\nexpect refused 2\n', ['QA1'])):
-            self.assertEqual(tried(text), found, text)
+            self.assertEqual(tried_keys(text), found, text)
 
     def test_lines_that_are_no_steps(self):
         for text, told in (
@@ -184,7 +184,7 @@ class Replays(Tools):
         self.logic = self.file('logic', 'PROGRAM P\nEND_PROGRAM\n')
 
     def accept(self, steps, *more):
-        with mock.patch('baytools.acceptance.on_trace.replayed', replayed):
+        with mock.patch('baytools.acceptance.on_trace.replayed', replay):
             return self.call_tool('acceptance', self.file('steps', steps), '--bay', self.bay,
                                   '--logic', self.logic, *more)
 
@@ -306,7 +306,7 @@ class ServedBays(Tools):
     def accept(self, steps, greeting='', *more):
         gear = Gear()
         port = Port(gear, greeting)
-        with served(Bay(gear)) as server, port.server, \
+        with serve_once(Bay(gear)) as server, port.server, \
                 mock.patch('baytools.acceptance.on_server.compared',
                            lambda *given: mock.Mock(lines=list)), \
                 mock.patch('baytools.acceptance.on_server.PATIENCE', 0.3):

@@ -83,8 +83,8 @@ class Held(Interlocking):
         return found
 
 
-def audited(rules, time=5000, logic=LOGIC, kind=Interlocking, pause=None, file=FILE, given=(),
-            answer=None, is_table_asked=False):
+def audit_rules(rules, time=5000, logic=LOGIC, kind=Interlocking, pause=None, file=FILE, given=(),
+                answer=None, is_table_asked=False):
     found, known = program_inputs.read(logic), keys_of(file)
     read = read_rules(rules, known)
     named = {key for rule in read for key in rule.names}
@@ -96,8 +96,8 @@ def audited(rules, time=5000, logic=LOGIC, kind=Interlocking, pause=None, file=F
         return rule_findings.audit(bay, read, None, pause, answer, is_table_asked)
 
 
-def told_of(rules, time=5000):
-    return [it.verdict() for it in audited(rules, time).findings]
+def verdicts_of(rules, time=5000):
+    return [it.verdict() for it in audit_rules(rules, time).findings]
 
 
 UNTIL = 'never QC1 close until VT_DEAD for 5s\n'
@@ -147,7 +147,7 @@ class Values(unittest.TestCase):
     """The words that a value has: of a switch positions, of an input truths."""
     KNOWN = keys_of(FILE)
 
-    def looks(self, text):
+    def values(self, text):
         return looked_at(read_looks(text), self.KNOWN)
 
     def test_words(self):
@@ -161,7 +161,7 @@ class Values(unittest.TestCase):
     def test_an_input_has_no_position(self):
         told = 'line 1, column 12: open is not a value of the input SPARE'
         with self.assertRaisesRegex(BadRule, told):
-            self.looks('look SPARE open')
+            self.values('look SPARE open')
         with self.assertRaisesRegex(BadOption, 'SPARE=open: open is not a value of the input'):
             looked_at(held('--inputs', 'SPARE=open', INPUT), self.KNOWN)
         with self.assertRaisesRegex(BadRule, 'open is not a value of the input'):
@@ -175,19 +175,19 @@ class Values(unittest.TestCase):
                 read_rules(f'never QC1 close when {name}', self.KNOWN)
 
     def test_blanks_between_values(self):
-        self.assertEqual(self.looks('look QA1 open | closed |bad'), {(SWITCH, 'QA1'): [1, 2, 3]})
+        self.assertEqual(self.values('look QA1 open | closed |bad'), {(SWITCH, 'QA1'): [1, 2, 3]})
 
     def test_a_switch_has_no_truth(self):
         with self.assertRaisesRegex(BadRule, 'TRUE is not a value of the switch QA1'):
-            self.looks('look QA1 TRUE')
+            self.values('look QA1 TRUE')
 
     def test_a_second_look_of_a_name(self):
         with self.assertRaisesRegex(BadRule, 'line 2: QA1 is in line 1 already'):
-            self.looks('look QA1 open\nlook qa1 on')
+            self.values('look QA1 open\nlook qa1 on')
 
     def test_a_value_that_is_given_twice(self):
         with self.assertRaisesRegex(BadRule, 'FALSE is given twice'):
-            self.looks('look SPARE 0|FALSE')
+            self.values('look SPARE 0|FALSE')
 
     def test_options_are_for_things_of_their_kind(self):
         for option, text, told in (('--inputs', 'QA1=open', 'QA1 is a switch'),
@@ -203,7 +203,7 @@ class Values(unittest.TestCase):
         logic = LOGIC.replace('QA1_OPEN, ', 'QA1_OPEN, QA1, ').replace('LD t1.Q', 'LD QA1')
         read = read_rules('never QC1 close when QA1 not open and QA1\n', keys_of(file))
         self.assertEqual(read[0].names, {(SWITCH, 'QA1'), (INPUT, 'QA1')})
-        found = audited('never QC1 close when QA1 not open and QA1\n', file=file, logic=logic)
+        found = audit_rules('never QC1 close when QA1 not open and QA1\n', file=file, logic=logic)
         self.assertEqual((found.bay.count(), found.findings[0].looked), (16, 6))
         looks = looked_at([Look('QA1', ['open'], 'line 1'), Look('QA1', ['1'], 'line 2')],
                           keys_of(file))
@@ -212,19 +212,19 @@ class Values(unittest.TestCase):
 
 class Audits(unittest.TestCase):
     def test_only_what_is_read_is_combined(self):
-        found = audited('always QA1 open')
+        found = audit_rules('always QA1 open')
         self.assertEqual([it.name for it in found.bay.things], ['QA1', 'VT_DEAD', 'M1_AA'])
         self.assertEqual((len(found.table), found.bay.unread), (8, ['QC1', 'SPARE']))
 
     def test_what_a_rule_names_is_combined(self):
-        found = audited('always QA1 open when not SPARE')
+        found = audit_rules('always QA1 open when not SPARE')
         self.assertEqual((found.bay.count(), found.findings[0].looked), (16, 8))
 
     def test_rules(self):
-        self.assertEqual(told_of('always QA1 open\nnever QC1 close when not VT_DEAD\n'
+        self.assertEqual(verdicts_of('always QA1 open\nnever QC1 close when not VT_DEAD\n'
                                   'always QC1 close when VT_DEAD and QA1 open\n'), ['TRIED'] * 3)
-        self.assertEqual(told_of('never QA1 open\nalways QC1 close\n'), ['BROKEN'] * 2)
-        self.assertEqual(told_of('never QA1 open when M1_AA 7\n'), ['never applies'])
+        self.assertEqual(verdicts_of('never QA1 open\nalways QC1 close\n'), ['BROKEN'] * 2)
+        self.assertEqual(verdicts_of('never QA1 open when M1_AA 7\n'), ['never applies'])
 
     def test_statuses_and_verdicts(self):
         limit = 'TRIED UNDER A RESTRICTION: the rule holds in what was tried; tried with M1_AA '
@@ -242,12 +242,12 @@ class Audits(unittest.TestCase):
                  'NOT ALL WAS PROVED OR TRIED: the rule holds in what was tried; QA1 was tried '
                  'only open.'),
                 ('look M1_AA 0|5\nalways QA1 open\n', 0, limit + 'only 0|5.')):
-            found = audited(rules)
+            found = audit_rules(rules)
             self.assertEqual((verdicts.status(found), verdicts.verdict(found)), (status, told))
 
     def test_a_timer_whose_time_is_not_in_the_text(self):
         logic = LOGIC.replace('T#5s', 'delay').replace('t1 : TON;', 't1 : TON;\ndelay : TIME;')
-        found = audited('look M1_AA 0\nalways QA1 open\n', logic=logic)
+        found = audit_rules('look M1_AA 0\nalways QA1 open\n', logic=logic)
         self.assertEqual((verdicts.status(found), verdicts.verdict(found)), (
             4, 'NOT ALL WAS PROVED OR TRIED: the rule holds in what was tried; the end of t1 was '
             'not tried: its time is not a number of the text.'))
@@ -255,63 +255,63 @@ class Audits(unittest.TestCase):
     def test_a_pause_that_is_too_short(self):
         for pause in (1, 4999, 5000):
             with self.assertRaisesRegex(UsageError, f'--pause {pause}: it must be more than'):
-                audited(AFTER, pause=pause)
-        self.assertEqual(audited(AFTER, pause=5001).findings[0].verdict(), 'TRIED')
+                audit_rules(AFTER, pause=pause)
+        self.assertEqual(audit_rules(AFTER, pause=5001).findings[0].verdict(), 'TRIED')
 
     def test_each_state_before_is_tried(self):
         rule = 'never QC1 close until VT_DEAD for 5s when QA1 open\n'
-        found, = audited(rule, kind=Held).findings
+        found, = audit_rules(rule, kind=Held).findings
         self.assertEqual(found.verdict(), 'BROKEN')
         self.assertIn('contact QA1 2', '\n'.join(found.lines))
         nearest = 'never QC1 close until VT_DEAD for 5s when M1_AA 0\n'
-        self.assertEqual(audited(nearest, kind=Held).findings[0].verdict(), 'BROKEN')
+        self.assertEqual(audit_rules(nearest, kind=Held).findings[0].verdict(), 'BROKEN')
 
     def test_too_many_states_before(self):
         with mock.patch('baytools.audit.rule_findings.PAIRS', 3):
-            found = audited('never QC1 close until VT_DEAD for 5s when QA1 open\n')
+            found = audit_rules('never QC1 close until VT_DEAD for 5s when QA1 open\n')
         self.assertIn('the rule of line 1 was tried from', verdicts.verdict(found))
         self.assertEqual(verdicts.status(found), 4)
 
     def test_a_line_that_parts_a_scenario_in_a_comment(self):
-        bay = audited('always QA1 open', logic='(* a\n%%\n*)\n' + LOGIC).bay
+        bay = audit_rules('always QA1 open', logic='(* a\n%%\n*)\n' + LOGIC).bay
         parts = bay.scenario(['0 scan']).split(b'\n%%\n')
         self.assertEqual(len(parts), 3)
         self.assertIn(b'\n %%\n', parts[1])
 
     def test_never_is_to_hold_at_each_scan(self):
-        found, = audited('never QC1 close when VT_DEAD\n', kind=Pulse).findings
+        found, = audit_rules('never QC1 close when VT_DEAD\n', kind=Pulse).findings
         self.assertEqual((found.verdict(), found.after), ('BROKEN', 0))
 
     def test_the_times_of_rules_are_looked_at(self):
         plain = LOGIC.replace('    CAL t1(IN := VT_DEAD, PT := T#5s)\n', '')
         for time, verdict in ((4999, 'BROKEN'), (5000, 'TRIED')):
-            found = audited(UNTIL, time, plain)
+            found = audit_rules(UNTIL, time, plain)
             self.assertEqual((found.offsets[1:3], found.findings[0].verdict()),
                              ([4999, 5000], verdict))
 
     def test_a_time_that_is_kept(self):
-        self.assertEqual(told_of(UNTIL + AFTER), ['TRIED', 'TRIED'])
+        self.assertEqual(verdicts_of(UNTIL + AFTER), ['TRIED', 'TRIED'])
 
     def test_a_time_that_is_too_short(self):
         for time in (0, 1, 4999):
-            self.assertEqual(told_of(UNTIL + AFTER, time), ['BROKEN', 'TRIED'], time)
+            self.assertEqual(verdicts_of(UNTIL + AFTER, time), ['BROKEN', 'TRIED'], time)
 
     def test_a_time_that_is_too_long(self):
         for time in (5001, 6000, 60_000):
-            self.assertEqual(told_of(UNTIL + AFTER, time), ['TRIED', 'BROKEN'], time)
+            self.assertEqual(verdicts_of(UNTIL + AFTER, time), ['TRIED', 'BROKEN'], time)
 
     def test_what_has_no_room_in_one_scenario(self):
         rules, whole = UNTIL + AFTER, []
         for latest in (replays.LATEST, 130_000):
             with mock.patch('baytools.audit.replays.LATEST', latest):
-                found = audited(rules)
+                found = audit_rules(rules)
             whole.append((found.table, [(it.looked, it.broken) for it in found.findings]))
         self.assertEqual(*whole)
 
     def test_too_many_combinations(self):
         rules = 'look M1_AA ' + '|'.join(map(str, range(600))) + '\nalways QA1 open\n'
         with mock.patch.multiple('baytools.audit.rule_findings', WHOLE=1000, SAMPLED=50):
-            found = audited(rules)
+            found = audit_rules(rules)
         self.assertEqual((len(found.table), found.bay.count()), (50, 4800))
         self.assertIn('50 of 4,800 combinations were tried', verdicts.verdict(found))
         self.assertEqual((verdicts.status(found), rule_findings.uncovered(found)), (4, None))
@@ -321,22 +321,22 @@ class Audits(unittest.TestCase):
                          [whole[it] for it in places])
 
     def test_a_condition_that_never_begins(self):
-        self.assertEqual(told_of('always QC1 close after VT_DEAD or not VT_DEAD for 5s\n'),
+        self.assertEqual(verdicts_of('always QC1 close after VT_DEAD or not VT_DEAD for 5s\n'),
                          ['never applies'])
 
     def test_the_scenario_that_breaks_a_time(self):
-        found = audited(UNTIL, 0).findings[0]
+        found = audit_rules(UNTIL, 0).findings[0]
         self.assertEqual((found.after, found.looked), (0, 8))
         moments = [int(line.split(' ')[0]) for line in found.lines]
         self.assertEqual(moments, sorted(moments))
         self.assertIn('input VT_DEAD 1', '\n'.join(found.lines))
 
     def test_releases_that_no_rule_asks_for(self):
-        found = rule_findings.uncovered(audited('never QC1 close when not VT_DEAD\n'))
+        found = rule_findings.uncovered(audit_rules('never QC1 close when not VT_DEAD\n'))
         told = {key: (count, it.text()) for key, (count, it) in found.items()}
         self.assertEqual(told, {('QA1', 0): (8, 'always'),
                                 ('QC1', 1): (1, 'QA1 open and VT_DEAD')})
-        self.assertEqual(rule_findings.uncovered(audited('always QA1 open\n' + AFTER)), {})
+        self.assertEqual(rule_findings.uncovered(audit_rules('always QA1 open\n' + AFTER)), {})
 
 
 class Sampled(unittest.TestCase):
@@ -354,7 +354,7 @@ class Sampled(unittest.TestCase):
 
 class Pictures(unittest.TestCase):
     def test_equal_columns_are_one(self):
-        found = audited('always QA1 open')
+        found = audit_rules('always QA1 open')
         blocks = matrix.blocks_of(found.bay, found.table)
         told = {block.thing.name: [(it.told, it.looked, it.counts) for it in block.columns]
                 for block in blocks}
@@ -363,12 +363,12 @@ class Pictures(unittest.TestCase):
         self.assertEqual(blocks[0].depends, {3})
 
     def test_bands(self):
-        found = audited('always QA1 open')
+        found = audit_rules('always QA1 open')
         blocks = matrix.blocks_of(found.bay, found.table)
         self.assertEqual([len(band) for band in matrix.bands_of(blocks, 250)], [1, 1])
 
     def test_heads_of_columns_do_not_touch(self):
-        found = audited('always QA1 open')
+        found = audit_rules('always QA1 open')
         with mock.patch('baytools.audit.matrix.looked_text', lambda column: 'of 99,999,999'):
             drawn = ET.fromstring(matrix.draw(found.bay, found.table))
         heads = [it.get('transform') for it in drawn.iter() if 'rotate' in it.get('transform', '')]
@@ -377,13 +377,13 @@ class Pictures(unittest.TestCase):
         self.assertTrue(all(after - it >= SMALL for it, after in zip(places, places[1:])))
 
     def test_letters_are_not_small(self):
-        found = audited('always QA1 open')
+        found = audit_rules('always QA1 open')
         drawn = ET.fromstring(matrix.draw(found.bay, found.table, 'Bay'))
         sizes = [float(it.get('font-size')) for it in drawn.iter() if it.get('font-size')]
         self.assertEqual(min(sizes), SMALL)
 
     def test_each_band_is_a_picture_of_the_page(self):
-        found = audited('always QA1 open')
+        found = audit_rules('always QA1 open')
         parts = [ET.fromstring(part) for part in matrix.draw_parts(found.bay, found.table, 250)]
         self.assertEqual(len(parts), 3)
         ids = [it.get('id') for part in parts for it in part.iter() if it.get('id')]
@@ -392,25 +392,25 @@ class Pictures(unittest.TestCase):
     def test_the_report_is_whole(self):
         files = {'Rules': ('rules <&>', b'always QA1 open')}
         with zone('XYZ-5:30'):
-            page = Report(audited('look M1_AA 0\nalways QA1 open'), files, __file__, 0).page()
+            page = Report(audit_rules('look M1_AA 0\nalways QA1 open'), files, __file__, 0).page()
         for told in ('the rule holds in what was tried', 'rules &lt;&amp;&gt;',
                      '1970-01-01 05:30:00 UTC+05:30', 'how long they run is not audited',
                      'QA1 open and VT_DEAD', 'Signature', 'SPARE'):
             self.assertIn(told, page)
         self.assertIsNone(re.search(r'(src|href)=', page), 'it needs no other file')
         self.assertLess(page.index('Signatures'), page.index('what was tried</h2>'))
-        timed = Report(audited(UNTIL), files, __file__, 0).page()
+        timed = Report(audit_rules(UNTIL), files, __file__, 0).page()
         self.assertNotIn('is not audited', timed)
 
     def test_a_report_of_sources_that_are_not_proved(self):
         for program, is_told in ((__file__, False), (TRY, True)):
-            page = Report(audited('always QA1 open'), {}, program, 0).page()
+            page = Report(audit_rules('always QA1 open'), {}, program, 0).page()
             self.assertEqual('rests on a program that is not.' in page, is_told)
 
     def test_comments_above_rules_stand_in_the_report(self):
         text = ('# Rules of <E1>,\n#  by a planner\n\n# The breaker\nlook M1_AA 0\n'
                 'always QA1 open # at any time\nalways QA1 open\n#none\n\nnever QC1 open\n# end\n')
-        found = audited(text)
+        found = audit_rules(text)
         self.assertEqual([it.rule.remarks for it in found.findings], [
             ('Rules of <E1>, by a planner', 'The breaker', 'at any time'), (), ('none',)])
         page = Report(found, {}, __file__, 0).page()
@@ -419,7 +419,7 @@ class Pictures(unittest.TestCase):
         self.assertEqual(page.count('class="remark"'), 4)
 
     def test_a_report_of_what_is_broken(self):
-        page = Report(audited('never QA1 open\n'), {}, __file__, 0).page()
+        page = Report(audit_rules('never QA1 open\n'), {}, __file__, 0).page()
         self.assertIn('NOT PASSED: the rule is broken.', page)
         self.assertIn('first by QA1 intermediate', page)
 

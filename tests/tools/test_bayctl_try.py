@@ -52,8 +52,8 @@ class Tried(Tools):
         text = RT.format(python=sys.executable, log=str(self.asks), report=REPORT, run=run)
         self.file('rt', text).chmod(0o755)
 
-    def goes(self) -> list[int]:
-        """How many asks there were in each go."""
+    def asks_of_runs(self) -> list[int]:
+        """How many commands each run of `rt try` was asked to carry out."""
         return [int(it) for it in self.asks.read_text().split()]
 
     def test_an_ask(self):
@@ -74,7 +74,7 @@ class Tried(Tools):
             (folder / f'{name}.args').write_text(f'check\n{name}\n')
         (folder / 'b.stdin').write_text('given')
         self.assertEqual(self.call_tool('bayctl_try', '--asks', folder).status, 0)
-        self.assertEqual(self.goes(), [3])
+        self.assertEqual(self.asks_of_runs(), [3])
         self.assertEqual((folder / 'b.stdout').read_text(), 'check b given\n')
         self.assertEqual((folder / 'c.status').read_text(), '2\n')
 
@@ -109,18 +109,18 @@ class Tried(Tools):
         asks = [bayctl.Ask(('check', 'a')), bayctl.Ask(('check', 'b'))]
         bayctl.ask_ahead(bayctl.TRY, asks)
         found = [bayctl.run(bayctl.TRY, 'check', name).stdout for name in 'ab']
-        self.assertEqual((found, self.goes()), ([b'check a \n', b'check b \n'], [2]))
+        self.assertEqual((found, self.asks_of_runs()), ([b'check a \n', b'check b \n'], [2]))
         bayctl.run(bayctl.TRY, 'check', 'a')
-        self.assertEqual(self.goes(), [2, 1])
+        self.assertEqual(self.asks_of_runs(), [2, 1])
         bayctl.ask_ahead(self.bayctl(''), asks)
-        self.assertEqual(self.goes(), [2, 1])
+        self.assertEqual(self.asks_of_runs(), [2, 1])
 
     def test_replays_of_an_audit_are_asked_in_one_go(self):
         parts = [(1, b'a'), (2, b'b')]
         with mock.patch('baytools.report.bayctl.complain'):
             self.assertEqual(list(replays.replay_ahead(bayctl.TRY, parts)), parts)
         scans = [list(replays.scans_of(bayctl.TRY, octets)) for _, octets in parts]
-        self.assertEqual((scans, self.goes()), ([[{'QA1': (False, False)}]] * 2, [2]))
+        self.assertEqual((scans, self.asks_of_runs()), ([[{'QA1': (False, False)}]] * 2, [2]))
 
     def test_no_replay_prints_more_than_a_mebibyte(self):
         bay = SimpleNamespace(file={'switch': [{'id': 'QA1'}, {'id': 'QB1'}]})

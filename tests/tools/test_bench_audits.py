@@ -36,13 +36,13 @@ OUT = {(INPUT, 'I1'): 0}
 ASKED, NOT_ASKED = {(SWITCH, 'QB1'): 1}, {(SWITCH, 'QB1'): 2}
 
 
-def released(given: bool) -> dict:
+def releases_of_all(given: bool) -> dict:
     return {name: (given, given) for name in TRIAL.SWITCHES}
 
 
 def run(*scans: tuple) -> list:
     """A run, of the moment, the state and the release of each scan."""
-    return [TRIAL.Scan(moment, state, released(given)) for moment, state, given in scans]
+    return [TRIAL.Scan(moment, state, releases_of_all(given)) for moment, state, given in scans]
 
 
 def case(value: int, *kept: str) -> Case:
@@ -75,26 +75,26 @@ class Trial(unittest.TestCase):
         self.assertEqual(self.wrong(broken, (0, OUT, True)), 'a case in which nothing lies')
         self.assertIsNone(self.wrong(broken, (0, OUT, True), has_memory=True))
 
-    def broken_at(self, rule, *scans: tuple) -> list[int]:
+    def breaks(self, rule, *scans: tuple) -> list[int]:
         """The moments at which a rule is broken."""
         told = run(*scans)
         return [scan.moment for scan, is_so in zip(told, TRIAL.breaks_of(rule, told)) if is_so]
 
     def test_a_condition_is_to_have_held_for_a_time(self):
         held = [(at, IN | ASKED, True) for at in (5, 54, 55, 60)]
-        self.assertEqual(self.broken_at(self.until, *held), [5, 54])
+        self.assertEqual(self.breaks(self.until, *held), [5, 54])
         again = (61, OUT | ASKED, True), (62, IN | ASKED, True), (112, IN | ASKED, True)
-        self.assertEqual(self.broken_at(self.until, *held, *again), [5, 54, 61, 62])
-        self.assertEqual(self.broken_at(
+        self.assertEqual(self.breaks(self.until, *held, *again), [5, 54, 61, 62])
+        self.assertEqual(self.breaks(
             self.until, (0, IN | ASKED, False), (1, IN | NOT_ASKED, True), (50, IN | ASKED, True),
             (51, OUT | ASKED, False)), [])
 
     def test_from_then_on_a_release_is_demanded(self):
         held = [(at, IN | ASKED, False) for at in (5, 54, 55)]
-        self.assertEqual(self.broken_at(self.after, *held, (60, IN | NOT_ASKED, False),
-                                        (61, IN | ASKED, True), (62, OUT | ASKED, False),
-                                        (63, IN | ASKED, False)), [55])
-        self.assertEqual(self.broken_at(self.rule, (0, IN, True), (1, IN, False), (2, OUT, True)),
+        self.assertEqual(self.breaks(self.after, *held, (60, IN | NOT_ASKED, False),
+                                     (61, IN | ASKED, True), (62, OUT | ASKED, False),
+                                     (63, IN | ASKED, False)), [55])
+        self.assertEqual(self.breaks(self.rule, (0, IN, True), (1, IN, False), (2, OUT, True)),
                          [0])
 
     def test_a_timer_bears_only_a_rule_with_a_time(self):
@@ -172,22 +172,22 @@ class Trial(unittest.TestCase):
             self.trial.judge_lost(answers.Lost('QA1', 0, told), run((0, state, given)))
             self.assertEqual(list(self.trial.wrong), found)
 
-    def judged(self, release: Release, given: bool, has_memory: bool = False) -> list[str]:
+    def judge(self, release: Release, given: bool, has_memory: bool = False) -> list[str]:
         self.trial.wrong.clear()
         self.trial.judge_release(release, run((0, IN, given)), has_memory)
         return list(self.trial.wrong)
 
     def test_the_cases_of_a_release(self):
         given, not_given = Release('QA1', 0, [case(1)], [case(0)]), Release('QA1', 0, [], [case(1)])
-        self.assertEqual(self.judged(given, True) + self.judged(not_given, False), [])
-        self.assertEqual(self.judged(given, False), ['another release'])
-        self.assertEqual(self.judged(not_given, True), ['another release'])
-        self.assertEqual(self.judged(Release('QA1', 0, [case(1)], [case(1)]), True),
+        self.assertEqual(self.judge(given, True) + self.judge(not_given, False), [])
+        self.assertEqual(self.judge(given, False), ['another release'])
+        self.assertEqual(self.judge(not_given, True), ['another release'])
+        self.assertEqual(self.judge(Release('QA1', 0, [case(1)], [case(1)]), True),
                          ['cases are not parts'])
-        self.assertEqual(self.judged(Release('QA1', 0), True), ['cases are not parts'])
+        self.assertEqual(self.judge(Release('QA1', 0), True), ['cases are not parts'])
         hangs = Release('QA1', 0, [case(1, 'a')])
-        self.assertEqual(self.judged(hangs, True, True) + self.judged(hangs, False, True), [])
-        self.assertEqual(self.judged(hangs, True), ['a case that depends on nothing'])
+        self.assertEqual(self.judge(hangs, True, True) + self.judge(hangs, False, True), [])
+        self.assertEqual(self.judge(hangs, True), ['a case that depends on nothing'])
 
     def test_programs_without_memory_have_none(self):
         for seed in range(20):
@@ -215,7 +215,7 @@ class Trial(unittest.TestCase):
         bay = bay_of(self.trial.file_of, (TRIAL.BAY, ''), program_inputs.read(''), {},
                      {(INPUT, 'I1')})
         with mock.patch.object(TRIAL, 'scans_of', side_effect=lambda _, octets: iter(
-                [released(True)] * octets.count(b' scan'))):
+                [releases_of_all(True)] * octets.count(b' scan'))):
             found = TRIAL.scanned(bay, [(0,), (1,)], [0, 49, 100])
             self.assertEqual([(it.moment, it.state) for it in found], [
                 *((at, OUT) for at in (0, 49, 100)), *((at, IN) for at in (100, 149, 200))])

@@ -72,7 +72,7 @@ def network_at(name: str) -> Network:
 
 
 class Hazards(unittest.TestCase):
-    def known(self, diagram: Diagram, told: str):
+    def know(self, diagram: Diagram, told: str):
         given = {word[:-1]: LETTERS[word[-1]] for word in told.split()}
         names = [it.name for it in diagram.branches]
         self.assertLessEqual(set(given), set(names))
@@ -84,7 +84,7 @@ class Hazards(unittest.TestCase):
                 diagram = Diagram(network_at(name))
                 switch, way = operation.split(' ')
                 at = [it.name for it in diagram.branches].index(switch)
-                known = self.known(diagram, told)
+                known = self.know(diagram, told)
                 found = diagram.hazards(at, (OPEN, CLOSE)[way == 'close'], known)
                 self.assertEqual(found, hazards)
                 is_so = Truth(diagram).is_hazard(known, at, way == 'close')
@@ -98,7 +98,7 @@ class Hazards(unittest.TestCase):
                 diagram = Diagram(network)
                 switch, way = operation.split(' ')
                 at = [it.name for it in diagram.branches].index(switch)
-                known = self.known(diagram, told)
+                known = self.know(diagram, told)
                 self.assertEqual(diagram.hazards(at, (OPEN, CLOSE)[way == 'close'], known), hazards)
                 agreed = dataclasses.replace(known, agreed=1 << at)
                 self.assertNotIn('Y', diagram.hazards(at, (OPEN, CLOSE)[way == 'close'], agreed))
@@ -114,7 +114,7 @@ class Hazards(unittest.TestCase):
         at = [it.name for it in diagram.branches].index('CA1')
         closed = 'CB1+ CB2+ CA1+ QB1+ '
         for told, hazards in (('QB2+', 'T'), ('QB2-', ''), ('QB2?', 'BT')):
-            self.assertEqual(diagram.hazards(at, OPEN, self.known(diagram, closed + told)), hazards)
+            self.assertEqual(diagram.hazards(at, OPEN, self.know(diagram, closed + told)), hazards)
 
     def test_walks_never_miss_what_the_simulation_finds(self):
         chance, script = random.Random(3), bench()

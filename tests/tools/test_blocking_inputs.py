@@ -18,7 +18,7 @@ def answer(*lines):
     return read(LINE + '\n'.join(lines) + '\n', keys_of(FILE))
 
 
-def told(*lines):
+def need(*lines):
     """What the releases need of ES, FALSE and TRUE."""
     found = {it.name: (it.false, it.true) for it in needed(answer(*lines), FILE)}
     return found['ES']
@@ -26,34 +26,34 @@ def told(*lines):
 
 class Needs(unittest.TestCase):
     def test_an_input_that_blocks_while_it_is_true(self):
-        self.assertEqual(told('release QA1 close cases=2', 'released ES=0', 'blocked ES=1'),
+        self.assertEqual(need('release QA1 close cases=2', 'released ES=0', 'blocked ES=1'),
                          (('QA1 close',), ()))
 
     def test_an_input_that_blocks_while_it_is_false(self):
-        self.assertEqual(told('release QA1 close cases=2', 'released ES=1', 'blocked ES=0'),
+        self.assertEqual(need('release QA1 close cases=2', 'released ES=1', 'blocked ES=0'),
                          ((), ('QA1 close',)))
 
     def test_an_input_on_which_nothing_depends(self):
         """A case names it, and the release is given for its other value too."""
-        self.assertEqual(told('release QA1 close cases=3', 'released QC1=1 ES=0',
+        self.assertEqual(need('release QA1 close cases=3', 'released QC1=1 ES=0',
                               'released QC1=1 ES=1', 'blocked QC1=0|2|3'), ((), ()))
 
     def test_what_depends_on_a_timer_counts(self):
-        self.assertEqual(told('release QA1 open cases=2', 'depends ES=0 on after_trip',
+        self.assertEqual(need('release QA1 open cases=2', 'depends ES=0 on after_trip',
                               'blocked ES=1', 'release QA1 close cases=1', 'released'),
                          (('QA1 open',), ()))
 
     def test_what_its_true_leaves_to_a_timer_is_not_blocked(self):
-        self.assertEqual(told('release QA1 open cases=2', 'released ES=0', 'depends ES=1 on t'),
+        self.assertEqual(need('release QA1 open cases=2', 'released ES=0', 'depends ES=1 on t'),
                          ((), ()))
 
     def test_an_input_that_works_both_ways(self):
-        self.assertEqual(told('release QA1 close cases=4', 'released QC1=1 ES=0',
+        self.assertEqual(need('release QA1 close cases=4', 'released QC1=1 ES=0',
                               'released QC1=2 ES=1', 'blocked QC1=2 ES=0', 'blocked QC1=0|3'),
                          (('QA1 close',), ('QA1 close',)))
 
     def test_too_many_cases(self):
-        self.assertEqual(told('release QA1 close many'), ((), ()))
+        self.assertEqual(need('release QA1 close many'), ((), ()))
 
     def test_names(self):
         self.assertEqual([good_name(it) for it in ('TRIP', 'VT_FAIL', 'vt_fault')],
@@ -80,23 +80,23 @@ print({HAS_AUDIT if has_audit else ''!r} if '--help' in sys.argv else {LINE + ca
         return self.call_tool('modbus', '--bay', self.file('bay.toml', BAY), '--wiring', wiring,
                               '--check', '--logic', self.file('logic.il', ''), '--bayctl', bayctl)
 
-    def warned(self, *words):
+    def warnings_of(self, *words):
         found = self.check(*words)
         self.assertEqual((found.status, found.error), (0, ''))
         return [line for line in found.out.splitlines() if line.startswith('WARNING: ')]
 
     def test_an_input_that_blocks_while_it_is_true(self):
         cases = 'release QA1 close cases=2\nreleased ES=0\nblocked ES=1\n'
-        first, second = self.warned(cases)
+        first, second = self.warnings_of(cases)
         self.assertIn('ES blocks QA1 close while it is TRUE', first)
         self.assertIn('ES has fault = false, and so a lost module releases QA1 close: write '
                       'fault = true.', second)
-        self.assertEqual(self.warned(cases, 'true'), [first])
+        self.assertEqual(self.warnings_of(cases, 'true'), [first])
 
     def test_an_input_that_blocks_while_it_is_false(self):
         cases = 'release QA1 close cases=2\nreleased ES=1\nblocked ES=0\n'
-        self.assertEqual(self.warned(cases), [])
-        found, = self.warned(cases, 'true')
+        self.assertEqual(self.warnings_of(cases), [])
+        found, = self.warnings_of(cases, 'true')
         self.assertIn('ES has fault = true, and so a lost module releases QA1 close', found)
 
     def test_a_bayctl_that_proves_nothing(self):

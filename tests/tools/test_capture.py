@@ -26,7 +26,7 @@ def session(first=1000):
             segment(SERVER, CLIENT, 5001, ACK, b'abcd'), segment(CLIENT, SERVER, first + 11, FIN)]
 
 
-def said(octets, port=None):
+def read_capture(octets, port=None):
     """What each side sent, and the kinds of what happened."""
     found = list(Capture(octets, port).events())
     sides = {kind: b''.join(e.octets for e in found if e.kind == kind)
@@ -36,44 +36,44 @@ def said(octets, port=None):
 
 class Captures(unittest.TestCase):
     def test_in_order(self):
-        client, server, kinds = said(pcap(session()))
+        client, server, kinds = read_capture(pcap(session()))
         self.assertEqual((client, server), (b'0123456789', b'abcd'))
         self.assertEqual(kinds, ['open', 'client', 'client', 'server', 'close'])
 
     def test_formats(self):
-        whole = said(pcap(session()))
-        self.assertEqual(said(pcap(session(), order='>')), whole)
-        self.assertEqual(said(pcapng(session())), whole)
+        whole = read_capture(pcap(session()))
+        self.assertEqual(read_capture(pcap(session(), order='>')), whole)
+        self.assertEqual(read_capture(pcapng(session())), whole)
 
     def test_out_of_order(self):
         found = session()
         found[2], found[3] = found[3], found[2]
-        self.assertEqual(said(pcap(found))[:2], (b'0123456789', b'abcd'))
+        self.assertEqual(read_capture(pcap(found))[:2], (b'0123456789', b'abcd'))
 
     def test_repeated(self):
         found = session()
         again = [segment(CLIENT, SERVER, 1001, ACK, b'01234'),
                  segment(CLIENT, SERVER, 1004, ACK, b'3456789'), *found]
-        self.assertEqual(said(pcap(found[:4] + again[:2] + found[4:]))[:2],
+        self.assertEqual(read_capture(pcap(found[:4] + again[:2] + found[4:]))[:2],
                          (b'0123456789', b'abcd'))
 
     def test_a_segment_that_is_missing(self):
         found = session()
-        client, server, kinds = said(pcap(found[:2] + found[3:]))
+        client, server, kinds = read_capture(pcap(found[:2] + found[3:]))
         self.assertEqual((client, server), (b'56789', b'abcd'))
         self.assertEqual(kinds, ['open', 'gap', 'client', 'server', 'close'])
 
     def test_a_last_segment_that_is_missing(self):
         found = session()
-        self.assertIn('gap', said(pcap(found[:3] + found[4:]))[2])
+        self.assertIn('gap', read_capture(pcap(found[:3] + found[4:]))[2])
         answer = segment(SERVER, CLIENT, 5001, ACK, b'abcd', 1011)
-        self.assertIn('gap', said(pcap([*found[:3], answer]))[2])
-        self.assertNotIn('gap', said(pcap([*found[:4], answer]))[2])
+        self.assertIn('gap', read_capture(pcap([*found[:3], answer]))[2])
+        self.assertNotIn('gap', read_capture(pcap([*found[:4], answer]))[2])
 
     def test_a_segment_that_the_other_end_has_taken(self):
         found = session()
         answer = segment(SERVER, CLIENT, 5001, ACK, b'abcd', 1011)
-        client, _, kinds = said(pcap([*found[:2], found[3], answer, found[5]]))
+        client, _, kinds = read_capture(pcap([*found[:2], found[3], answer, found[5]]))
         self.assertEqual((client, kinds), (b'56789', ['open', 'gap', 'client', 'server', 'close']))
         events = Capture(pcap([*found[:2], found[3], answer])).events()
         self.assertEqual([event.moment for event in events], [1_000_000, *[1_000_002] * 2,
@@ -82,39 +82,39 @@ class Captures(unittest.TestCase):
     def test_a_beginning_that_is_missing(self):
         found = session()
         answer = segment(SERVER, CLIENT, 5000, SYN | ACK, b'', 1001)
-        client, _, kinds = said(pcap([answer, *found[3:]]))
+        client, _, kinds = read_capture(pcap([answer, *found[3:]]))
         self.assertEqual((client, kinds), (b'56789', ['open', 'gap', 'client', 'server', 'close']))
         asked = segment(CLIENT, SERVER, 1001, ACK, b'01234', 5001)
         late = segment(SERVER, CLIENT, 5003, ACK, b'cd')
-        _, server, kinds = said(pcap([found[0], asked, late]))
+        _, server, kinds = read_capture(pcap([found[0], asked, late]))
         self.assertEqual((server, kinds), (b'cd', ['open', 'client', 'gap', 'server']))
 
     def test_the_end_of_a_way_is_no_octet(self):
         found = [*session(), segment(SERVER, CLIENT, 5005, ACK, b'', 1012)]
-        self.assertNotIn('gap', said(pcap(found))[2])
-        self.assertNotIn('gap', said(pcap([*found[:5], found[6]]))[2])
+        self.assertNotIn('gap', read_capture(pcap(found))[2])
+        self.assertNotIn('gap', read_capture(pcap([*found[:5], found[6]]))[2])
 
     def test_a_first_segment_that_comes_again(self):
         found = session()
         again = [*found[:3], found[0], found[1], *found[3:]]
-        self.assertEqual(said(pcap(again)), said(pcap(found)))
+        self.assertEqual(read_capture(pcap(again)), read_capture(pcap(found)))
 
     def test_a_half_close(self):
         found = session()
         found = [*found[:4], found[5], found[4], segment(SERVER, CLIENT, 5005, FIN)]
-        client, server, kinds = said(pcap(found))
+        client, server, kinds = read_capture(pcap(found))
         self.assertEqual((client, server), (b'0123456789', b'abcd'))
         self.assertEqual(kinds[-2:], ['server', 'close'])
         self.assertEqual(sent_of(Capture(pcap(found)).events()), {1: b'abcd'})
 
     def test_the_same_ports_again_without_an_end(self):
-        kinds = said(pcap(session()[:5] + session(9000)))[2]
+        kinds = read_capture(pcap(session()[:5] + session(9000)))[2]
         self.assertEqual((kinds.count('open'), kinds.count('close')), (2, 1))
 
     def test_many_segments_behind_a_lost_one(self):
         parts = [segment(CLIENT, SERVER, 1001 + 50 * n, ACK, b'x' * 50) for n in range(20_000)]
         since = time.monotonic()
-        client, _, kinds = said(pcap([session()[0], *parts[1:]]))
+        client, _, kinds = read_capture(pcap([session()[0], *parts[1:]]))
         self.assertEqual((len(client), kinds[1]), (50 * 19_999, 'gap'))
         request = stream.wrapped(stream.data_tsdu(mms.read_request(7, ['D/A'])))
         found = stream.Stream(connected=True).feed(request * 20_000)
@@ -138,10 +138,10 @@ class Captures(unittest.TestCase):
             for part in cuts:
                 found.append(segment(*ends, at, ACK, part))
                 at += len(part)
-            self.assertEqual(said(pcap(found))[0], request)
+            self.assertEqual(read_capture(pcap(found))[0], request)
         web = [segment(*ends, 100, SYN), segment(*ends, 101, ACK, b'GET / HTTP/1.1')]
-        self.assertEqual(said(pcap(web))[2], [])
-        self.assertEqual(said(pcap(web), port=10_102)[2], ['open', 'client'])
+        self.assertEqual(read_capture(pcap(web))[2], [])
+        self.assertEqual(read_capture(pcap(web), port=10_102)[2], ['open', 'client'])
 
     def test_who_is_the_client(self):
         answer = stream.framed(bytes([6, stream.CC, 0, 1, 0, 1, 0]))
@@ -151,18 +151,18 @@ class Captures(unittest.TestCase):
                                                                 ('server', '10.0.0.3')])
 
     def test_numbers_begin_again(self):
-        self.assertEqual(said(pcap(session(2**32 - 4)))[0], b'0123456789')
+        self.assertEqual(read_capture(pcap(session(2**32 - 4)))[0], b'0123456789')
 
     def test_without_its_beginning(self):
-        client, server, _ = said(pcap(session()[2:]))
+        client, server, _ = read_capture(pcap(session()[2:]))
         self.assertEqual((client, server), (b'0123456789', b'abcd'))
 
     def test_ports(self):
-        self.assertEqual(said(pcap(session()), port=103)[2], [])
-        self.assertEqual(said(pcap(session()), port=102)[0], b'0123456789')
+        self.assertEqual(read_capture(pcap(session()), port=103)[2], [])
+        self.assertEqual(read_capture(pcap(session()), port=102)[0], b'0123456789')
 
     def test_two_connections_of_one_port(self):
-        kinds = said(pcap(session() + session(9000)))[2]
+        kinds = read_capture(pcap(session() + session(9000)))[2]
         self.assertEqual(kinds.count('open'), 2)
 
     def test_no_capture(self):
@@ -226,11 +226,11 @@ class Talks(Tools):
                     mms.STRUCTURE, [mms.Data(mms.INTEGER, 2), mms.Data(mms.OCTETS, b'')]),
                     mms.Data(mms.UNSIGNED, 0), mms.Data(mms.INTEGER, 5)])))))
         refusal = element(0xA1, number(2, 7), element(0xA5, number(0x80, 3)))
-        self.asked = self.wrapped(mms.write_request(7, [control], [value]))
-        self.told = [self.wrapped(error), self.wrapped(refusal)]
+        self.asked = self.wrap_pdu(mms.write_request(7, [control], [value]))
+        self.told = [self.wrap_pdu(error), self.wrap_pdu(refusal)]
 
     @staticmethod
-    def wrapped(pdu):
+    def wrap_pdu(pdu):
         return stream.wrapped(stream.data_tsdu(pdu))
 
     def capture(self, pieces):
@@ -264,7 +264,7 @@ class Talks(Tools):
             2: ('2 (10.0.0.0)', [(1, True), (3, False), (4, True)]),
             3: ('3 (10.0.0.1)', [(2, True)])})
 
-    def polled(self, times, every=250, name='D/CSWI1$ST$Pos'):
+    def polling_session(self, times, every=250, name='D/CSWI1$ST$Pos'):
         """A session whose client reads the same again and again."""
         events = [Event(0, 1, 'open', who='10.0.0.1'), Event(0, 1, 'client',
                                                              stream.connection_request()),
@@ -272,13 +272,13 @@ class Talks(Tools):
         for at in range(1, times + 1):
             value = mms.octets_of(mms.Data(mms.INTEGER, at))
             answer = element(0xA1, number(2, at), element(0xA4, element(0xA1, value)))
-            events += [Event(every * at, 1, 'client', self.wrapped(mms.read_request(at, [name]))),
-                       Event(every * at + 3, 1, 'server', self.wrapped(answer))]
+            events += [Event(every * at, 1, 'client', self.wrap_pdu(mms.read_request(at, [name]))),
+                       Event(every * at + 3, 1, 'server', self.wrap_pdu(answer))]
         return events
 
     def test_reads_that_repeat_are_one_bar(self):
         for times, bars in ((3, []), (4, [(250, 1003, 4)]), (9000, [(250, 2_250_003, 9000)])):
-            history = History.of_capture(self.FILE, Names(), self.polled(times))
+            history = History.of_capture(self.FILE, Names(), self.polling_session(times))
             client = history.clients[1]
             self.assertEqual([(it.start, it.end, it.count) for it in client.bars()], bars)
             self.assertEqual(len(client.ticks()), 1 if bars else 1 + 2 * times)
@@ -289,13 +289,13 @@ class Talks(Tools):
             ET.fromstring(picture)
 
     def test_a_pause_ends_a_bar(self):
-        history = History.of_capture(self.FILE, Names(), self.polled(9, every=20_000))
+        history = History.of_capture(self.FILE, Names(), self.polling_session(9, every=20_000))
         self.assertEqual(list(history.clients[1].bars()), [])
         self.assertEqual(len(history.clients[1].ticks()), 19)
 
     def test_a_read_that_fails_is_told(self):
-        events = self.polled(9)
-        events[-1].octets = self.wrapped(element(0xA1, number(2, 9), element(
+        events = self.polling_session(9)
+        events[-1].octets = self.wrap_pdu(element(0xA1, number(2, 9), element(
             0xA4, element(0xA1, number(0x80, 3)))))
         client = History.of_capture(self.FILE, Names(), events).clients[1]
         self.assertEqual([it.count for it in client.bars()], [9])

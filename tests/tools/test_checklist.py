@@ -32,29 +32,29 @@ class Here(Tools):
             os.utime(self.bay / name, (1, 1))
         (self.bay / 'env').write_text('PORT=10102\nPROCESS=10103\nSUPERVISE=500\n')
         self.machine = here.Machine(self.bay, None, 'none', self.process, self.trust)
-        self.runs()
+        self.write_command_line()
 
-    def listens(self, *lines):
+    def write_listeners(self, *lines):
         (self.process / 'net' / 'tcp').write_text(HEAD + ''.join(
             LINE.format(address, port, state) for address, port, state in lines))
 
-    def runs(self, *more, bay='bay.toml'):
+    def write_command_line(self, *more, bay='bay.toml'):
         words = ['/usr/bin/bayctl', 'serve', '--bay', str(self.bay / bay), '--logic',
                  str(self.bay / 'logic.il'), '--rules', str(self.bay / 'rules'), '--port', '10102',
                  '--supervise', '500', '--key', 'k', '--log', *more]
         (self.process / '77' / 'cmdline').write_text('\0'.join(words) + '\0')
 
     def test_ports(self):
-        self.listens((LOCAL, 10102, '0A'), (LOCAL, 10103, '0A'), (ANY, 22, '0A'))
+        self.write_listeners((LOCAL, 10102, '0A'), (LOCAL, 10103, '0A'), (ANY, 22, '0A'))
         self.assertEqual(self.machine.listening().state, GOOD)
-        self.listens((LOCAL, 10102, '0A'), (ANY, 10103, '0A'))
+        self.write_listeners((LOCAL, 10102, '0A'), (ANY, 10103, '0A'))
         self.assertEqual(self.machine.listening(), Verdict(
             WRONG, 'port 10102: on 127.0.0.1\nport 10103: on ANOTHER ADDRESS'))
-        self.listens((LOCAL, 10102, '0A'), (LOCAL, 10103, '01'))
+        self.write_listeners((LOCAL, 10102, '0A'), (LOCAL, 10103, '01'))
         self.assertEqual(self.machine.listening().state, WRONG)
 
     def test_a_port_of_ipv6(self):
-        self.listens((LOCAL, 10102, '0A'), (LOCAL, 10103, '0A'))
+        self.write_listeners((LOCAL, 10102, '0A'), (LOCAL, 10103, '0A'))
         (self.process / 'net' / 'tcp6').write_text(HEAD + LINE.format('0' * 32, 10102, '0A'))
         self.assertEqual(self.machine.listening().state, WRONG)
 
@@ -62,7 +62,7 @@ class Here(Tools):
         self.assertEqual(self.machine.server().state, GOOD)
         os.utime(self.bay / 'logic.il', (2 ** 33, 2 ** 33))
         self.assertIn('logic.il has changed since it was started', self.machine.server().told)
-        self.runs(bay='other.toml')
+        self.write_command_line(bay='other.toml')
         self.assertIn('it serves --bay', self.machine.server().told)
         (self.process / '77' / 'cmdline').write_text('bayctl\0serve\0--port\x0010102\0')
         found = self.machine.server()
@@ -76,7 +76,7 @@ class Here(Tools):
         path.write_text('x')
         os.utime(path, (1, 1))
         self.assertIn('it serves --diagram None', self.machine.diagram().told)
-        self.runs('--diagram', str(path))
+        self.write_command_line('--diagram', str(path))
         digest = hashlib.sha256(b'x').hexdigest()
         for lines, state, told in (
                 (f'.. diagram SHA-256 {"0" * 64}, 9 hold\n.. diagram SHA-256 {digest}, 10 hold\n',
@@ -106,16 +106,16 @@ class Here(Tools):
                           self.machine.keys().told)
 
     def test_the_clock_and_the_list(self):
-        def told(synchronized, date):
-            def asked(words, given=b''):
+        def check_clock(synchronized, date):
+            def run_program(words, given=b''):
                 return (0, synchronized) if words[0] == 'timedatectl' else (0, f'nextUpdate={date}')
-            with mock.patch.object(here, 'run_program', asked):
+            with mock.patch.object(here, 'run_program', run_program):
                 return self.machine.clock()
         later = datetime.datetime.now(datetime.UTC) + datetime.timedelta(days=3)
         date = f'{later:%b %d %H:%M:%S %Y} GMT'
-        self.assertEqual(told('yes', date).state, GOOD)
-        self.assertEqual(told('no', date).state, WRONG)
-        self.assertEqual(told('yes', 'Jan  2 03:04:05 2020 GMT').state, WRONG)
+        self.assertEqual(check_clock('yes', date).state, GOOD)
+        self.assertEqual(check_clock('no', date).state, WRONG)
+        self.assertEqual(check_clock('yes', 'Jan  2 03:04:05 2020 GMT').state, WRONG)
 
     def test_the_audit_and_the_log(self):
         self.assertEqual(self.machine.audit().state, OPEN)

@@ -71,7 +71,7 @@ class Options(unittest.TestCase):
                 seconds_of(text)
 
 
-def served(act):
+def serve_once(act):
     """A port on which one connection is handed to a function."""
     server = socket.create_server(('127.0.0.1', 0))
 
@@ -104,10 +104,10 @@ class Bay:
     def __call__(self, connection):
         while piece := connection.recv(65536):
             for got in self.stream.feed(piece):
-                for octets in self.answers(got):
+                for octets in self.answer_octets(got):
                     connection.sendall(octets)
 
-    def answers(self, got):
+    def answer_octets(self, got):
         if got.kind == 'CR':
             return [CONFIRM]
         if got.kind == 'associate':
@@ -125,8 +125,8 @@ class Bay:
 class Hostile(Tools):
     """Servers that answer what no server should: an end with status 3, in time and in one line."""
 
-    def asked(self, act, *words_of_it, timeout='0.6'):
-        server = served(act)
+    def run_client(self, act, *words_of_it, timeout='0.6'):
+        server = serve_once(act)
         since = time.monotonic()
         found = self.call_tool('client', '--timeout', timeout, server.getsockname()[1],
                               *(words_of_it or ('browse',)))
@@ -135,11 +135,11 @@ class Hostile(Tools):
         self.assertEqual((found.status, found.error.count('\n')), (3, 1), found)
         return found.error.removeprefix('client: ').rstrip('\n')
 
-    def answered(self, answer, *words_of_it):
-        return self.asked(Bay(answer), *words_of_it)
+    def answer_with(self, answer, *words_of_it):
+        return self.run_client(Bay(answer), *words_of_it)
 
     def test_a_port_that_says_nothing(self):
-        self.assertRegex(self.asked(lambda connection: time.sleep(3)),
+        self.assertRegex(self.run_client(lambda connection: time.sleep(3)),
                          'port .* of 127.0.0.1: the connection is taken, and a connection request '
                          'is not answered: it is no port of clients, and none of a supervised '
                          'process, which is greeted$')
@@ -159,12 +159,12 @@ class Hostile(Tools):
                       'server does so while eight associations are open', found.error)
 
     def test_a_server_of_the_web(self):
-        told_of_it = self.asked(lambda connection: connection.sendall(b'HTTP/1.1 400 Bad'))
+        told_of_it = self.run_client(lambda connection: connection.sendall(b'HTTP/1.1 400 Bad'))
         self.assertIn('no TPKT: it begins with 48 (48 54 54 50', told_of_it)
         self.assertIn("('HTTP/1.1 400')", told_of_it)
 
     def test_the_port_of_a_supervised_process(self):
-        found = self.asked(lambda connection: connection.sendall(b'17 process 500 E05 1.0\n'))
+        found = self.run_client(lambda connection: connection.sendall(b'17 process 500 E05 1.0\n'))
         self.assertIn('it greets a process: this is the port of a process, and not that of the '
                       'clients', found)
 
@@ -174,10 +174,10 @@ class Hostile(Tools):
                 connection.sendall(bytes([octet]))
                 time.sleep(0.3)
 
-        self.assertIn('and no whole answer to a connection request', self.asked(drip))
+        self.assertIn('and no whole answer to a connection request', self.run_client(drip))
 
     def test_a_server_that_ends(self):
-        self.assertEqual(self.asked(lambda connection: connection.recv(100)),
+        self.assertEqual(self.run_client(lambda connection: connection.recv(100)),
                          'the server closed the connection')
 
     def test_pages_without_end(self):
@@ -189,8 +189,8 @@ class Hostile(Tools):
             time.sleep(0.05)
             yield respond(pdu.invoke, 0xA1, element(0xA0, element(0x1A, name)))
 
-        self.assertIn('sends pages of names without end', self.answered(same))
-        self.assertIn('gave no whole answer within 0.6 s', self.answered(new))
+        self.assertIn('sends pages of names without end', self.answer_with(same))
+        self.assertIn('gave no whole answer within 0.6 s', self.answer_with(new))
 
     def test_reports_without_end(self):
         def reports(pdu):
@@ -199,10 +199,10 @@ class Hostile(Tools):
                     0xA0, element(0x80, b'LastApplError')))), element(0xA0, mms.octets_of(
                         Data(TEXT, 'x')))))
 
-        self.assertIn('gave no whole answer', self.answered(reports))
+        self.assertIn('gave no whole answer', self.answer_with(reports))
 
     def test_a_wrong_invoke_id(self):
-        self.assertEqual(self.answered(lambda pdu: [respond(77, 0xA1, element(0xA0))]),
+        self.assertEqual(self.answer_with(lambda pdu: [respond(77, 0xA1, element(0xA0))]),
                          'the server answers request 77, and 1 was asked')
 
     def test_a_result_that_is_missing_or_of_another_shape(self):
@@ -214,10 +214,10 @@ class Hostile(Tools):
                 return [values(pdu.invoke, *data)]
             return answer
 
-        self.assertIn('answers 0 values, and 1 were asked', self.answered(read(), 'read', 'A$B'))
+        self.assertIn('answers 0 values, and 1 were asked', self.answer_with(read(), 'read', 'A$B'))
         self.assertIn('gives CSWI1$CF$Pos$ctlModel a value of another type',
-                      self.answered(read(Data(TEXT, 'x')), 'operate', 'CSWI1', 'close'))
-        self.assertIn('answers names, and read was asked', self.answered(
+                      self.answer_with(read(Data(TEXT, 'x')), 'operate', 'CSWI1', 'close'))
+        self.assertIn('answers names, and read was asked', self.answer_with(
             lambda pdu: [respond(pdu.invoke, 0xA1, element(0xA0, element(0x1A, b'D')),
                                  element(0x81, b'\0'))], 'read', 'A$B'))
 
@@ -229,7 +229,7 @@ class Hostile(Tools):
                     0xA1, shape))))
             yield respond(pdu.invoke, 0xA6, element(0xA2, shape))
 
-        told_of_it = self.answered(deep, 'types', 'D/A$B')
+        told_of_it = self.answer_with(deep, 'types', 'D/A$B')
         self.assertIn('can\'t be read', told_of_it)
 
 
@@ -290,37 +290,37 @@ class Switchgear:
 
 @needs_loopback
 class Operating(Tools):
-    def asked(self, gear, *words_of_it, given=''):
-        server = served(Bay(gear))
+    def run_client(self, gear, *words_of_it, given=''):
+        server = serve_once(Bay(gear))
         found = self.run_tool('client', server.getsockname()[1], *words_of_it, given=given)
         server.close()
         return found.out.splitlines(), found.status
 
     def test_an_operate_waits_for_the_position(self):
-        said, status = self.asked(Switchgear(), 'operate', 'CSWI1', 'open')
+        said, status = self.run_client(Switchgear(), 'operate', 'CSWI1', 'open')
         self.assertEqual(said, ['select CSWI1: done', 'operate CSWI1: accepted',
                                 'operate CSWI1: done: open'])
         self.assertEqual(status, 0)
 
     def test_a_switch_that_does_not_come(self):
-        said, status = self.asked(Switchgear(moves=False), 'operate', 'CSWI1', 'open', '--wait',
-                                  '0.3')
+        said, status = self.run_client(Switchgear(moves=False), 'operate', 'CSWI1', 'open',
+                                       '--wait', '0.3')
         self.assertEqual((said[-1], status), ('operate CSWI1: not done: closed after 0.3 s', 1))
-        said, status = self.asked(Switchgear(moves=False), 'operate', 'CSWI1', 'open', '--wait',
-                                  '0')
+        said, status = self.run_client(Switchgear(moves=False), 'operate', 'CSWI1', 'open',
+                                       '--wait', '0')
         self.assertEqual((said[-1], status), ('operate CSWI1: accepted', 0))
 
     def test_which_switch_still_moves(self):
-        said, status = self.asked(Switchgear(accepts=False), 'operate', 'CSWI1', 'open')
+        said, status = self.run_client(Switchgear(accepts=False), 'operate', 'CSWI1', 'open')
         self.assertEqual(said[1:], [
             'operate CSWI1: object access denied (3)',
             'CSWI1 is closed, may not be opened and may not be closed; still moving: CSWI2'])
         self.assertEqual(status, 1)
 
     def test_a_select_is_held_while_the_server_holds_it(self):
-        said, status = self.asked(Switchgear(held=99), 'select', 'CSWI1')
+        said, status = self.run_client(Switchgear(held=99), 'select', 'CSWI1')
         self.assertEqual((said[1:], status), (['held until the end of standard input'], 0))
-        said, status = self.asked(Switchgear(held=0), 'select', 'CSWI1')
+        said, status = self.run_client(Switchgear(held=0), 'select', 'CSWI1')
         self.assertEqual((said[1:], status), (['CSWI1 is no longer selected'], 1))
 
 
@@ -349,17 +349,17 @@ class Bays:
 class Asking(Tools):
     """Who asks, and for which time."""
 
-    def asked(self, act):
+    def serve_bay(self, act):
         bay = Bays()
-        server = served(Bay(bay))
+        server = serve_once(Bay(bay))
         try:
             act(server.getsockname()[1])
         finally:
             server.close()
         return bay
 
-    def written(self, act):
-        return self.asked(act).written
+    def writes_of(self, act):
+        return self.serve_bay(act).written
 
     def test_numbers_of_controls(self):
         def act(port):
@@ -371,13 +371,13 @@ class Asking(Tools):
             client.controls = 255
             other.operate(True)
 
-        self.assertEqual([it[:2] for it in self.written(act)], [
+        self.assertEqual([it[:2] for it in self.writes_of(act)], [
             ('SBOw', 1), ('Oper', 1), ('Oper', 2), ('Oper', 3), ('SBOw', 4), ('Cancel', 4),
             ('Cancel', 5), ('Oper', 0)])
 
     def test_who_asks(self):
         for more, ident in (([], own_name()), (['--as', 'Anna'], 'Anna'), (['--as', ''], '')):
-            found = self.written(lambda port: self.call_tool(
+            found = self.writes_of(lambda port: self.call_tool(
                 'client', port, 'operate', 'CSWI1', 'close', '--wait', 0, *more))
             self.assertEqual(found, [(verb, 1, ident.encode()) for verb in ('SBOw', 'Oper')])
         self.assertRegex(own_name(), '^[^@]+@[^@]+$')
@@ -386,8 +386,8 @@ class Asking(Tools):
         for verb, more, checks in (('operate', [], [['00'], ['00']]),
                                    ('operate', ['--synchrocheck'], [['10'], ['10']]),
                                    ('cancel', [], [['00'], []])):
-            found = self.asked(lambda port: self.call_tool('client', port, verb, 'CSWI1', 'close',
-                                                           *more))
+            found = self.serve_bay(lambda port: self.call_tool('client', port, verb, 'CSWI1',
+                                                               'close', *more))
             self.assertEqual(found.checks, checks)
 
 

@@ -16,24 +16,25 @@ def table(variables, test):
                    for words in itertools.product(*(v.values for v in variables)))
 
 
-def told(variables, test):
+def words_of(variables, test):
     return condition(variables, table(variables, test)).text()
 
 
 class Conditions(unittest.TestCase):
     def test_words(self):
         both = [QA1, QC1, ES]
-        self.assertEqual(told(both, lambda w: w['QA1'] == 'open' and w['QC1'] == 'open'),
+        self.assertEqual(words_of(both, lambda w: w['QA1'] == 'open' and w['QC1'] == 'open'),
                          'QA1 open and QC1 open')
-        self.assertEqual(told(both, lambda w: w['QA1'] != 'bad'), 'QA1 not bad')
-        self.assertEqual(told(both, lambda w: w['ES'] == '0'), 'not ES')
-        self.assertEqual(told(both, lambda w: w['QA1'] in ('open', 'closed')), 'QA1 open|closed')
-        self.assertEqual(told(both, lambda w: True), 'always')
-        self.assertEqual(told(both, lambda w: False), 'never')
+        self.assertEqual(words_of(both, lambda w: w['QA1'] != 'bad'), 'QA1 not bad')
+        self.assertEqual(words_of(both, lambda w: w['ES'] == '0'), 'not ES')
+        self.assertEqual(words_of(both, lambda w: w['QA1'] in ('open', 'closed')),
+                         'QA1 open|closed')
+        self.assertEqual(words_of(both, lambda w: True), 'always')
+        self.assertEqual(words_of(both, lambda w: False), 'never')
 
     def test_two_products(self):
-        found = told([QA1, QB1, ES], lambda w: (w['QA1'] == 'open' and w['QB1'] == 'open')
-                     or w['ES'] == '1')
+        found = words_of([QA1, QB1, ES], lambda w: (w['QA1'] == 'open' and w['QB1'] == 'open')
+                         or w['ES'] == '1')
         self.assertEqual(found, 'ES or QA1 open and QB1 open')
 
     def test_what_does_not_matter(self):

@@ -35,19 +35,19 @@ END_PROGRAM
 '''
 
 
-def line_told(text, is_replay=False):
+def trace_faults(text, is_replay=False):
     """Why a line of a trace is not taken."""
     octets = text if isinstance(text, bytes) else text.encode()
     return [(it.line, it.code, it.told) for it in trace.troubles(octets, BAY, is_replay)]
 
 
-def first_told(text):
+def first_refusal(text):
     """Why a bay file is refused: the number, the words and the remedy."""
     found = bay_file.refusals(text if isinstance(text, bytes) else text.encode())
     return (found[0].code, found[0].place.told, found[0].place.mend) if found else None
 
 
-def warned(text, file=FILE, proved=None):
+def warning_texts(text, file=FILE, proved=None):
     points = bay_file.bay_points(file.encode())
     found = warnings(text, points, tomllib.loads(file), proved)
     return [it.told for it in found]
@@ -56,22 +56,22 @@ def warned(text, file=FILE, proved=None):
 class Names(Tools):
     """A name that is unknown: no other switch is ever suggested."""
 
-    def told(self, name):
+    def explain_name(self, name):
         points = bay_file.bay_points(FILE.encode())
         fault = program.faults_of(ASKED.format(name), points)[0]
         return fault.told, fault.mend
 
     def test_a_point_that_was_forgotten(self):
-        told, mend = self.told('QC9_ENA_CLS')
+        told, mend = self.explain_name('QC9_ENA_CLS')
         self.assertEqual(told, 'QC9_ENA_CLS is a point of the bay, but not declared')
         self.assertEqual(mend, 'add it to VAR_EXTERNAL: QC9_ENA_CLS : BOOL;')
 
     def test_a_switch_that_is_not_there(self):
-        self.assertEqual(self.told('QC8_ENA_CLS')[0],
+        self.assertEqual(self.explain_name('QC8_ENA_CLS')[0],
                          'QC8_ENA_CLS is not declared: the bay has no switch QC8')
 
     def test_a_point_that_is_misspelled(self):
-        self.assertEqual(self.told('QC9_ENA_CSL')[0],
+        self.assertEqual(self.explain_name('QC9_ENA_CSL')[0],
                          'QC9_ENA_CSL is not declared; is QC9_ENA_CLS meant?')
 
     def test_an_external_that_is_not_there(self):
@@ -82,7 +82,7 @@ class Names(Tools):
 
     def test_names_are_raised_as_the_device_raises_them(self):
         self.assertEqual(tokens.Token('name', 'q\u017f1', 0).upper, 'Q\u017f1')
-        self.assertEqual(line_told('0 contact QA\u0131 1\n')[0][1], 113)
+        self.assertEqual(trace_faults('0 contact QA\u0131 1\n')[0][1], 113)
 
     def test_the_tool_tells_the_remedy_of_this_fault_alone(self):
         words = ['--bay', self.file('bay', FILE), '--logic',
@@ -98,17 +98,17 @@ class Warnings(unittest.TestCase):
     def test_a_point_that_is_hidden(self):
         text = ASKED.replace('END_VAR', 'END_VAR\nVAR\n    QC9_ENA_CLS : BOOL;\nEND_VAR')
         self.assertIn('QC9_ENA_CLS hides the point QC9_ENA_CLS of the bay: what you store in it '
-                      'reaches no switch', warned(text.format('QC9_ENA_CLS')))
+                      'reaches no switch', warning_texts(text.format('QC9_ENA_CLS')))
 
     def test_a_comment_within_a_comment(self):
         text = ASKED.format('QC2_ENA_CLS').replace('    LD', '    (* a (* b *) LD', 1)
-        self.assertIn('comments don\'t nest', warned(text)[0])
+        self.assertIn('comments don\'t nest', warning_texts(text)[0])
         self.assertEqual(tokens.nested_comments('(* a *) (* b *)'), [])
 
     def test_what_is_never_read_used_called_or_released(self):
         text = ASKED.replace('END_VAR', '    QC2_POS : INT;\nEND_VAR\nVAR\n    kept : BOOL;\n'
                              '    t1 : TON;\nEND_VAR', 1)
-        found = warned(text.format('kept'), FILE + '[[input]]\nname = "ES"\n')
+        found = warning_texts(text.format('kept'), FILE + '[[input]]\nname = "ES"\n')
         for told in ('the point QC2_POS is never used', 'kept is never read',
                      'the timer t1 is never called', 'QC9 can never be closed: no line writes '
                      'QC9_ENA_CLS', 'the point QC2_ENA_CLS is never used',
@@ -117,7 +117,7 @@ class Warnings(unittest.TestCase):
 
     def test_a_key_that_no_line_reads(self):
         file = FILE + 'remote = "ES"\n[[input]]\nname = "es"\n[[input]]\nname = "ET"\n'
-        found = [it for it in warned(ASKED.format('QC2_ENA_CLS'), file) if 'the input' in it]
+        found = [it for it in warning_texts(ASKED.format('QC2_ENA_CLS'), file) if 'the input' in it]
         self.assertEqual(found, ['no line reads the input ET'])
 
     HEAD = ('PROGRAM p\nVAR_EXTERNAL\nQC2_OPEN, QC9_OPEN, ES, QC2_ENA_CLS : BOOL;\nEND_VAR\n'
@@ -152,25 +152,25 @@ class Warnings(unittest.TestCase):
     def test_releases_that_are_never_given_and_points_of_no_use(self):
         file = FILE + '[[input]]\nname = "ES"\n'
         text = self.HEAD.format('LD FALSE\nST QC2_ENA_CLS\nLD ES\nST a\nLD QC2_OPEN\nST a')
-        found = warned(text, file)
+        found = warning_texts(text, file)
         for told in ('QC2 can never be closed: only FALSE is stored in QC2_ENA_CLS',
                      'no release depends on ES', 'no release depends on QC2_OPEN',
                      'QC9 can never be opened: no line writes QC9_ENA_OPN'):
             self.assertIn(told, found)
         text = self.HEAD.format('LD QC2_OPEN\nAND ES\nST QC2_ENA_CLS')
-        self.assertNotIn('no release depends on ES', warned(text, file))
+        self.assertNotIn('no release depends on ES', warning_texts(text, file))
         proved = Proved({('QC2', 'closed')}, {'QC2_OPEN'}, set())
-        found = warned(text, file, proved)
+        found = warning_texts(text, file, proved)
         self.assertIn('QC2 can never be closed: QC2_ENA_CLS is never TRUE (proved)', found)
         self.assertIn('no release depends on ES (proved)', found)
         text = self.HEAD.format('CAL t1(IN := ES)\nLD t1.Q\nST QC2_ENA_CLS')
         self.assertNotIn('no release depends on ES (proved)',
-                         warned(text, file, Proved(set(), set(), {'T1'})))
+                         warning_texts(text, file, Proved(set(), set(), {'T1'})))
 
     def test_the_examples_are_warned_of_nothing_but_points(self):
         for path in EXAMPLES:
             file = path.read_text()
-            for told in warned((path.parent / 'logic.il').read_text(), file):
+            for told in warning_texts((path.parent / 'logic.il').read_text(), file):
                 self.fail(f'{path.parent.name}: {told}')
 
 
@@ -192,7 +192,7 @@ class Bays(unittest.TestCase):
                 (FILE.encode('utf-16'), 50, 'it is UTF-16', 'save the file as UTF-8'),
                 (FILE.replace('"direct"', '"SBO-enhanced"'), 53,
                  '"SBO-enhanced" must be in lower case', 'write control = "sbo-enhanced"')):
-            found = first_told(text)
+            found = first_refusal(text)
             self.assertEqual(found[0], code, told)
             self.assertIn(told, found[1])
             self.assertIn(mend, found[2])
@@ -207,9 +207,9 @@ class Bays(unittest.TestCase):
         for text, quote in ((FILE.replace('"B"', '\u201cB\u201d'), '\u201c (U+201C)'),
                             (FILE.replace('"B"', '"B\u201d'), '\u201d (U+201D)'),
                             (FILE.replace('"B"', '\u201eB\u201c'), '\u201e (U+201E)')):
-            self.assertEqual(first_told(text), (50, f'{quote} is not the quote of TOML',
-                                                'write " before and behind the text'))
-        self.assertIsNone(first_told(FILE + '# \u201cB\u201d\n'))
+            self.assertEqual(first_refusal(text), (50, f'{quote} is not the quote of TOML',
+                                                   'write " before and behind the text'))
+        self.assertIsNone(first_refusal(FILE + '# \u201cB\u201d\n'))
 
     def test_more_than_the_first(self):
         text = FILE.replace('"direct"', '"Status"').replace('"1"', '1')
@@ -225,37 +225,38 @@ class Bays(unittest.TestCase):
     def test_keys_and_synchrochecks(self):
         text = FILE.replace('"earthing"', '"breaker"', 1) + '[[input]]\nname = "Remote"\n'
 
-        def told(first='', second='', file=text):
+        def refusal_with(first='', second='', file=text):
             head, one, other = file.split('[[switch]]')
             other, sign, more = other.partition('[[')
-            return first_told(f'{head}[[switch]]{one}{first}[[switch]]{other}{second}{sign}{more}')
+            return first_refusal(
+                f'{head}[[switch]]{one}{first}[[switch]]{other}{second}{sign}{more}')
 
         key, none = 'remote = "REMOTE"\n', 'remote = "NONE"\n'
-        self.assertIsNone(told(key + 'synchrocheck = "refuse"\n', 'remote = "remote"\n'))
+        self.assertIsNone(refusal_with(key + 'synchrocheck = "refuse"\n', 'remote = "remote"\n'))
         for found, code, why in (
-                (told(none, key), 53, 'there is no input NONE'),
-                (told('remote = "QC2_OPEN"\n'), 53, 'there is no input QC2_OPEN'),
-                (told(none, file=text.replace('"Remote"', '"TIME"')), 53, 'the point TIME'),
-                (told(none, file=text.replace('"QC9"', '"QC2"')), 54, 'QC2'),
-                (told('remote = "1"\n'), 53, '"1" must begin with a letter'),
-                (told('remote = 1\n'), 53, 'the value must be a text'),
-                (told('remote = "A234567890123456x"\n'), 53, '17 characters'),
-                (told('synchrocheck = "Refuse"\n'), 53, 'must be in lower case'),
-                (told('synchrocheck = "check"\n'), 53, '"check" is not refuse'),
-                (told('', 'synchrocheck = "refuse"\n'), 52,
+                (refusal_with(none, key), 53, 'there is no input NONE'),
+                (refusal_with('remote = "QC2_OPEN"\n'), 53, 'there is no input QC2_OPEN'),
+                (refusal_with(none, file=text.replace('"Remote"', '"TIME"')), 53, 'the point TIME'),
+                (refusal_with(none, file=text.replace('"QC9"', '"QC2"')), 54, 'QC2'),
+                (refusal_with('remote = "1"\n'), 53, '"1" must begin with a letter'),
+                (refusal_with('remote = 1\n'), 53, 'the value must be a text'),
+                (refusal_with('remote = "A234567890123456x"\n'), 53, '17 characters'),
+                (refusal_with('synchrocheck = "Refuse"\n'), 53, 'must be in lower case'),
+                (refusal_with('synchrocheck = "check"\n'), 53, '"check" is not refuse'),
+                (refusal_with('', 'synchrocheck = "refuse"\n'), 52,
                  'kind = "earthing" has no synchrocheck'),
-                (told('Remote = "REMOTE"\n'), 52, 'no key Remote here; is remote meant?'),
-                (told('remote = 5\n', file=text.replace('travel_ms = 500\n', '', 1)), 51,
+                (refusal_with('Remote = "REMOTE"\n'), 52, 'no key Remote here; is remote meant?'),
+                (refusal_with('remote = 5\n', file=text.replace('travel_ms = 500\n', '', 1)), 51,
                  'the key travel_ms is missing')):
             self.assertEqual(found[0], code, why)
             self.assertIn(why, found[1])
         status = text.replace('control = "direct"\ntravel_ms = 500', 'control = "status"', 1)
         for key in ('remote = "REMOTE"', 'synchrocheck = "refuse"'):
-            self.assertEqual(told(key + '\n', file=status)[:2], (
+            self.assertEqual(refusal_with(key + '\n', file=status)[:2], (
                 52, f'control = "status" has no {key.partition(" ")[0]}'))
 
     def test_two_points_of_one_name(self):
-        found = first_told(FILE.replace('QC9', 'qc2'))
+        found = first_refusal(FILE.replace('QC9', 'qc2'))
         self.assertEqual(found[1], 'switch 1 (QC2) and switch 2 (qc2) would both have a point '
                          'QC2_POS')
 
@@ -265,20 +266,20 @@ class Bays(unittest.TestCase):
 
 
 class Programs(unittest.TestCase):
-    def told(self, text, line):
+    def explain_line(self, text, line):
         return lines.locate(text, line).told
 
     def test_a_reserved_word_as_a_variable(self):
         for names in ('r : BOOL;', 'a, R : BOOL;', 's, b : INT;', 'ton : TON;'):
-            told = self.told(HEAD.format(names), 3)
+            told = self.explain_line(HEAD.format(names), 3)
             self.assertIn('is a reserved word, so no variable can have that name', told)
 
     def test_an_instruction_in_a_block(self):
-        self.assertIn('END_VAR is missing', self.told(HEAD.format('LD a'), 3))
+        self.assertIn('END_VAR is missing', self.explain_line(HEAD.format('LD a'), 3))
 
     def test_a_forgotten_cal(self):
         text = HEAD.format('t1 : TON;') + 't1(IN := a, PT := T#5s)\nEND_PROGRAM\n'
-        self.assertIn('a timer is called by CAL, as CAL t1(', self.told(text, 5))
+        self.assertIn('a timer is called by CAL, as CAL t1(', self.explain_line(text, 5))
 
     def test_the_remedy_of_each_mistake(self):
         head = HEAD.format('a, b : BOOL;')
@@ -349,42 +350,42 @@ class Traces(unittest.TestCase):
     def test_what_is_taken(self):
         text = ('0 contact QA1 2\n\n00 contact qa1 0\r\n5 input es 1\n'
                 '1 measure m1 TOTW -2147483648\n1 measure M1 AC 2147483647')
-        self.assertEqual(line_told(text), [])
+        self.assertEqual(trace_faults(text), [])
 
     def test_lines_of_a_replay(self):
         for line in ('1 scan', '1 open 1', '1 recv 1 03', '1 close 1'):
-            (_, code, told), = line_told(line)
+            (_, code, told), = trace_faults(line)
             self.assertEqual(code, 120)
             self.assertIn('is a line of a replay', told)
 
     def test_a_replay(self):
         text = ('1 scan\n2 open 1\n2 recv 1 03aB\n3 close 1\n3 open 1\n3 contact QA1 1\n'
                 '4294967295999 scan\n')
-        self.assertEqual(line_told(text, True), [])
+        self.assertEqual(trace_faults(text, True), [])
         for text, code in (('5 scan\n4 scan', 110), ('1 open 9', 111), ('1 recv 1 03', 111),
                            ('1 close 1', 111), ('1 open 1\n1 open 1', 112), ('1 input E 1', 113),
                            ('4294967296000 scan', 114), ('1 recv 1 0', 120), ('1 recv 1', 120),
                            ('1 scan 5', 120), ('1 open x', 120), ('1 open 0', 111)):
-            found = line_told(text, True)
+            found = trace_faults(text, True)
             self.assertEqual([it[1] for it in found], [code], text)
 
     def test_a_refused_line_changes_nothing(self):
-        self.assertEqual(line_told('9 input X 1\n5 scan\n', True)[1:], [])
+        self.assertEqual(trace_faults('9 input X 1\n5 scan\n', True)[1:], [])
 
     def test_a_trace_with_a_mark_at_its_start(self):
-        (_, code, told), = line_told('\ufeff0 contact QA1 1\n')
+        (_, code, told), = trace_faults('\ufeff0 contact QA1 1\n')
         self.assertEqual((code, told), (120, 'the trace begins with a byte order mark: save it as '
                                         'UTF-8 without one'))
 
     def test_numbers_of_many_digits(self):
-        self.assertEqual(line_told('0' * 5000 + '1 contact QA1 1'), [])
-        self.assertEqual(line_told('9' * 5000 + ' contact QA1 1')[0][1], 120)
-        self.assertEqual(line_told('1 measure M1 HZ ' + '9' * 5000)[0][1], 120)
+        self.assertEqual(trace_faults('0' * 5000 + '1 contact QA1 1'), [])
+        self.assertEqual(trace_faults('9' * 5000 + ' contact QA1 1')[0][1], 120)
+        self.assertEqual(trace_faults('1 measure M1 HZ ' + '9' * 5000)[0][1], 120)
 
     def test_names_that_are_not_there(self):
-        self.assertEqual(line_told('1 contact QB1 1\n'),
+        self.assertEqual(trace_faults('1 contact QB1 1\n'),
                          [(1, 113, 'the bay has no switch QB1; is QA1 meant?')])
-        self.assertEqual(line_told('1 input QA1 1\n'),
+        self.assertEqual(trace_faults('1 input QA1 1\n'),
                          [(1, 113, 'the bay has no input QA1; QA1 is its switch: write contact')])
 
     def test_forms(self):
@@ -394,21 +395,21 @@ class Traces(unittest.TestCase):
                '1 Contact QA1 1', '1 contact QA1 1 ', '18446744073709551616 contact QA1 1',
                '1 contact QA1 1\r', b'1 contact Q\xff 1']
         for line in bad:
-            self.assertEqual([code for _, code, _ in line_told(line)], [120], line)
+            self.assertEqual([code for _, code, _ in trace_faults(line)], [120], line)
 
     def test_what_is_lost(self):
         for is_replay in (False, True):
-            self.assertEqual(line_told('1 lost\n1 measure M1 TOTW bad', is_replay), [])
+            self.assertEqual(trace_faults('1 lost\n1 measure M1 TOTW bad', is_replay), [])
             for line in ('1 lost QA1', '1 lost ', '1 LOST', '1 measure M1 TOTW BAD',
                          '1 input ES bad'):
-                self.assertEqual([it[1] for it in line_told(line, is_replay)], [120], line)
+                self.assertEqual([it[1] for it in trace_faults(line, is_replay)], [120], line)
         process = trace.Known(BAY, is_process=True)
         self.assertIsNone(process.trouble(b'1 measure M1 TOTW bad'))
         self.assertEqual(process.trouble(b'1 lost'), (
             120, 'a process can\'t send lost: the server sees by itself that it is'))
 
     def test_line_numbers(self):
-        self.assertEqual([line for line, _, _ in line_told('\n1 scan\r\n\n1 scan')], [2, 4])
+        self.assertEqual([line for line, _, _ in trace_faults('\n1 scan\r\n\n1 scan')], [2, 4])
 
     def test_examples(self):
         for path in EXAMPLES:

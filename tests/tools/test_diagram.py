@@ -52,7 +52,7 @@ def diagram(*rows: str) -> str:
     return '\n'.join(lines) + '\n'
 
 
-def asked(found: dict, *rows: str) -> set[str]:
+def rules_of(found: dict, *rows: str) -> set[str]:
     """The rules of a diagram."""
     return {it.text() for it in demands_of(read_diagram(diagram(*rows), 'd', found))}
 
@@ -88,7 +88,7 @@ class Paths(unittest.TestCase):
 
 class Rules(unittest.TestCase):
     def test_a_feeder(self):
-        self.assertEqual(asked(OWN, *FEEDER), {
+        self.assertEqual(rules_of(OWN, *FEEDER), {
             'never QC1 close when QB1 not open', 'never QC1 close when QB9 not open',
             'never QC9 close when QB1 not open and QB9 not open',
             'never QC9 close when not VT_DEAD',
@@ -105,15 +105,15 @@ class Rules(unittest.TestCase):
         rows = ('BB1 busbar source=true', 'C cable', 'N1 junction', 'E earth', 'QB1: BB1 N1',
                 'QA1: N1 C', 'QC9: C E')
         own = bay('QA1', 'QB1', 'QC9')
-        self.assertIn('never QC9 close when QB1 not open', asked(own, *rows))
-        found = asked(own, *rows[:5], 'QA1 isolates=true: N1 C', 'QC9: C E')
+        self.assertIn('never QC9 close when QB1 not open', rules_of(own, *rows))
+        found = rules_of(own, *rows[:5], 'QA1 isolates=true: N1 C', 'QC9: C E')
         self.assertIn('never QC9 close when QB1 not open and QA1 not open', found)
         self.assertNotIn('never QC9 close when QB1 not open', found)
 
     def test_a_line_that_is_fed_from_here_alone_is_no_source(self):
         rows = ('BB1 busbar source=true', 'C cable', 'N1 junction', 'E earth', 'QB1: BB1 N1',
                 'QA1: N1 C', 'QC1: N1 E')
-        found = asked(bay('QA1', 'QB1', 'QC1'), *rows)
+        found = rules_of(bay('QA1', 'QB1', 'QC1'), *rows)
         self.assertIn('never QC1 close when QB1 not open', found)
         self.assertIn('never QB1 open|close when QA1 not open', found)
         self.assertFalse(any('QA1 close when QC1' in it for it in found))
@@ -122,21 +122,21 @@ class Rules(unittest.TestCase):
         rows = ('BB1 busbar source=true', 'C cable source=true', 'N1 junction', 'N2 junction',
                 'E earth', 'QB1: BB1 N1', 'QA1: N1 N2', 'QC1: N1 E')
         own = bay('QA1', 'QB1', 'QC1', inputs=('X_OPEN', 'X_CLOSED'))
-        told = asked(own, *rows, 'X disconnector closed="X_CLOSED" open="X_OPEN": N2 C')
+        told = rules_of(own, *rows, 'X disconnector closed="X_CLOSED" open="X_OPEN": N2 C')
         self.assertIn('never QC1 close when (not X_OPEN or X_CLOSED)', told)
         self.assertIn('never QA1 close when (X_CLOSED and X_OPEN or not X_CLOSED and not X_OPEN)',
                       told)
         self.assertIn('never QA1 close when QC1 not open and (not X_OPEN or X_CLOSED)', told)
-        untold = asked(own, *rows, 'X disconnector closed="X_CLOSED": N2 C')
+        untold = rules_of(own, *rows, 'X disconnector closed="X_CLOSED": N2 C')
         self.assertIn('never QC1 close', untold)
         self.assertIn('never QA1 close when not X_CLOSED', untold)
 
     def test_a_disconnector_without_a_breaker_never_breaks_alone(self):
         own = bay('QB1')
         rows = ('BB1 busbar source=true', 'BB2 busbar source=true', 'QB1: BB1 BB2')
-        self.assertEqual(asked(own, *rows), {'never QB1 open|close'})
+        self.assertEqual(rules_of(own, *rows), {'never QB1 open|close'})
         with_other = bay('QB1', inputs=('A',))
-        self.assertEqual(asked(with_other, *rows, 'X breaker closed="A": BB1 BB2'),
+        self.assertEqual(rules_of(with_other, *rows, 'X breaker closed="A": BB1 BB2'),
                          {'never QB1 open|close when not A'})
 
     def test_paths_beside_it(self):
@@ -145,7 +145,7 @@ class Rules(unittest.TestCase):
         rows = ('BB1 busbar source=true', 'BB2 busbar source=true', 'QB1: BB1 BB2',
                 'X breaker closed="A": BB1 BB2', 'Y breaker closed="B": BB1 BB2',
                 'T1 transformer', 'V breaker closed="T": BB1 T1', 'W breaker closed="T": T1 BB2')
-        self.assertEqual(asked(own, *rows), {'never QB1 open|close when not (A or B)'})
+        self.assertEqual(rules_of(own, *rows), {'never QB1 open|close when not (A or B)'})
 
     def test_a_path_beside_a_disconnector_on_its_way_stays(self):
         """A coupler bay, whose breaker is beside the disconnectors of a feeder."""
@@ -166,9 +166,9 @@ class Rules(unittest.TestCase):
         rows = ('BB1 busbar source=true', 'BB2 busbar source=true', 'N1 junction', 'N2 junction',
                 'QB1: BB1 N1', 'QA1: N1 N2', 'QB2: N2 BB2',
                 'X breaker closed="X_CLOSED" open="X_OPEN": BB1 BB2')
-        self.assertFalse([it for it in asked(own, *rows) if it.startswith('never QA1 open')])
-        beside = asked(bay('QA1', 'QB1', 'QB2', 'QA2', inputs=('X_CLOSED',)),
-                       *rows[:-1], 'QA2: BB1 BB2')
+        self.assertFalse([it for it in rules_of(own, *rows) if it.startswith('never QA1 open')])
+        beside = rules_of(bay('QA1', 'QB1', 'QB2', 'QA2', inputs=('X_CLOSED',)),
+                          *rows[:-1], 'QA2: BB1 BB2')
         self.assertIn('never QA2 open when QB1 not open|closed and QA1 not open and QB2 not open',
                       {it for it in beside if it.startswith('never QA2 open')})
 
@@ -183,7 +183,7 @@ class Rules(unittest.TestCase):
         self.assertEqual((rule.head, rule.why), (MEETS, [
             'QB2 would make the current: BB1 - QB1 - N1 - QA1 - T1 - QA2 - N2 - QB2 - C']))
         live = [row.format('cable source=true') for row in rows]
-        self.assertFalse([it for it in asked(own, *live)
+        self.assertFalse([it for it in rules_of(own, *live)
                           if it.startswith('never QA1 close when QB2 not open|closed')])
 
     def test_unlike_systems(self):
@@ -350,9 +350,9 @@ class Examples(Tools):
                 self.assertTrue(found and all(it.can_apply() for it in found), path)
 
 
-def answered(states: States):
+def audit_by_states(states: States):
     """What bayctl answers, by going through all states."""
-    def asked_of(bayctl, bay_file, logic, rules, keys) -> Answer:
+    def run_audit(bayctl, bay_file, logic, rules, keys) -> Answer:
         given = releases(states, Path(logic).read_text())
         text = Path(rules).read_text()
         broken = {(line, way) for (switch, way), rows in forbidden(states, text).items()
@@ -360,7 +360,7 @@ def answered(states: States):
         return Answer('', [Proof(rule.line, rule.switch, way,
                                  BROKEN if (rule.line, way) in broken else HOLDS)
                            for rule in read_rules(text, keys) for way in rule.ways])
-    return asked_of
+    return run_audit
 
 
 class Checked(Tools):
@@ -375,12 +375,12 @@ class Checked(Tools):
         def run(bayctl, *words) -> types.SimpleNamespace:
             kept = Path(words[-1]).with_name(Path(words[-1]).name.replace('rules', 'audited'))
             return types.SimpleNamespace(stdout=kept.read_bytes() + b'released QA1=1\n')
-        by_path = {path: answered(States(bay_at(path)[1])) for path in EXAMPLES}
+        by_path = {path: audit_by_states(States(bay_at(path)[1])) for path in EXAMPLES}
 
-        def asked_of(bayctl, bay_file, logic, rules, keys) -> Answer:
+        def run_audit(bayctl, bay_file, logic, rules, keys) -> Answer:
             return by_path[bay_file](bayctl, bay_file, logic, rules, keys)
-        with mock.patch.multiple('devtools.check.diagrams.questions', run_audit=changed or asked_of,
-                                 run=run):
+        with mock.patch.multiple('devtools.check.diagrams.questions',
+                                 run_audit=changed or run_audit, run=run):
             for part in parts:
                 part(checks)
         return told
@@ -390,15 +390,15 @@ class Checked(Tools):
 
     def test_what_goes_wrong_is_told(self):
         """An audit that finds nothing broken, and one that finds all."""
-        def same(verdict):
-            def asked_of(bayctl, bay_file, logic, rules, keys) -> Answer:
+        def answer_all(verdict):
+            def run_audit(bayctl, bay_file, logic, rules, keys) -> Answer:
                 return Answer('', [Proof(rule.line, rule.switch, way, verdict) for rule in
                                    read_rules(Path(rules).read_text(), keys) for way in rule.ways])
-            return asked_of
-        told = self.run_parts(*AUDITED, changed=same(HOLDS))
+            return run_audit
+        told = self.run_parts(*AUDITED, changed=answer_all(HOLDS))
         self.assertIn('diagrams/line without a line', told)
         self.assertIn("diagrams/line: 'nothing' in line 94", told)
-        told = self.run_parts(diagrams.diagrams_are_kept, changed=same(BROKEN))
+        told = self.run_parts(diagrams.diagrams_are_kept, changed=answer_all(BROKEN))
         self.assertEqual(len(told), 8)
 
     def test_hazards(self):

@@ -42,7 +42,7 @@ def network_of(chance: random.Random) -> tuple[Network, dict]:
     return Network('random', nodes, switches), bay(*own, inputs=tuple(inputs))
 
 
-def reached(switches: list[Switch], start: str) -> set[str]:
+def nodes_joined_to(switches: list[Switch], start: str) -> set[str]:
     """The nodes that some closed switches join to one, without its earths."""
     found, waiting = {start}, [start]
     while waiting:
@@ -82,46 +82,46 @@ class State:
 
     # ---- what would happen
 
-    def feeds(self, nodes: set[str]) -> bool:
+    def has_source(self, nodes: set[str]) -> bool:
         return any(self.network.kind(it) == BUSBAR for it in nodes)
 
-    def earths(self, closed: list[Switch], nodes: set[str]) -> bool:
+    def has_earth(self, closed: list[Switch], nodes: set[str]) -> bool:
         return any(it.kind == EARTHING and self.network.earthed(it) in nodes for it in closed)
 
-    def lives(self, nodes: set[str]) -> set[str]:
+    def systems_of(self, nodes: set[str]) -> set[str]:
         return {it.system for it in self.network.sources() if it.name in nodes}
 
-    def carries(self, closed: list[Switch], switch: Switch, is_fed: bool = False) -> bool:
+    def has_current(self, closed: list[Switch], switch: Switch, is_fed: bool = False) -> bool:
         """Whether a current flows or would flow through a switch: it alone joins two terminals; of
         one that is fed, a source is on one side."""
-        one, other = (reached(closed, name) for name in switch.nodes)
-        return other != one and self.feeds(one) and self.feeds(other) and (
-            not is_fed or bool(self.lives(one | other)))
+        one, other = (nodes_joined_to(closed, name) for name in switch.nodes)
+        return other != one and self.has_source(one) and self.has_source(other) and (
+            not is_fed or bool(self.systems_of(one | other)))
 
     def dangers(self, switch: Switch, way: int) -> set[str]:
         """What would happen if a switch were opened (0) or closed (1)."""
         if switch.kind == EARTHING:
             apart = [it for it in self.network.switches if it.kind != EARTHING and not (
                 it.isolates and self.known[it.name] == IS_OPEN)]
-            live = reached(apart, self.network.earthed(switch))
-            return {'earths'} if way and self.lives(live) else set()
+            live = nodes_joined_to(apart, self.network.earthed(switch))
+            return {'earths'} if way and self.systems_of(live) else set()
         found = set()
         for closed in self.possible((switch,)):
-            one, other = (reached(closed, name) for name in switch.nodes)
-            if way and one != other and any(self.earths(closed, mine) and self.lives(its)
+            one, other = (nodes_joined_to(closed, name) for name in switch.nodes)
+            if way and one != other and any(self.has_earth(closed, mine) and self.systems_of(its)
                                             for mine, its in ((one, other), (other, one))):
                 found.add('joins a source to an earth')
             if switch.kind == DISCONNECTOR:
-                if self.carries(closed, switch):
+                if self.has_current(closed, switch):
                     found.add('makes or breaks a current')
-                if way and one != other and len(self.lives(one) | self.lives(other)) > 1 and (
-                        self.lives(one) and self.lives(other)):
+                systems = self.systems_of(one), self.systems_of(other)
+                if way and one != other and all(systems) and len(systems[0] | systems[1]) > 1:
                     found.add('joins unlike systems')
-            if self.arcs(closed, switch, way):
+            if self.makes_arc(closed, switch, way):
                 found.add('a disconnector on its way makes or breaks a current')
         return found
 
-    def arcs(self, closed: list[Switch], switch: Switch, way: int) -> bool:
+    def makes_arc(self, closed: list[Switch], switch: Switch, way: int) -> bool:
         """Whether a disconnector that is on its way carries a current only afterwards, or one that
         is fed only afterwards."""
         for it in self.network.switches:
@@ -129,8 +129,8 @@ class State:
                     self.known[it.name] not in (IS_OPEN, IS_CLOSED)):
                 rest = [one for one in closed if one is not it]
                 before, after = (rest, [*rest, switch]) if way else ([*rest, switch], rest)
-                if any(self.carries(after, it, is_fed) and not self.carries(before, it, is_fed)
-                       for is_fed in (False, True)):
+                if any(self.has_current(after, it, is_fed)
+                       and not self.has_current(before, it, is_fed) for is_fed in (False, True)):
                     return True
         return False
 

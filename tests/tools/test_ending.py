@@ -186,7 +186,7 @@ class Outputs(Tools):
 class Scenarios(Tools):
     """What explain and timeline make of a scenario and a report that are odd."""
 
-    def told(self, tool, trace, report, *more):
+    def run_on(self, tool, trace, report, *more):
         scenario = self.file('scenario', f'{BAY}%%\n{LOGIC}%%\n{trace}')
         return self.call_tool(tool, scenario, '--bayctl', self.bayctl(LOADED + report, 0), *more)
 
@@ -195,7 +195,7 @@ class Scenarios(Tools):
                               'can\'t be read (120): 5 nonsense'),
                              ('fault memory\n', 'the replay ends early: memory ran out')):
             for tool in ('explain', 'timeline'):
-                found = self.told(tool, '0 contact QA1 1\n5 nonsense\n', report)
+                found = self.run_on(tool, '0 contact QA1 1\n5 nonsense\n', report)
                 self.assertEqual((found.status, found.out.splitlines()[-1]), (1, told), found)
         report = self.file('report', LOADED + 'fault memory\n')
         self.assertEqual(self.call_tool('explain', '--printed', report).status, 1)
@@ -216,31 +216,31 @@ class Scenarios(Tools):
     def test_moments_that_are_too_large(self):
         for moment in ('253402300800000', '4294967296000', '18446744073709551615'):
             for tool in ('explain', 'timeline'):
-                found = self.told(tool, f'{moment} contact QA1 1\n', f'{moment} refused 114\n')
+                found = self.run_on(tool, f'{moment} contact QA1 1\n', f'{moment} refused 114\n')
                 self.assertEqual((found.status, found.error), (0, ''), (tool, found))
 
     def test_control_octets(self):
         text = '0 contact QA1\x1b[2J 1\n'
-        found = self.told('explain', text, '0 refused 113\n')
+        found = self.run_on('explain', text, '0 refused 113\n')
         self.assertNotIn('\x1b', found.out)
         self.assertIn('QA1\\x1b[2J 1', found.out)
-        self.told('timeline', text, '0 refused 113\n')
+        self.run_on('timeline', text, '0 refused 113\n')
         ET.parse(self.folder / 'timeline.svg')
 
     def test_days_are_told_where_they_begin(self):
         day = 1_795_000_000_000
         trace = f'{day} contact QA1 1\n{day + 90_000_000} contact QA1 2\n'
-        self.assertEqual(self.told('timeline', trace, '').error, '')
+        self.assertEqual(self.run_on('timeline', trace, '').error, '')
         text = (self.folder / 'timeline.svg').read_text()
         self.assertIn('>2026-11-19<', text)
         self.assertEqual(min(map(float, re.findall(r'font-size="([^"]+)"', text))), 12)
-        said = self.told('explain', trace, '').out
+        said = self.run_on('explain', trace, '').out
         self.assertEqual([line[:10] for line in said.splitlines() if line.startswith('2026')],
                          ['2026-11-18', '2026-11-19'])
 
     def test_positions_have_one_word_each(self):
         trace = ''.join(f'{value} contact QA1 {value}\n' for value in range(4))
-        said = self.told('explain', trace, '').out
+        said = self.run_on('explain', trace, '').out
         for told in ('QA1 is intermediate', 'QA1 is open', 'QA1 is closed', 'QA1 is bad'):
             self.assertIn(told, said)
 
@@ -249,8 +249,8 @@ class Scenarios(Tools):
                        '0 scan steps=1 QA1=1\n', '0 send 1 zz\n',
                        '0 closed 1\n', '0 command\n', '9' * 5000 + ' scan\n', '0 send 1 \n'):
             for tool in ('explain', 'timeline'):
-                self.told(tool, '0 scan\n0 open 1\n0 recv 1 03\n', report)
-                self.told(tool, '0 open x\n0 contact\n0 measure M1 HZ\n', report)
+                self.run_on(tool, '0 scan\n0 open 1\n0 recv 1 03\n', report)
+                self.run_on(tool, '0 open x\n0 contact\n0 measure M1 HZ\n', report)
             self.call_tool('explain', '--printed', '-', given=report)
 
 

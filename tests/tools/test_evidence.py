@@ -76,7 +76,7 @@ class Heads(Tools):
 
 
 class Commits(Tools):
-    def told(self) -> str:
+    def commit_text(self) -> str:
         page_head.commit.cache_clear()
         with mock.patch.object(page_head, 'TOP', self.folder.resolve()):
             return page_head.commit()
@@ -90,20 +90,20 @@ class Commits(Tools):
         super().tearDown()
 
     def test_a_changed_tree_is_marked(self):
-        self.assertIn('no commit', self.told())
+        self.assertIn('no commit', self.commit_text())
         self.git('init')
-        self.assertIn('no commit', self.told())
+        self.assertIn('no commit', self.commit_text())
         file = self.file('a', 'one')
         self.git('add', 'a')
         self.git('commit', '-m', 'x')
-        clean = self.told()
+        clean = self.commit_text()
         self.assertRegex(clean, r'\A[0-9a-f]{7,} of \d{4}-\d\d-\d\d\Z')
         file.write_text('two')
-        self.assertEqual(self.told(), f'{clean}, CHANGED in 1 path of this folder')
+        self.assertEqual(self.commit_text(), f'{clean}, CHANGED in 1 path of this folder')
         self.git('commit', '-am', 'y')
-        self.assertNotIn('CHANGED', self.told())
+        self.assertNotIn('CHANGED', self.commit_text())
         self.file('new', '')
-        self.assertIn('CHANGED', self.told())
+        self.assertIn('CHANGED', self.commit_text())
 
     def test_a_folder_within_another_clone_has_no_commit(self):
         self.git('init')

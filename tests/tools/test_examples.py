@@ -13,7 +13,7 @@ LEFT_OUT = '...'
 ALONE = ('tools/explain', 'tools/rules', 'tools/modbus')  # what needs no bayctl, as it is called
 
 
-def shown(page: pathlib.Path) -> list[tuple[str, str]]:
+def read_commands(page: pathlib.Path) -> list[tuple[str, str]]:
     """The commands of a page's first block, each with what is shown of its output."""
     block = page.read_text(encoding='utf-8').split('\n\n')[1]
     text = re.sub(r'(?m)^    ', '', block).replace('\\\n', ' ')
@@ -31,7 +31,7 @@ class Begins(Tools):
     def test_what_is_shown_is_printed(self):
         count = 0
         for page in sorted(EXAMPLES.glob('*/README.md')):
-            for command, output in shown(page):
+            for command, output in read_commands(page):
                 tool, *words = shlex.split(command)
                 if tool not in ALONE:
                     continue

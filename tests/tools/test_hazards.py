@@ -60,14 +60,14 @@ class Asking(Tools):
         path.chmod(0o755)
         return path
 
-    def audited(self, *words, **more):
+    def run_audit(self, *words, **more):
         program = self.bayctl(**more)
         return self.call_tool('audit', SINGLE, SINGLE.with_name('logic.il'), *words, '--diagram',
                               SINGLE.with_name('diagram.toml'), '--bayctl', program)
 
     def test_a_diagram_without_rules(self):
         held = HELD + 'diagram QC9 open holds cases=1\ndiagram QC9 close holds cases=2\n'
-        found = self.audited('--html', 'page.html', printed=LOADED + held, status=0)
+        found = self.run_audit('--html', 'page.html', printed=LOADED + held, status=0)
         self.assertEqual((found.status, found.out.splitlines()[0], found.out.splitlines()[-1]), (
             0, 'PROVED: no command to open QA1 while that is a hazard in diagram.toml',
             'PASSED: none of 10 operations is released while it is a hazard in diagram.toml.'))
@@ -79,7 +79,7 @@ class Asking(Tools):
         self.assertNotIn('>Rules</td>', page)
 
     def test_a_hazard(self):
-        found = self.audited('--html', 'page.html', printed=LOADED + HELD + BROKEN, status=4)
+        found = self.run_audit('--html', 'page.html', printed=LOADED + HELD + BROKEN, status=4)
         lines = found.out.splitlines()
         at = lines.index('BROKEN: QC9 close is released while it is a hazard in diagram.toml')
         self.assertEqual(lines[at + 1:at + 3], [
@@ -92,12 +92,12 @@ class Asking(Tools):
         self.assertIn('%%\n0 contact QA1 1\n0 contact QB1 0\n', scenario)
         self.assertIn(f'QC9 close is released while it is a hazard: {WHY}',
                       (self.folder / 'page.html').read_text())
-        again = self.audited(printed=LOADED + HELD + OTHERS, status=4)
+        again = self.run_audit(printed=LOADED + HELD + OTHERS, status=4)
         self.assertEqual(again.status, 4)
         self.assertFalse((self.folder / 'broken_QC9_close.scenario').exists())
 
     def test_what_is_open(self):
-        found = self.audited(printed=LOADED + HELD + OTHERS, status=4)
+        found = self.run_audit(printed=LOADED + HELD + OTHERS, status=4)
         lines = found.out.splitlines()
         at = lines.index('OPEN: no command to open QC9 while that is a hazard in diagram.toml')
         self.assertEqual(lines[at + 1:at + 4], [
@@ -108,22 +108,22 @@ class Asking(Tools):
         self.assertEqual(lines[-1], 'NOT ALL WAS PROVED OR TRIED: of 10 operations 2 open.')
 
     def test_a_replay_that_does_not_show_it(self):
-        found = self.audited(printed=LOADED + HELD + BROKEN, status=4, releases='00')
+        found = self.run_audit(printed=LOADED + HELD + BROKEN, status=4, releases='00')
         self.assertIn(f'    {hazards.DOUBTED}', found.out.splitlines())
 
     def test_rules_and_a_diagram(self):
         rules = self.file('rules', 'always QA1 open\n')
         held = HELD + 'diagram QC9 open holds cases=1\ndiagram QC9 close holds cases=2\n'
-        found = self.audited(rules, printed=f'{LOADED}rule 1 QA1 open holds cases=1\n{held}',
-                             status=0)
+        found = self.run_audit(rules, printed=f'{LOADED}rule 1 QA1 open holds cases=1\n{held}',
+                               status=0)
         self.assertEqual((found.status, found.out.splitlines()[-1]), (0, (
             'PASSED: the rule is proved; none of 10 operations is released while it is a hazard in '
             'diagram.toml.')))
 
     def test_a_program_without_the_option(self):
         rules = self.file('rules', 'always QA1 open\n')
-        found = self.audited(rules, printed=LOADED + 'rule 1 QA1 open holds cases=1\n', status=0,
-                             help_text='  audit    Proves rules\n')
+        found = self.run_audit(rules, printed=LOADED + 'rule 1 QA1 open holds cases=1\n', status=0,
+                               help_text='  audit    Proves rules\n')
         self.assertIn('diagram.toml IS NOT JUDGED: this bayctl has no `audit --diagram`.',
                       found.out.splitlines())
         self.assertEqual((found.status, found.out.splitlines()[-1]), (4, (

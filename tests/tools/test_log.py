@@ -212,7 +212,7 @@ FORMATS = {
 
 
 class Logs(Tools):
-    def told(self, *words, given='', status=0):
+    def run_log(self, *words, given='', status=0):
         found = self.call_tool('log', *words, given=given)
         self.assertEqual(found.status, status, found)
         return found
@@ -221,7 +221,7 @@ class Logs(Tools):
         return self.file('server', SERVER), self.file('out', PRINTED), self.file('door', DOOR)
 
     def test_files(self):
-        found = self.told(*self.both())
+        found = self.run_log(*self.both())
         self.assertEqual(found.out, TOLD)
         self.assertEqual(found.error, '')
 
@@ -231,7 +231,7 @@ class Logs(Tools):
         earlier = re.sub(r'(?m)^\S+Z(?= )', lambda it: str(zoned(it[0])), earlier)
         earlier = earlier.replace('QB1 close', 'QB1 on').replace('QB1 open o', 'QB1 off o')
         _, out, door = self.both()
-        found = self.told(self.file('server', earlier), out, door)
+        found = self.run_log(self.file('server', earlier), out, door)
         gone = re.compile(r'( ended: | is (open|closed|bad)$| may be | is lost: )', re.MULTILINE)
         ends = '\nHow operates ended\n  1 time: position reached\n  1 time: time over\n'
         kept = [it for it in TOLD.replace(ends, '').splitlines() if not gone.search(it)]
@@ -242,7 +242,7 @@ class Logs(Tools):
         asked = TOLD.partition('\nThe process')[0]
         for name, form in FORMATS.items():
             text = of_journal(form)
-            found = self.told('-', given=text)
+            found = self.run_log('-', given=text)
             if name in ('short', 'short-precise'):
                 continue  # whose years depend on the clock of this machine: below
             self.assertEqual(found.out.partition('\nThe process')[0], asked, name)
@@ -264,10 +264,10 @@ class Logs(Tools):
         journal = of_journal(FORMATS['short-iso'])
         systemd = f'{utc(START + 60):%Y-%m-%dT%H:%M:%S+0000} box systemd[1]: Started bayctl.service'
         text = f'{systemd}\n{journal}-- Boot 0123 --\n{systemd}\n'
-        found = self.told('-', given=text)
+        found = self.run_log('-', given=text)
         self.assertEqual(found.error, 'log: 3 lines of other programs left out\n')
         self.assertNotIn('systemd', found.out)
-        found = self.told('-', '--also', 'systemd', given=text)
+        found = self.run_log('-', '--also', 'systemd', given=text)
         self.assertIn('10:00:00.000  [systemd[1]] Started bayctl.service', found.out)
         self.assertEqual(found.error, 'log: 1 line of other programs left out\n')
 
@@ -277,9 +277,9 @@ class Logs(Tools):
                              (['--from', '2026-11-28 10:00:01'], 1),
                              (['--to', '2026-11-28 10:00'], 0), (['--to', '2026-11-28'], 0),
                              (['--from', '2026-11-28 09:00', '--to', '2026-11-28 10:00:02'], 1)):
-            found = self.told(*files, *words)
+            found = self.run_log(*files, *words)
             self.assertEqual(found.out.count('operate QB1 open: done'), count, words)
-        found = self.told(*files, '--from', '2026-11-28 10:00:02', '--to', '2026-11-28 10:00:03')
+        found = self.run_log(*files, '--from', '2026-11-28 10:00:02', '--to', '2026-11-28 10:00:03')
         self.assertIn('from 2026-11-28 10:00:02.000Z to 2026-11-28 10:00:03.000Z', found.out)
         self.assertIn('no certificate, from 127.0.0.1: 1 association, 0 done, 0 refused', found.out)
         self.assertIn('a process was lost 1 time, for 0.65 s', found.out)
@@ -288,7 +288,7 @@ class Logs(Tools):
                             (['--from', '2026-11-31'], '2026-11-31 is no time such as'),
                             (['--day', 'today', '--to', '2026-11-28'], '--day goes without --from'),
                             (['--from', '2026-11-28', '--to', '2026-11-28'], 'is not before --to')):
-            self.assertIn(told, self.told(*files, *words, status=2).error)
+            self.assertIn(told, self.run_log(*files, *words, status=2).error)
 
     def test_spans_that_meet(self):
         span = Span(10, 20)
@@ -298,14 +298,14 @@ class Logs(Tools):
 
     def test_several_days_have_dates(self):
         later = f'{DAY + 90_000_000} process closed 0: it ended its connection\n'
-        found = self.told(self.file('server', SERVER + later))
+        found = self.run_log(self.file('server', SERVER + later))
         self.assertIn('2026-11-29 01:00:00.000Z  the process\'s connection is closed (0)',
                       found.out)
         self.assertIn('and it has not come back 1 time', found.out)
 
     def test_the_page(self):
         out = self.folder / 'day.html'
-        self.assertEqual(self.told(*self.both(), '--html', out).out, '')
+        self.assertEqual(self.run_log(*self.both(), '--html', out).out, '')
         text = out.read_text()
         parser = Balanced()
         parser.feed(text)
@@ -316,26 +316,26 @@ class Logs(Tools):
             self.assertIn(told, text)
         self.assertNotIn('<b>', text)
         line = f'{utc(START):%Y-%m-%dT%H:%M:%S+0000} box odd[1]: <span class="x">\n'
-        self.told('-', '--also', 'odd', '--html', out, given=line)
+        self.run_log('-', '--also', 'odd', '--html', out, given=line)
         self.assertIn('&lt;span class=&quot;x&quot;&gt;', out.read_text())
-        empty = self.told(*self.both(), '--html', out, '--day', '2026-11-01')
+        empty = self.run_log(*self.both(), '--html', out, '--day', '2026-11-01')
         self.assertEqual(out.read_text().count('Nobody.'), 2, empty)
 
     def test_what_can_not_be_read(self):
-        self.assertEqual(self.told('none', status=3).error,
+        self.assertEqual(self.run_log('none', status=3).error,
                          'log: none: No such file or directory\n')
         odd = self.file('odd', b'\xff\x1b[2J\n{"a": 1}\n{' + b'[' * 5000 + b'\n')
-        found = self.told(odd, status=3)
+        found = self.run_log(odd, status=3)
         self.assertTrue(found.error.endswith('no line of bayctl or stunnel\n'), found.error)
-        found = self.told(*self.both(), '--html', self.folder / 'no' / 'x.html', status=3)
+        found = self.run_log(*self.both(), '--html', self.folder / 'no' / 'x.html', status=3)
         self.assertIn('there is no folder', found.error)
 
     def test_what_is_missing(self):
         server, out, gate = self.both()
-        self.assertIn('bayctl was started without --log', self.told(out).error)
-        self.assertIn('no line of bayctl: what was asked is not told', self.told(gate).error)
+        self.assertIn('bayctl was started without --log', self.run_log(out).error)
+        self.assertIn('no line of bayctl: what was asked is not told', self.run_log(gate).error)
         late = self.file('late', SERVER.replace('T10:', 'T12:'))
-        found = self.told(late, gate)
+        found = self.run_log(late, gate)
         self.assertIn('1 connection that stunnel let in fits no association', found.error)
         self.assertNotIn('CN=operator: 1 association', found.out)
 
@@ -343,35 +343,35 @@ class Logs(Tools):
 class Joins(Tools):
     """Which connection an association is joined with."""
 
-    def joined(self, server, gate):
+    def who_asked(self, server, gate):
         found = self.call_tool('log', self.file('server', server), self.file('door', gate))
         return found.out.partition('Who asked\n')[2].partition('\n\n')[0]
 
     def test_a_port_that_is_used_again(self):
         again = SERVER + f'{START + 60_000} association 1 open from 127.0.0.1:56620\n'
         other = DOOR.replace('10:00:0', '10:01:0').replace('CN=operator', 'CN=panel')
-        found = self.joined(again, DOOR + other)
+        found = self.who_asked(again, DOOR + other)
         self.assertIn('CN=operator: 1 association, 1 done, 1 refused', found)
         self.assertIn('CN=panel: 1 association, 0 done, 0 refused', found)
         local = SERVER + f'{START + 9_000} association 1 open from 127.0.0.1:56620\n'
-        self.assertIn('no certificate, from 127.0.0.1: 2 associations', self.joined(local, DOOR))
+        self.assertIn('no certificate, from 127.0.0.1: 2 associations', self.who_asked(local, DOOR))
 
     def test_another_server(self):
         """A port of this machine that is used toward another server is not meant."""
-        self.assertNotIn('CN=operator', self.joined(SERVER, DOOR.replace(':10102', ':10202')))
+        self.assertNotIn('CN=operator', self.who_asked(SERVER, DOOR.replace(':10102', ':10202')))
 
     def test_a_clock_that_is_apart(self):
         shift = f'{START + 10} the system\'s clock is 20000 ms ahead\n'
         moved = DOOR.replace('10:00:0', '10:00:2')
-        self.assertNotIn('CN=operator', self.joined(SERVER, moved))
+        self.assertNotIn('CN=operator', self.who_asked(SERVER, moved))
         lines = SERVER.splitlines(keepends=True)
-        self.assertIn('CN=operator: 1', self.joined(''.join(lines[:8] + [shift] + lines[8:]),
-                                                    moved))
+        self.assertIn('CN=operator: 1', self.who_asked(''.join(lines[:8] + [shift] + lines[8:]),
+                                                       moved))
 
     def test_a_log_that_begins_late(self):
         late = ''.join(SERVER.splitlines(keepends=True)[15:])
         self.assertIn('unknown: its opening is not in the log: 1 association, 1 done, 1 refused',
-                      self.joined(late, DOOR))
+                      self.who_asked(late, DOOR))
 
     def test_a_server_that_starts_again(self):
         """Its associations are new ones, though it never told the ends of the old ones."""
@@ -380,7 +380,7 @@ class Joins(Tools):
                           f'{START + 9100} association 3 operate QA1 on orCat=2 orIdent= ctlNum=0: '
                           'done\n')
         self.assertIn('unknown: its opening is not in the log: 1 association, 1 done',
-                      self.joined(again, DOOR))
+                      self.who_asked(again, DOOR))
 
 
 class Lines(unittest.TestCase):

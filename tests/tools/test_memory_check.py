@@ -116,7 +116,7 @@ class OfTheSources(unittest.TestCase):
 class OfBodies(unittest.TestCase):
     """Bodies of a function alone."""
 
-    def found(self, body: str) -> list[memory.Finding]:
+    def findings_in(self, body: str) -> list[memory.Finding]:
         """What is found in a function with this body."""
         return memory.findings('a/src/lib.rt', 'fn f() -> Result<(), AllocError>\n'
                                '    ensures { result ≡ Err AllocError }\n{ ' + body + ' }\n')
@@ -124,12 +124,12 @@ class OfBodies(unittest.TestCase):
     def test_ways_around_are_found(self) -> None:
         for body in AROUND:
             with self.subTest(body):
-                self.assertNotEqual([], self.found(body))
+                self.assertNotEqual([], self.findings_in(body))
 
     def test_handing_on_is_allowed(self) -> None:
         for body in HANDED:
             with self.subTest(body):
-                self.assertEqual([], self.found(body))
+                self.assertEqual([], self.findings_in(body))
 
     def test_only_the_fault_of_std_is_converted(self) -> None:
         body = ' for F { fn from(_: X) -> F { F::OutOfMemory } }'

@@ -18,7 +18,7 @@ class Telling(Driven):
     """What the server is told."""
 
     def test_first_values(self):
-        self.good()
+        self.wait_until_good()
         told = self.server.told
         self.assertEqual(told[0], 'bay - E1 2 b')
         self.assertEqual(told[-1], 'input OK 1')
@@ -26,76 +26,76 @@ class Telling(Driven):
         self.assertTrue(all(-5 <= here - then <= MS for then, here in self.server.moments))
 
     def test_contacts_of_no_end_and_of_both(self):
-        self.good()
+        self.wait_until_good()
         for bits, value in (((False, False), '0'), ((True, True), '3'), ((False, True), '2')):
             self.module.contacts[:2] = bits
-            self.is_told({'contact QA1': value})
+            self.wait_for_values({'contact QA1': value})
 
     def test_what_blocks_is_told_first(self):
-        self.good()
+        self.wait_until_good()
         self.server.told.clear()
         self.module.contacts[:5] = [False, True, False, False, True]
-        self.is_told({'contact QA1': '2', 'contact QC1': '2', 'input ES': '0'})
+        self.wait_for_values({'contact QA1': '2', 'contact QC1': '2', 'input ES': '0'})
         self.assertLess(self.server.told.index('input ES 0'),
                         self.server.told.index('contact QA1 2'))
 
     def test_a_line_has_the_time_of_its_reading(self):
         """A module that is slow makes no line of it look new."""
-        self.good()
+        self.wait_until_good()
         self.module.contacts[0] = False
-        self.module.asked = lambda function: time.sleep(0.1 if function == 4 else 0)
-        self.is_told({'contact QA1': '0'})
+        self.module.on_request = lambda function: time.sleep(0.1 if function == 4 else 0)
+        self.wait_for_values({'contact QA1': '0'})
         then, here = self.server.moments[self.server.told.index('contact QA1 0')]
         self.assertGreater(here - then, 90)
 
     def test_no_time_goes_back(self):
         """The driver says that it lives while a slow module is read."""
-        self.good()
-        self.module.asked = lambda function: time.sleep(0.25 if function == 4 else 0)
+        self.wait_until_good()
+        self.module.on_request = lambda function: time.sleep(0.25 if function == 4 else 0)
         for at in range(8):
             self.module.contacts[0] = bool(at % 2)
-            self.is_told({'contact QA1': str(at % 2)})
+            self.wait_for_values({'contact QA1': str(at % 2)})
         self.assertEqual((self.server.went_back, self.server.count), ([], 1))
 
     def test_a_measure_out_of_its_range(self):
-        self.good()
+        self.wait_until_good()
         self.module.registers[0] = 101
-        self.is_told({'measure M1 AA': 'bad', 'input OK': '1'})
+        self.wait_for_values({'measure M1 AA': 'bad', 'input OK': '1'})
         self.module.registers[0] = 100
-        self.is_told({'measure M1 AA': '1000'})
+        self.wait_for_values({'measure M1 AA': '1000'})
 
     def test_data_that_stand_still(self):
-        self.good()
+        self.wait_until_good()
         self.module.stands = True
-        self.is_told(LOST)
+        self.wait_for_values(LOST)
         self.wait_for_lines('its counter 9 stands still')
         self.module.stands = False
-        self.good()
+        self.wait_until_good()
 
     def test_settings_that_a_module_does_not_keep(self):
-        self.good()
+        self.wait_until_good()
         self.module.holding = type('Deaf', (dict,), {'__setitem__': lambda *it: None})()
-        self.module.cut()
+        self.module.end_connections()
         self.wait_for_lines('register 4384 does not keep 400')
-        self.is_told(LOST)
+        self.wait_for_values(LOST)
 
     def test_magnets_follow_the_releases(self):
-        self.good()
+        self.wait_until_good()
         self.wait_for_lines('the server tells of no releases, so all magnets stay blocked')
         self.server.send_releases('QA1=11', 'QC1=10')
         time.sleep(0.1)
         self.assertFalse(self.module.coils[2])  # (it is open, and may not be closed)
         self.server.send_releases('QC1=01')
-        self.waits(lambda: self.module.coils[2])
+        self.wait_until(lambda: self.module.coils[2])
         self.server.drop()
-        self.waits(lambda: not self.module.coils[2])
+        self.wait_until(lambda: not self.module.coils[2])
 
     def test_another_bay(self):
-        self.server.ends()
+        self.server.end()
         other = FakeServer('E2 2 b')
         self.addCleanup(other.ends)
         self.server.port = other.port
-        self.starts()
+        self.start_driver()
         self.assertEqual(self.run.wait(10), 1)
         self.wait_for_lines('the server has bay E2, revision 2 b, the bay file E1, 2 b')
         self.assertFalse(other.told)
@@ -117,35 +117,35 @@ class Commands(Driven):
     """What is done for a command."""
 
     def test_a_command(self):
-        self.begins()
+        self.begin_pulse()
         self.assertEqual(self.module.coils[:2], [False, True])
         self.module.contacts[:2] = [False, True]
-        self.is_told({'contact QA1': '2'})
-        self.assertTrue(PULSE - 50 < self.lasted() < 3 * PULSE, self.lasted())
+        self.wait_for_values({'contact QA1': '2'})
+        self.assertTrue(PULSE - 50 < self.pulse_length() < 3 * PULSE, self.pulse_length())
         self.wait_for_lines('QA1 close: done after')
-        self.is_pulsed_once()
+        self.check_one_pulse()
 
     def test_the_time_of_an_operate_is_over(self):
-        self.begins()
+        self.begin_pulse()
         self.server.send_lines('over QA1')
-        self.assertLess(self.lasted(), PULSE)
+        self.assertLess(self.pulse_length(), PULSE)
         self.wait_for_lines('QA1 close: not done after')
         self.server.send_lines('command QA1 off', 'over QA1')
         self.wait_for_lines('QA1 open is not carried out: its time is over')
-        self.is_pulsed_once()
+        self.check_one_pulse()
         self.assertEqual(self.pulses(OPEN), [])
 
     def test_two_commands_at_once(self):
-        self.good()
+        self.wait_until_good()
         self.server.send_lines('command QA1 on', 'command QA1 off', 'command QA1 on')
         self.wait_for_lines('QA1 open is not carried out: another command of it has not ended')
-        self.waits(lambda: self.pulses(CLOSE))
-        self.all_off()
-        self.is_pulsed_once()
+        self.wait_until(lambda: self.pulses(CLOSE))
+        self.wait_until_off()
+        self.check_one_pulse()
         self.assertEqual(self.pulses(OPEN), [])
 
     def test_commands_that_are_too_old_or_mean_nothing(self):
-        self.good()
+        self.wait_until_good()
         self.server.send_lines('command QA1 on', ahead=-MS - 50)
         for line in ('command QB9 on', 'command QC1 on', 'command QA1 up', 'x command'):
             self.server.send_lines(line)
@@ -155,7 +155,7 @@ class Commands(Driven):
         self.assertEqual(self.pulses(CLOSE) + self.pulses(OPEN), [])
 
     def test_a_switch_at_local(self):
-        self.good()
+        self.wait_until_good()
         self.module.contacts[6] = False
         time.sleep(0.1)
         self.server.send_lines('command QA1 on')
@@ -163,37 +163,37 @@ class Commands(Driven):
         self.assertEqual(self.pulses(CLOSE), [])
 
     def test_a_key_that_is_turned_within_a_pulse(self):
-        self.begins()
+        self.begin_pulse()
         self.module.contacts[6] = False
-        self.assertLess(self.lasted(), PULSE)
+        self.assertLess(self.pulse_length(), PULSE)
 
     def test_a_command_of_another_connection(self):
         """It came before the connection was lost, and its module was asked meanwhile."""
-        self.good()
+        self.wait_until_good()
 
-        def asked(function):
-            if function == 1 and 'command QA1' in self.printed():
-                self.module.asked = lambda function: None
+        def drop_connection(function):
+            if function == 1 and 'command QA1' in self.printed_text():
+                self.module.on_request = lambda function: None
                 self.server.drop()
                 time.sleep(0.1)
 
-        self.module.asked = asked
+        self.module.on_request = drop_connection
         self.server.send_lines('command QA1 on')
         self.wait_for_lines('QA1 close is not carried out: the connection on which it came is lost')
-        self.waits(lambda: self.server.count == 2)
-        self.good()
+        self.wait_until(lambda: self.server.count == 2)
+        self.wait_until_good()
         self.assertEqual(self.pulses(CLOSE), [])
 
     def test_the_coil_of_the_other_way_is_on(self):
         """Another master holds it: nothing begins until it is off, and both are never on."""
-        self.good()
+        self.wait_until_good()
         self.module.exception_of_writes = 6
         self.module.coils[OPEN] = True
-        self.is_told({'contact QA1': '3'})
+        self.wait_for_values({'contact QA1': '3'})
         self.server.send_lines('command QA1 on')
         self.wait_for_lines('QA1 close is not carried out: module io is not heard')
         self.module.exception_of_writes = 0
-        self.all_off()
+        self.wait_until_off()
         self.assertEqual((self.pulses(CLOSE), self.module.both), ([], False))
 
 
@@ -204,9 +204,9 @@ class TrueBlocks(Driven):
 
     def test_a_module_that_is_lost(self):
         self.module.contacts[2] = False
-        self.is_told({**GOOD, 'input ES': '0'})
-        self.module.stops()
-        self.is_told({**LOST, 'input ES': '1'})
+        self.wait_for_values({**GOOD, 'input ES': '0'})
+        self.module.stop()
+        self.wait_for_values({**LOST, 'input ES': '1'})
         self.wait_for_lines('; till it is heard the server is told ES TRUE')
 
 
@@ -216,38 +216,38 @@ class ReleasesOfDisconnector(Driven):
     kind = 'disconnector'
 
     def test_a_release_that_has_gone(self):
-        self.good()
+        self.wait_until_good()
         self.server.send_releases('QA1=10', 'QC1=00')
         self.server.send_lines('command QA1 on')
         self.wait_for_lines('QA1 close is not carried out: its release has gone')
         self.server.send_lines('command QA1 off')
-        self.waits(lambda: self.pulses(OPEN))
-        self.all_off()
+        self.wait_until(lambda: self.pulses(OPEN))
+        self.wait_until_off()
         self.assertEqual(self.pulses(CLOSE), [])
 
     def test_a_release_that_goes_before_the_coil_is_on(self):
-        self.good()
+        self.wait_until_good()
         self.server.send_releases('QA1=11', 'QC1=00')
-        self.module.asked = lambda function: time.sleep(0.1 if function == 1 else 0)
+        self.module.on_request = lambda function: time.sleep(0.1 if function == 1 else 0)
         self.server.send_lines('command QA1 on')
         self.server.send_releases('QA1=10')
         self.wait_for_lines('QA1 close is not carried out: its release has gone')
         self.assertEqual(self.pulses(CLOSE), [])
 
     def test_a_release_that_goes_within_a_pulse(self):
-        self.good()
+        self.wait_until_good()
         self.server.send_releases('QA1=11', 'QC1=00')
-        self.begins()
+        self.begin_pulse()
         self.server.send_releases('QA1=10')
-        self.assertLess(self.lasted(), PULSE / 2)
+        self.assertLess(self.pulse_length(), PULSE / 2)
         self.wait_for_lines('QA1 close: its release has gone, so its pulse ends', 'not done after')
 
     def test_a_release_of_the_other_way_goes(self):
-        self.good()
+        self.wait_until_good()
         self.server.send_releases('QA1=11', 'QC1=00')
-        self.begins()
+        self.begin_pulse()
         self.server.send_releases('QA1=01', 'QC1=11')
-        self.assertGreater(self.lasted(), PULSE - 50)
+        self.assertGreater(self.pulse_length(), PULSE - 50)
 
 
 @needs_loopback
@@ -255,18 +255,18 @@ class ReleasesOfBreaker(Driven):
     """A server that tells of releases, and a breaker."""
 
     def test_a_release_that_has_gone(self):
-        self.good()
+        self.wait_until_good()
         self.server.send_releases('QA1=10', 'QC1=00')
         self.server.send_lines('command QA1 on')
         self.wait_for_lines('QA1 close is not carried out: its release has gone')
         self.assertEqual(self.pulses(CLOSE), [])
 
     def test_a_release_that_goes_within_a_pulse(self):
-        self.good()
+        self.wait_until_good()
         self.server.send_releases('QA1=11', 'QC1=00')
-        self.begins()
+        self.begin_pulse()
         self.server.send_releases('QA1=00')
-        self.assertGreater(self.lasted(), PULSE - 50)
+        self.assertGreater(self.pulse_length(), PULSE - 50)
 
 
 @needs_loopback
@@ -275,17 +275,17 @@ class UntilPosition(Driven):
     changes = [(f'pulse_ms = {PULSE}', 'pulse = "position"')]
 
     def test_a_pulse_until_the_position(self):
-        self.begins()
+        self.begin_pulse()
         time.sleep(0.2)
         self.assertTrue(self.module.coils[CLOSE])
         self.module.contacts[:2] = [False, True]
-        self.assertLess(self.lasted(), TRAVEL - 100)
+        self.assertLess(self.pulse_length(), TRAVEL - 100)
 
     def test_a_position_that_does_not_come(self):
-        self.begins()
-        self.assertGreater(self.lasted(), TRAVEL - 50)
+        self.begin_pulse()
+        self.assertGreater(self.pulse_length(), TRAVEL - 50)
         self.wait_for_lines('QA1 close: not done after')
-        self.is_pulsed_once()
+        self.check_one_pulse()
 
 
 @needs_loopback
@@ -294,14 +294,14 @@ class Patient(Driven):
     changes = [(f'timeout_ms = {TIMEOUT}', f'timeout_ms = {MS - 20}')]
 
     def test_a_module_that_answers_later_than_a_command_may_be_old(self):
-        self.good()
+        self.wait_until_good()
 
-        def asked(function):
-            if function == 1 and 'command QA1' in self.printed():
-                self.module.asked = lambda function: None
+        def answer_late(function):
+            if function == 1 and 'command QA1' in self.printed_text():
+                self.module.on_request = lambda function: None
                 time.sleep(0.75 * MS / 1000)
 
-        self.module.asked = asked
+        self.module.on_request = answer_late
         self.server.send_lines('command QA1 on', ahead=-MS // 2)
         self.wait_for_lines('QA1 close is not carried out: it is ')
         self.assertEqual(self.pulses(CLOSE), [])
@@ -324,232 +324,232 @@ class Faults(Driven):
     """What can happen to a module, to the driver and to the server."""
 
     def test_a_module_that_ends_in_a_pulse_and_comes_again(self):
-        self.begins()
-        self.module.stops()
-        self.is_told(LOST)
+        self.begin_pulse()
+        self.module.stop()
+        self.wait_for_values(LOST)
         self.assertEqual(self.server.told[-5:][0], 'input OK 0')
         again = Counting(self.port)
         self.sets_up(again)
         again.coils[CLOSE] = again.coils[2] = True
         self.module = again
-        self.good()
+        self.wait_until_good()
         self.assertEqual([it[:2] for it in again.written[:3]],
                          [(OPEN, False), (CLOSE, False), (2, False)])
         self.assertEqual(self.pulses(CLOSE), [])
 
     def test_a_module_that_is_silent(self):
-        self.good()
+        self.wait_until_good()
         self.module.is_silent = True
-        self.is_told(LOST)
+        self.wait_for_values(LOST)
         self.server.send_lines('command QA1 on')
         self.wait_for_lines(f'no answer within {TIMEOUT} ms',
                             'QA1 close is not carried out: module io is not heard')
         self.module.is_silent = False
-        self.good()
+        self.wait_until_good()
         self.assertEqual(self.pulses(CLOSE), [])
 
     def test_a_module_that_is_silent_in_a_pulse(self):
-        self.begins()
+        self.begin_pulse()
         self.module.is_silent = True
-        self.is_told(LOST)
+        self.wait_for_values(LOST)
         self.assertTrue(self.module.coils[CLOSE])  # (nobody can end it but its own watchdog)
         self.module.is_silent = False
-        self.all_off()
-        self.good()
-        self.is_pulsed_once()
+        self.wait_until_off()
+        self.wait_until_good()
+        self.check_one_pulse()
 
     def test_a_write_that_is_done_late(self):
         """All of the module is bad for its doubt_ms, and the late pulse is cut."""
-        self.good()
+        self.wait_until_good()
         self.module.late = 1.5 * TIMEOUT / 1000
         self.server.send_lines('command QA1 on')
-        self.is_told(LOST)
+        self.wait_for_values(LOST)
         lost = time.monotonic()
         self.wait_for_lines('the write of coil 1 may be done late')
-        self.waits(lambda: self.pulses(CLOSE), 'the late pulse')
-        self.assertLess(self.lasted(), PULSE)
-        self.good()
+        self.wait_until(lambda: self.pulses(CLOSE), 'the late pulse')
+        self.assertLess(self.pulse_length(), PULSE)
+        self.wait_until_good()
         self.assertGreater(1000 * (time.monotonic() - lost), DOUBT - 200)
-        self.is_pulsed_once()
+        self.check_one_pulse()
 
     def test_a_write_that_is_done_late_while_all_coils_are_switched_off(self):
         """A connection begins with all coils off. One that comes on between the writes and the
         look at them is off at once, and not only by the next connection."""
-        self.good()
-        look = self.module.asked
+        self.wait_until_good()
+        look = self.module.on_request
 
-        def late(function):
+        def switch_on_late(function):
             if function == 1 and self.module.written and self.module.written[-1][1] is False:
-                self.module.asked = look
-                self.module.put(CLOSE, True)
+                self.module.on_request = look
+                self.module.put_coil(CLOSE, True)
 
         self.module.written.clear()
-        self.module.asked = late
-        self.module.cut()
-        self.waits(lambda: self.pulses(CLOSE), 'the late pulse')
-        self.assertLess(self.lasted(), PULSE / 2)
+        self.module.on_request = switch_on_late
+        self.module.end_connections()
+        self.wait_until(lambda: self.pulses(CLOSE), 'the late pulse')
+        self.assertLess(self.pulse_length(), PULSE / 2)
         self.wait_for_lines(f'coil {CLOSE} was written off, and is on')
-        self.good()
+        self.wait_until_good()
 
     def test_a_module_that_refuses(self):
-        self.good()
+        self.wait_until_good()
         self.module.exception = 4
-        self.is_told(LOST)
+        self.wait_for_values(LOST)
         self.wait_for_lines('exception 4: server device failure')
         self.module.exception = 0
-        self.good()
+        self.wait_until_good()
 
     def test_a_module_that_refuses_to_end_a_pulse(self):
         """It is tried until it is done, and all of the module is bad meanwhile."""
-        self.begins()
+        self.begin_pulse()
         self.module.exception_of_writes = 4
-        self.is_told(LOST)
+        self.wait_for_values(LOST)
         time.sleep(0.2)
         self.assertTrue(self.module.coils[CLOSE])
         self.module.exception_of_writes = 0
-        self.all_off()
-        self.good()
-        self.is_pulsed_once()
+        self.wait_until_off()
+        self.wait_until_good()
+        self.check_one_pulse()
         self.nobodys_coil()
 
     def nobodys_coil(self):
         """The coil of a pulse that failed belongs to nobody: it is off if it comes on again."""
         self.module.coils[CLOSE] = True
-        self.all_off()
-        self.good()
+        self.wait_until_off()
+        self.wait_until_good()
 
     def test_a_module_that_is_silent_at_the_end_of_a_pulse(self):
         """The next connection ends it."""
-        self.begins()
+        self.begin_pulse()
         self.module.is_silent = True
-        self.is_told(LOST)
+        self.wait_for_values(LOST)
         time.sleep(2 * (PULSE + TIMEOUT) / 1000)
         self.module.is_silent = False
-        self.all_off()
-        self.good()
+        self.wait_until_off()
+        self.wait_until_good()
         self.nobodys_coil()
 
     def test_a_module_that_refuses_to_begin_a_pulse(self):
-        self.good()
+        self.wait_until_good()
         for exception, is_doubted in ((6, False), (11, True)):
             self.module.exception_of_writes = exception
             self.server.send_lines('command QA1 on')
             self.wait_for_lines(f'QA1 close fails: exception {exception}')
             self.module.exception_of_writes = 0
-            self.assertEqual('may be done late' in self.printed(), is_doubted)
-        self.is_told(LOST)
-        self.good()
+            self.assertEqual('may be done late' in self.printed_text(), is_doubted)
+        self.wait_for_values(LOST)
+        self.wait_until_good()
         self.assertEqual(self.pulses(CLOSE), [])
         self.nobodys_coil()
 
     def test_a_coil_that_does_not_come_on(self):
-        self.good()
-        self.module.put = lambda coil, value: None
+        self.wait_until_good()
+        self.module.put_coil = lambda coil, value: None
         self.server.send_lines('command QA1 on')
         self.wait_for_lines('QA1 close fails: coil 1 reads 0 and coil 0 0 within a pulse of the '
                             'first')
-        self.is_told(LOST)
-        del self.module.put
-        self.good()
+        self.wait_for_values(LOST)
+        del self.module.put_coil
+        self.wait_until_good()
 
     def test_a_coil_that_another_master_switches_on(self):
-        self.good()
+        self.wait_until_good()
         self.module.coils[CLOSE] = True
-        self.all_off()
-        self.is_told({'contact QA1': '3'})
+        self.wait_until_off()
+        self.wait_for_values({'contact QA1': '3'})
         self.wait_for_lines('coil 1 was on, and nobody here had asked for it: it is switched off')
-        self.good()
+        self.wait_until_good()
         self.module.coils[2] = True
-        self.all_off()
+        self.wait_until_off()
 
     def test_a_coil_that_another_master_switches_on_in_a_pulse(self):
         """Both coils are off at once."""
-        self.begins()
+        self.begin_pulse()
         self.module.coils[OPEN] = True
-        self.all_off()
-        self.assertLess(self.lasted(), PULSE)
-        self.good()
-        self.is_pulsed_once()
+        self.wait_until_off()
+        self.assertLess(self.pulse_length(), PULSE)
+        self.wait_until_good()
+        self.check_one_pulse()
 
     def test_a_driver_that_is_killed_in_a_pulse(self):
         """The next one begins with all coils off, and repeats nothing."""
-        self.begins()
+        self.begin_pulse()
         self.run.kill()
         self.run.wait()
         self.assertTrue(self.module.coils[CLOSE])
-        self.starts()
-        self.all_off()
-        self.good()
-        self.is_pulsed_once()
+        self.start_driver()
+        self.wait_until_off()
+        self.wait_until_good()
+        self.check_one_pulse()
 
     def test_off(self):
-        self.begins()
+        self.begin_pulse()
         self.run.kill()
         self.run.wait()
         done = subprocess.run(self.words('--off'), capture_output=True, text=True)
         self.assertEqual((done.returncode, any(self.module.coils)), (0, False))
         self.assertIn('module io: all coils are off', done.stdout)
-        self.module.stops()
+        self.module.stop()
         done = subprocess.run(self.words('--off'), capture_output=True, text=True)
         self.assertEqual(done.returncode, 3)
         self.assertIn('module io: its coils may be on: no connection', done.stdout)
         self.module = Counting(self.port)
 
     def test_a_driver_that_is_ended_in_a_pulse(self):
-        self.begins()
+        self.begin_pulse()
         self.run.send_signal(signal.SIGTERM)
         self.assertEqual((self.run.wait(10), any(self.module.coils)), (130, False))
         self.wait_for_lines('module io: all coils are off')
 
     def test_a_driver_that_stands_still(self):
         """It carries out no command that it slept through."""
-        self.good()
+        self.wait_until_good()
         self.run.send_signal(signal.SIGSTOP)
         self.server.send_lines('command QA1 on')
         time.sleep(2 * MS / 1000)
         self.run.send_signal(signal.SIGCONT)
         self.wait_for_lines('QA1 close is not carried out: it is')
-        self.good()
+        self.wait_until_good()
         self.assertEqual(self.pulses(CLOSE), [])
 
     def test_a_driver_that_stands_still_while_it_asks(self):
-        self.good()
+        self.wait_until_good()
         is_over = threading.Event()
 
-        def asked(function):
-            if function == 1 and 'command QA1' in self.printed():
-                self.module.asked = lambda function: None
+        def stop_for_a_while(function):
+            if function == 1 and 'command QA1' in self.printed_text():
+                self.module.on_request = lambda function: None
                 self.run.send_signal(signal.SIGSTOP)
                 time.sleep(2 * MS / 1000)
                 self.run.send_signal(signal.SIGCONT)
                 is_over.set()
 
-        self.module.asked = asked
+        self.module.on_request = stop_for_a_while
         self.server.send_lines('command QA1 on')
         self.assertTrue(is_over.wait(10))
         self.wait_for_lines('QA1 close ')
-        self.good()
+        self.wait_until_good()
         self.assertEqual(self.pulses(CLOSE), [])
 
     def test_a_server_that_ends_in_a_pulse(self):
         """The pulse ends in its time, and the next server is told all."""
-        self.begins()
+        self.begin_pulse()
         self.server.drop()
-        self.all_off()
-        self.waits(lambda: self.server.count == 2)
-        self.good()
-        self.is_pulsed_once()
+        self.wait_until_off()
+        self.wait_until(lambda: self.server.count == 2)
+        self.wait_until_good()
+        self.check_one_pulse()
 
     def test_a_server_that_stands_still(self):
         """The driver takes it for lost: magnets block, and another connection is begun."""
-        self.good()
+        self.wait_until_good()
         self.server.send_releases('QC1=01')
-        self.waits(lambda: self.module.coils[2])
+        self.wait_until(lambda: self.module.coils[2])
         self.server.is_frozen = True
-        self.waits(lambda: not self.module.coils[2], seconds=3 * MS / 1000)
+        self.wait_until(lambda: not self.module.coils[2], seconds=3 * MS / 1000)
         self.wait_for_lines(f'the server has not said for {MS} ms that it lives')
         self.server.is_frozen = False
-        self.good()
+        self.wait_until_good()
 
 
 if __name__ == '__main__':

@@ -34,7 +34,7 @@ from devtools.served import until
 from tests.tool import Tools, interruptible, zone
 from tests.tools.loopback import needs_loopback
 from tests.tools.test_audit import FILE
-from tests.tools.test_client import Bay, served
+from tests.tools.test_client import Bay, serve_once
 from tests.tools.test_same_bay import FILE as BAY, Model
 
 QA1, QC1 = (Variable(name, ('intermediate', 'open', 'closed', 'bad')) for name in ('QA1', 'QC1'))
@@ -225,7 +225,7 @@ class Operating(unittest.TestCase):
         found = self.operator.act(verb, switch, way, page, late)
         return found['good'], found['told']
 
-    def said_to_server(self):
+    def record_requests(self):
         """What goes to the server from now on."""
         said = []
         for verb in ('select', 'operate', 'cancel', 'position_bits'):
@@ -235,7 +235,7 @@ class Operating(unittest.TestCase):
             setattr(self.kind, verb, act)
         return said
 
-    def reads(self, position, selected=True):
+    def read_position(self, position, selected=True):
         for act in self.watcher.on_read:
             act([{'id': 'QA1', 'position': position, 'selected': selected},
                  {'id': 'QC1', 'position': 'open', 'selected': False}])
@@ -244,9 +244,9 @@ class Operating(unittest.TestCase):
         self.assertEqual(self.act('select'), (True, 'select QA1: said'))
         self.assertEqual(self.watcher.state['control']['stage'], 'selected')
         self.assertEqual(self.act('operate'), (True, 'operate QA1 open: the command is given'))
-        self.reads('intermediate', False)
+        self.read_position('intermediate', False)
         self.assertEqual(self.watcher.state['control']['stage'], 'moving')
-        self.reads('open', False)
+        self.read_position('open', False)
         self.assertIsNone(self.watcher.state['control'])
         self.assertEqual(self.watcher.state['last'],
                          {'good': True, 'told': 'operate QA1 open has ended: done', 'number': 1})
@@ -300,7 +300,7 @@ class Operating(unittest.TestCase):
 
     def test_an_operate_that_is_too_late_is_not_sent(self):
         """Whatever the server makes wait, waits before that is judged."""
-        said = self.said_to_server()
+        said = self.record_requests()
         self.act('select')
         found = self.act('operate', late=lambda: 'x' * ('position_bits' in said))
         self.assertEqual(found, (False, 'operate QA1 open is not done: x'))
@@ -309,7 +309,7 @@ class Operating(unittest.TestCase):
         self.assertEqual(self.watcher.events[-1]['kind'], 'refused')
 
     def test_a_select_that_is_given_up_while_it_waits(self):
-        said = self.said_to_server()
+        said = self.record_requests()
         found = self.act('select', late=lambda: 'x' * ('select' in said))
         self.assertEqual(found, (False, 'select QA1 open is not done: x'))
         self.assertEqual(said, ['select', 'cancel'])
@@ -319,7 +319,7 @@ class Operating(unittest.TestCase):
         self.assertEqual(said, ['select', 'cancel'])
 
     def test_a_page_that_is_gone_selects_and_operates_nothing(self):
-        said = self.said_to_server()
+        said = self.record_requests()
         self.act('select')
         self.operator.pages.clear()
         self.assertEqual(self.act('operate'),
@@ -349,17 +349,17 @@ class Operating(unittest.TestCase):
     def test_a_control_without_select_that_is_not_confirmed(self):
         self.kind.model = 1
         self.assertEqual(self.act('select'), (True, 'QA1 needs no select'))
-        self.reads('closed', False)
+        self.read_position('closed', False)
         self.assertIsNotNone(self.watcher.state['control'])
         self.operator.end = 0
-        self.reads('closed', False)
+        self.read_position('closed', False)
         self.assertIn('it was not confirmed', self.watcher.state['last']['told'])
 
     def test_a_select_that_runs_out(self):
         self.act('select')
-        self.reads('closed')
+        self.read_position('closed')
         self.assertIsNotNone(self.watcher.state['control'])
-        self.reads('closed', False)
+        self.read_position('closed', False)
         self.assertEqual(self.watcher.state['last']['told'],
                          'operate QA1 open: the selection has run out')
 
@@ -367,7 +367,7 @@ class Operating(unittest.TestCase):
         self.kind.enhanced = True
         self.act('select')
         self.act('operate')
-        self.reads('open', False)
+        self.read_position('open', False)
         self.assertIsNotNone(self.watcher.state['control'])
         self.watcher.on_report(
             Description('ended', '', ['it has ended'], None, 'QA1', 'open', False))
@@ -378,7 +378,7 @@ class Operating(unittest.TestCase):
         self.act('select')
         self.act('operate')
         self.operator.end = 0
-        self.reads('intermediate', False)
+        self.read_position('intermediate', False)
         self.assertEqual(self.watcher.state['last']['told'],
                          'operate QA1 open: it is intermediate, and its time is over')
 
@@ -400,20 +400,20 @@ class Operating(unittest.TestCase):
 
 
 class Events(unittest.TestCase):
-    def told(self, before, after):
+    def change_text(self, before, after):
         old, new = ({way: {'free': free} for way, free in zip(('open', 'close'), it)}
                     for it in (before, after))
         return may_text(old, new)
 
     def test_releases_that_are_gained_and_lost(self):
-        self.assertEqual(self.told((True, True), (True, False)), ['may no longer be closed'])
-        self.assertEqual(self.told((False, False), (True, True)),
+        self.assertEqual(self.change_text((True, True), (True, False)), ['may no longer be closed'])
+        self.assertEqual(self.change_text((False, False), (True, True)),
                          ['may now be opened and closed'])
-        self.assertEqual(self.told((True, False), (False, True)),
+        self.assertEqual(self.change_text((True, False), (False, True)),
                          ['may now be closed', 'may no longer be opened'])
-        self.assertEqual(self.told((True, True), (False, False)),
+        self.assertEqual(self.change_text((True, True), (False, False)),
                          ['may no longer be opened or closed'])
-        self.assertEqual(self.told((True, False), (True, False)), [])
+        self.assertEqual(self.change_text((True, False), (True, False)), [])
 
 
 class Told(unittest.TestCase):
@@ -437,7 +437,7 @@ class Told(unittest.TestCase):
 class Lateness(unittest.TestCase):
     """Whether a request is still to be done."""
 
-    def late(self, made=0, number=1, is_left=False, last=None):
+    def lateness_text(self, made=0, number=1, is_left=False, last=None):
         turns = Turns()
         self.assertTrue(turns.takes('one', number))
         if last:
@@ -447,15 +447,15 @@ class Lateness(unittest.TestCase):
 
     def test_a_request_of_now(self):
         for made in (0, -1500, 100):
-            self.assertEqual(self.late(made), '')
+            self.assertEqual(self.lateness_text(made), '')
 
     def test_an_old_one_and_one_of_a_clock_that_is_ahead(self):
-        self.assertEqual(self.late(-2300), 'it is 2.3 s old')
-        self.assertIn('ahead', self.late(500))
+        self.assertEqual(self.lateness_text(-2300), 'it is 2.3 s old')
+        self.assertIn('ahead', self.lateness_text(500))
 
     def test_one_that_was_given_up(self):
-        self.assertEqual(self.late(last=2), 'it was given up')
-        self.assertEqual(self.late(is_left=True), 'it was given up')
+        self.assertEqual(self.lateness_text(last=2), 'it was given up')
+        self.assertEqual(self.lateness_text(is_left=True), 'it was given up')
 
     def test_the_turns_of_pages(self):
         turns = Turns()
@@ -496,24 +496,24 @@ class Losses(unittest.TestCase):
     OPEN = {'position': 'open', 'quality': 'good', 'moment': 7, 'time': 'T7'}
     UNKNOWN = {'position': 'intermediate', 'quality': 'invalid', 'moment': 0, 'time': ''}
 
-    def told(self, *switches, measures=()):
+    def judge_process(self, *switches, measures=()):
         found = [{'quality': it} for it in measures]
         return is_process_lost(switches, found), process_text(switches, found)
 
     def test_a_process_that_is_lost(self):
         later = {**self.BAD, 'moment': 9, 'time': 'T9'}
         told = 'every position is bad: the process is lost, since T9'
-        self.assertEqual(self.told(self.BAD, later), (True, told))
-        self.assertEqual(self.told(later, measures=['invalid']), (True, told))
-        self.assertEqual(self.told(self.BAD, self.OPEN), (False, ''))
+        self.assertEqual(self.judge_process(self.BAD, later), (True, told))
+        self.assertEqual(self.judge_process(later, measures=['invalid']), (True, told))
+        self.assertEqual(self.judge_process(self.BAD, self.OPEN), (False, ''))
 
     def test_where_nobody_knows(self):
-        self.assertEqual(self.told(self.BAD), (False, 'every position is bad'))
-        self.assertEqual(self.told(self.BAD, self.BAD, measures=['good', 'invalid']),
+        self.assertEqual(self.judge_process(self.BAD), (False, 'every position is bad'))
+        self.assertEqual(self.judge_process(self.BAD, self.BAD, measures=['good', 'invalid']),
                          (False, 'every position is bad'))
-        self.assertEqual(self.told(self.UNKNOWN, self.UNKNOWN),
+        self.assertEqual(self.judge_process(self.UNKNOWN, self.UNKNOWN),
                          (False, 'no position is known yet'))
-        self.assertEqual(self.told(), (False, ''))
+        self.assertEqual(self.judge_process(), (False, ''))
 
     def test_nothing_counts_as_released(self):
         watcher = Watcher(FILE, '', '127.0.0.1', 1)
@@ -538,22 +538,22 @@ class Losses(unittest.TestCase):
 class States(unittest.TestCase):
     """What a client and a panel tell of a refused operate."""
 
-    def told(self, *bits, text=BAY):
+    def state_text(self, *bits, text=BAY):
         model = Model(text)
         for place, it in enumerate(bits, 1):
             model.rows[f'CSWI{place}$ST$Pos$stVal'] = Data(BITS, it)
         nodes = [f'CSWI{place}' for place in range(1, len(bits) + 1)]
-        with served(Bay(model)) as server, mock.patch.object(Client, 'names', lambda it: nodes):
+        with serve_once(Bay(model)) as server, mock.patch.object(Client, 'names', lambda it: nodes):
             with contextlib.closing(Client(*server.getsockname(), Names(text))) as client:
                 return Control(client, 'QA1').state(False)
 
     def test_a_process_that_is_lost(self):
-        self.assertEqual(self.told('11', '11', '11', '11'),
+        self.assertEqual(self.state_text('11', '11', '11', '11'),
                          'every position is bad: the process is lost')
 
     def test_a_switch_that_is_bad(self):
         for bits in (['11', '11', '10', '11'], ['11']):
-            self.assertEqual(self.told(*bits), 'QA1 is bad, may be opened and may be closed')
+            self.assertEqual(self.state_text(*bits), 'QA1 is bad, may be opened and may be closed')
 
     def test_a_key_of_which_no_cause_tells(self):
         told = 'QA1 is closed, may be opened and may be closed'
@@ -561,7 +561,7 @@ class States(unittest.TestCase):
                               ('sbo-enhanced', '')):
             text = BAY.replace('sbo_timeout_ms = 2000\n', 'sbo_timeout_ms = 2000\nremote = "ER"\n')
             text = text.replace('"sbo"', f'"{control}"') + '[[input]]\nname = "ER"\n'
-            self.assertEqual(self.told('10', text=text), told + more)
+            self.assertEqual(self.state_text('10', text=text), told + more)
 
 
 @needs_loopback
@@ -592,7 +592,7 @@ class Web(unittest.TestCase):
         answer = connection.getresponse()
         return answer.status, answer.read().decode()
 
-    def asked(self, **more):
+    def request_body(self, **more):
         """The body of a request of now."""
         return json.dumps({'switch': 'QA1', 'way': 'open', 'page': 'one', 'number': 1,
                            'made': moment(), **more})
@@ -631,7 +631,7 @@ class Web(unittest.TestCase):
 
     def test_another_origin(self):
         pages = self.serve(True)
-        port, body = pages.server_address[1], self.asked()
+        port, body = pages.server_address[1], self.request_body()
         for origin, status in (('http://evil', 403), ('null', 403),
                                (f'http://127.0.0.1:{port}', 200)):
             self.assertEqual(self.ask(pages, 'POST', '/select', body, X_Panel=pages.token,
@@ -661,7 +661,7 @@ class Web(unittest.TestCase):
             self.assertEqual(self.ask(pages, verb, path, '', Host='evil:80')[0], 403)
 
     def test_who_may_control(self):
-        body = self.asked()
+        body = self.request_body()
         pages = self.serve(True)
         self.assertEqual(self.ask(pages, 'POST', '/select', body)[0], 403)
         self.assertEqual(self.ask(pages, 'POST', '/select', body, X_Panel='other'), (
@@ -669,7 +669,8 @@ class Web(unittest.TestCase):
         status, text = self.ask(pages, 'POST', '/select', body, X_Panel=pages.token)
         self.assertEqual((status, json.loads(text)), (200, {
             'good': False, 'told': 'there is no connection to the server'}))
-        for bad in ('', '{}', '[]', '{"switch": 1}', self.asked(made='5'), self.asked(number=1.5)):
+        for bad in ('', '{}', '[]', '{"switch": 1}', self.request_body(made='5'),
+                    self.request_body(number=1.5)):
             self.assertEqual(self.ask(pages, 'POST', '/select', bad, X_Panel=pages.token)[0], 400)
         watched = self.serve(False)
         status, text = self.ask(watched, 'POST', '/select', body, X_Panel=watched.token)
@@ -679,14 +680,14 @@ class Web(unittest.TestCase):
         pages = self.serve(True)
         for path, switch, way in (('/write', 'QA1', 'open'), ('/select', 'QX', 'open'),
                                   ('/select', 'QA1', 'up')):
-            body = self.asked(switch=switch, way=way, page=switch + way)
+            body = self.request_body(switch=switch, way=way, page=switch + way)
             _, text = self.ask(pages, 'POST', path, body, X_Panel=pages.token)
             self.assertEqual(json.loads(text)['told'], 'there is no such control')
 
     def test_a_request_behind_a_later_one(self):
         """As one that was given up, or that a browser sends twice."""
         pages = self.serve(True)
-        told = [json.loads(self.ask(pages, 'POST', path, self.asked(number=number),
+        told = [json.loads(self.ask(pages, 'POST', path, self.request_body(number=number),
                                     X_Panel=pages.token)[1])['told']
                 for path, number in (('/select', 2), ('/operate', 2), ('/operate', 1),
                                      ('/leave', 5), ('/operate', 4))]
@@ -747,7 +748,7 @@ class Stopped(Tools):
                     0xA0, element(0x80, b'LastApplError')))), element(0xA0, octets_of(
                         Data(INTEGER, 5)))))
 
-        with served(Bay(reports)) as server:
+        with serve_once(Bay(reports)) as server:
             bay = self.file('bay', '[bay]\ndomain = "B"\nvendor = "V"\nmodel = "M"\n'
                             'revision = "1"\nscan_max_age_ms = 500\n'
                             '[[switch]]\nid = "QA1"\nkind = "breaker"\n'

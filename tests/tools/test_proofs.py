@@ -15,7 +15,7 @@ from baytools.bay.rules import INPUT, MEASURE, SWITCH, read_rules
 from baytools.common.ending import Failed
 from baytools.panel.reasons import Seen, why_not
 from tests.tool import Tools
-from tests.tools.test_audit import AFTER, FILE, UNTIL, audited
+from tests.tools.test_audit import AFTER, FILE, UNTIL, audit_rules
 
 KEYS = keys_of(FILE)
 QA1, QC1, DEAD, AA = (SWITCH, 'QA1'), (SWITCH, 'QC1'), (INPUT, 'VT_DEAD'), (MEASURE, 'M1_AA')
@@ -85,7 +85,7 @@ class Answers(unittest.TestCase):
         told = proofs.conditions(found, FILE)['QA1', 1].lines()
         self.assertEqual(told, [f'M1_AA 3 (depends on {COMPUTED})',
                                 'M1_AA >= 4 and M1_AA <= 11 (depends on M1_AA)'])
-        audit = proved('never QA1 close when M1_AA = 3\n', text)
+        audit = prove('never QA1 close when M1_AA = 3\n', text)
         self.assertIn(f'holds, unless {COMPUTED} breaks it with M1_AA 3',
                       verdicts.lines_of(audit, audit.findings[0])[1])
 
@@ -204,8 +204,8 @@ class Asking(Tools):
             'PROVED: the rule is proved; the restriction bears on nothing that is proved.', 0))
 
 
-def proved(rules, printed, **more):
-    return audited(rules, answer=read(printed, KEYS), **more)
+def prove(rules, printed, **more):
+    return audit_rules(rules, answer=read(printed, KEYS), **more)
 
 
 class Warned(Tools):
@@ -228,7 +228,7 @@ class Verdicts(unittest.TestCase):
         return [verdicts.lines_of(found, it) for it in found.findings]
 
     def test_each_line_says_what_is_proved_and_what_was_tried(self):
-        found = proved(RULES, ANSWER)
+        found = prove(RULES, ANSWER)
         self.assertEqual(self.lines(found), [
             ['PROVED: QA1 may always be opened'],
             ['OPEN: never QC1 close when not VT_DEAD',
@@ -247,8 +247,8 @@ class Verdicts(unittest.TestCase):
             1, 'NOT PASSED: of 5 rules 1 proved, 1 broken, 3 open.'))
 
     def test_a_rule_with_a_time_that_a_timer_bears(self):
-        found = proved(RULES.split('\n')[3] + '\n',
-                       LOADED + 'rule 1 QC1 close holds cases=11 by t1\n')
+        found = prove(RULES.split('\n')[3] + '\n',
+                      LOADED + 'rule 1 QC1 close holds cases=11 by t1\n')
         self.assertEqual(found.answer.rules[0].timer, 't1')
         self.assertEqual(self.lines(found), [
             ['PROVED: no command to close QC1 until VT_DEAD for 5s (by timer t1)']])
@@ -269,7 +269,7 @@ class Verdicts(unittest.TestCase):
                 ('always QA1 open\nnever QC1 open\n', held + 'rule 2 QC1 open open by t1\n', 4,
                  'NOT ALL WAS PROVED OR TRIED: of 2 rules 1 proved, 1 open; M1_AA was tried only '
                  '0.')):
-            found = proved(rules, LOADED + printed)
+            found = prove(rules, LOADED + printed)
             self.assertEqual((verdicts.status(found), verdicts.verdict(found)), (status, told))
 
     def test_timed_rules_beside_what_is_proved(self):
@@ -277,59 +277,59 @@ class Verdicts(unittest.TestCase):
         logic = 'PROGRAM p\nVAR_EXTERNAL\nQA1_OPEN, VT_DEAD : BOOL;\nEND_VAR\nLD VT_DEAD\n' \
             'AND QA1_OPEN\nEND_PROGRAM\n'
         held = LOADED + 'rule 1 QA1 open holds cases=1\n'
-        found = proved('always QA1 open\nnever QC1 open\n', held + 'rule 2 QC1 open open by t1\n',
-                       file=file, logic=logic)
+        found = prove('always QA1 open\nnever QC1 open\n', held + 'rule 2 QC1 open open by t1\n',
+                      file=file, logic=logic)
         self.assertEqual((verdicts.status(found), verdicts.verdict(found)), (
             4, 'NOT ALL WAS PROVED OR TRIED: of 2 rules 1 proved, 1 open.'))
-        found = proved('always QA1 open\nnever QC1 close until VT_DEAD for 5s\n',
-                       held + 'rule 2 QC1 close holds cases=1\n', file=file, logic=logic)
+        found = prove('always QA1 open\nnever QC1 close until VT_DEAD for 5s\n',
+                      held + 'rule 2 QC1 close holds cases=1\n', file=file, logic=logic)
         self.assertEqual((verdicts.status(found), verdicts.verdict(found)), (
             0, 'PASSED: all 2 rules are proved.'))
 
     def test_a_rule_with_a_time_that_is_broken(self):
         for released, wanted in ((6000, True), (5000, False)):
-            finding, = proved(AFTER, LOADED + 'rule 1 QC1 close broken QA1=1 VT_DEAD=1\n',
-                              time=released).findings
+            finding, = prove(AFTER, LOADED + 'rule 1 QC1 close broken QA1=1 VT_DEAD=1\n',
+                             time=released).findings
             self.assertEqual(finding.shown.lines[-2:], ['0 scan', '5000 scan'])
             self.assertEqual((finding.shown.is_so, finding.is_doubted()), (wanted, not wanted))
-            finding, = proved(UNTIL, LOADED + 'rule 1 QC1 close broken QA1=1|2\n',
-                              time=released - 2000).findings
+            finding, = prove(UNTIL, LOADED + 'rule 1 QC1 close broken QA1=1|2\n',
+                             time=released - 2000).findings
             self.assertEqual(finding.shown.state, {
                 **finding.shown.state, QA1: 1, DEAD: 1, AA: -2 ** 31})
             self.assertEqual(finding.shown.lines[-2:], ['0 scan', '4999 scan'])
             self.assertTrue(finding.shown.is_so)
-        found = proved(AFTER, LOADED + 'rule 1 QC1 close holds cases=2\n')
+        found = prove(AFTER, LOADED + 'rule 1 QC1 close holds cases=2\n')
         self.assertEqual(self.lines(found), [
             ['PROVED: QC1 may always be closed after VT_DEAD for 5s when QA1 open']])
 
     def test_a_replay_that_speaks_against_a_proof(self):
-        found = proved('never QA1 open\n', LOADED + 'rule 1 QA1 open holds cases=1\n')
+        found = prove('never QA1 open\n', LOADED + 'rule 1 QA1 open holds cases=1\n')
         self.assertEqual((found.findings[0].verdict(), verdicts.status(found)), ('BROKEN', 1))
         self.assertIn(verdicts.DOUBTED, self.lines(found)[0])
 
     def test_what_is_settled_is_not_tried_where_that_is_much(self):
         look = 'look M1_AA ' + '|'.join(map(str, range(10_000))) + '\n'
-        found = proved(look + 'always QA1 open\n', LOADED + 'rule 2 QA1 open holds cases=1\n')
+        found = prove(look + 'always QA1 open\n', LOADED + 'rule 2 QA1 open holds cases=1\n')
         self.assertEqual((len(found.table), verdicts.status(found)), (0, 0))
         self.assertEqual(rule_findings.uncovered(found), {})
         with mock.patch.multiple('baytools.audit.rule_findings', USUAL=4, WHOLE=100):
             rules, answer = 'always QA1 open\n', LOADED + 'rule 1 QA1 open holds cases=2\n'
-            self.assertEqual([len(proved(rules, answer, is_table_asked=it).table)
+            self.assertEqual([len(prove(rules, answer, is_table_asked=it).table)
                               for it in (False, True)], [0, 8])
         with mock.patch.multiple('baytools.audit.rule_findings', USUAL=4, WHOLE=4, SAMPLED=5):
-            self.assertEqual(len(proved(rules, answer, is_table_asked=True).table), 5)
+            self.assertEqual(len(prove(rules, answer, is_table_asked=True).table), 5)
 
     def test_what_is_released_while_the_process_is_lost(self):
-        found = proved(RULES, ANSWER)
+        found = prove(RULES, ANSWER)
         self.assertEqual(proofs.lost_table(found.answer, FILE), [
             ('QA1', 'released', 'blocked'), ('QC1', 'depends on t1, LOCK', 'released')])
         self.assertEqual(verdicts.lost_warnings(found), [
             'QC1 may be closed while the process is lost: each position is bad and each input 0'])
         self.assertIn('<h2>When the process is lost</h2>', page_of(found))
         self.assertIn('QC1 may be closed while the process is lost', page_of(found))
-        breaker = proved('always QA1 open\n', LOADED + 'rule 1 QA1 open holds cases=1\n'
-                         'lost QA1 open released\nlost QA1 close released\n'
-                         'lost QC1 open released\n')
+        breaker = prove('always QA1 open\n', LOADED + 'rule 1 QA1 open holds cases=1\n'
+                        'lost QA1 open released\nlost QA1 close released\n'
+                        'lost QC1 open released\n')
         self.assertEqual([it.split(' while')[0] for it in verdicts.lost_warnings(breaker)],
                          ['QA1 may be closed', 'QC1 may be opened'])
 
@@ -338,7 +338,7 @@ class Verdicts(unittest.TestCase):
                 'release QC1 close cases=2\ndepends M1_AA=0 on LOCK\nblocked M1_AA=1\n'
                 'start QA1 open released\nstart QA1 close released\n'
                 'start QC1 open blocked\nstart QC1 close depends on M1_AA\n')
-        found = proved('always QA1 open\n', text)
+        found = prove('always QA1 open\n', text)
         self.assertEqual(proofs.start_table(found.answer, FILE), [
             ('QA1', 'released', 'released'), ('QC1', 'blocked', 'depends on M1_AA')])
         self.assertEqual(verdicts.start_warnings(found), [
@@ -346,13 +346,13 @@ class Verdicts(unittest.TestCase):
             'QC1 may be closed right after a restart, which forgets LOCK'])
         self.assertIn('<h2>After a restart</h2>', page_of(found))
         self.assertIn('which forgets LOCK', page_of(found))
-        locked = proved('always QA1 open\n', text.replace('close depends on M1_AA', 'close blocked')
-                        .replace('start QA1 close released', 'start QA1 close depends on M1_AA'))
+        locked = prove('always QA1 open\n', text.replace('close depends on M1_AA', 'close blocked')
+                       .replace('start QA1 close released', 'start QA1 close depends on M1_AA'))
         self.assertEqual(verdicts.start_warnings(locked), [])
 
     def test_a_bayctl_that_does_not_tell_it(self):
-        for found in (audited('always QA1 open\n'),
-                      proved('always QA1 open\n', LOADED + 'rule 1 QA1 open holds cases=1\n')):
+        for found in (audit_rules('always QA1 open\n'),
+                      prove('always QA1 open\n', LOADED + 'rule 1 QA1 open holds cases=1\n')):
             self.assertEqual(proofs.lost_table(found.answer, FILE), [])
             self.assertEqual(verdicts.lost_warnings(found), [])
             self.assertEqual(proofs.start_table(found.answer, FILE), [])
@@ -360,7 +360,7 @@ class Verdicts(unittest.TestCase):
             self.assertNotIn('process is lost', page_of(found))
 
     def test_the_report(self):
-        page = page_of(proved(RULES, ANSWER))
+        page = page_of(prove(RULES, ANSWER))
         for told in ('proved: QA1 may always be opened', '<span class="mark good">PROVED</span>',
                      'holds, unless t1 breaks it with VT_DEAD 0; tried in 4', 'NOT PASSED: of 5',
                      '(depends on t1, LOCK)', '<b>Proved</b>: bayctl runs', 'as it is proved'):
@@ -369,7 +369,7 @@ class Verdicts(unittest.TestCase):
 
     def test_a_rule_of_which_nothing_is_said(self):
         with self.assertRaisesRegex(Failed, 'says nothing of the rule of line 1'):
-            proved('always QA1 open\n', LOADED)
+            prove('always QA1 open\n', LOADED)
 
 
 class Scenarios(unittest.TestCase):
@@ -438,7 +438,7 @@ class Conditions(unittest.TestCase):
                  'always QC1 close after VT_DEAD for 5s when M1_AA > 9\n')
         held = ''.join(f'rule {line} {way} holds cases=1\n' for line, way in (
             (1, 'QA1 open'), (2, 'QC1 close'), (3, 'QC1 close')))
-        found = proved(rules, LOADED + held + ANSWER[ANSWER.index('release'):])
+        found = prove(rules, LOADED + held + ANSWER[ANSWER.index('release'):])
         bare = rule_findings.uncovered(found)
         self.assertEqual({key: (count, it.lines()) for key, (count, it) in bare.items()}, {
             ('QC1', 1): (None, ['QA1 open and M1_AA <= -1 (depends on t1, LOCK)',
@@ -461,7 +461,7 @@ class Conditions(unittest.TestCase):
                          AA: rng.randrange(-1, 9)}
                 is_given = any(all(case.allows(*it) for it in state.items()) for case in cases)
                 is_asked = any(rule.condition(state) for rule in rules)
-                self.assertEqual(self.holds(told.condition, state), is_given and not is_asked)
+                self.assertEqual(self.is_true(told.condition, state), is_given and not is_asked)
 
     @staticmethod
     def any_case(rng):
@@ -470,7 +470,7 @@ class Conditions(unittest.TestCase):
         return Case({key: it for key, it in values.items() if rng.randrange(3)})
 
     @staticmethod
-    def holds(condition, state):
+    def is_true(condition, state):
         values = {name: value for (_, name), value in state.items()}
         return any(all((it.word_of(str(values[it.name])) if it.ranges else
                         it.values[values[it.name]]) in words for it, words in product)

@@ -47,7 +47,7 @@ class Package(Tools):
         for path in (self.folder / 'root/usr/lib/systemd/system').iterdir():
             self.assertNotIn('/usr/local', path.read_text(encoding='utf-8'), path.name)
 
-    def unpacked(self):
+    def unpack(self):
         """The package in a folder of its own."""
         root = self.folder / 'unpacked'
         program = self.file('bayctl', '#!/bin/sh\necho load refused 51\nexit 1\n')
@@ -56,7 +56,7 @@ class Package(Tools):
 
     def test_each_command_runs_from_where_it_is_unpacked(self):
         """With nothing else of the repository; dev/check has them do what they are for."""
-        commands = self.unpacked()
+        commands = self.unpack()
         self.assertEqual(sorted(it.name for it in commands.iterdir()),
                          sorted(['bayctl', *(f'bayctl-{name}' for name in COMMANDS)]))
         for name in COMMANDS:
@@ -66,7 +66,7 @@ class Package(Tools):
             self.assertIn(f'Usage: bayctl-{name} ', done.stdout)
 
     def test_an_installed_command_finds_bayctl_on_the_path_and_its_faults(self):
-        commands = self.unpacked()
+        commands = self.unpack()
         bay = self.file('bay.toml', '[bay]\n')
         for path, told in ((commands, 'is refused with 51'), ('', 'put bayctl on the path')):
             done = subprocess.run([sys.executable, commands / 'bayctl-diagnose', '--bay', bay],
@@ -104,7 +104,7 @@ class Package(Tools):
 class Completions(Tools):
     FILE = TOP / 'packaging' / 'completions' / 'bayctl'
 
-    def completed(self, *words: str) -> set[str]:
+    def complete(self, *words: str) -> set[str]:
         """What bash offers behind these words."""
         typed = ' '.join(map(repr, words))
         done = subprocess.run(['bash', '-c', f'. {self.FILE}; COMP_WORDS=({typed}); COMP_CWORD='
@@ -117,14 +117,14 @@ class Completions(Tools):
         parts = re.split(r'(?m)^\$ bayctl ', (DATA / 'help.txt').read_text(encoding='utf-8'))[2:]
         self.assertEqual(len(parts), 5)
         names = [part.split()[0] for part in parts]
-        self.assertEqual(self.completed('bayctl', ''), {*names, 'help', '--help', '--version'})
+        self.assertEqual(self.complete('bayctl', ''), {*names, 'help', '--help', '--version'})
         for name, part in zip(names, parts):
             told = re.findall(r'(?m)^ +(?:-\w, +)?(--[\w-]+)', part.partition('Options:')[2])
-            self.assertEqual(self.completed('bayctl', name, '--'), set(told), name)
+            self.assertEqual(self.complete('bayctl', name, '--'), set(told), name)
 
     def test_a_file_is_left_to_bash(self):
-        self.assertEqual(self.completed('bayctl', 'serve', '--bay', 'x'), set())
-        self.assertEqual(self.completed('bayctl', 'serve', '--rec'), {'--record', '--record-most'})
+        self.assertEqual(self.complete('bayctl', 'serve', '--bay', 'x'), set())
+        self.assertEqual(self.complete('bayctl', 'serve', '--rec'), {'--record', '--record-most'})
 
 
 class Evidence(Tools):

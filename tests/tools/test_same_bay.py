@@ -15,7 +15,7 @@ from baytools.wire.same_bay import Comparison, compared
 from tests.tool import Tools
 from tests.tools.loopback import needs_loopback
 from tests.tools.test_capture import ACK, CLIENT, SERVER, pcap, segment
-from tests.tools.test_client import Bay as Server, respond, served
+from tests.tools.test_client import Bay as Server, respond, serve_once
 
 HEAD = '[bay]\ndomain = "B1"\nvendor = "V"\nmodel = "M"\nrevision = "1"\n' \
        'scan_max_age_ms = 500\n'
@@ -94,10 +94,10 @@ class Model:
         return mms.octets_of(self.rows[item]) if is_known else number(0x80, 10)
 
 
-def differing(text, file=FILE):
+def compare_bays(text, file=FILE):
     """How a server of one bay differs from another bay's file, and what it was asked."""
     asked = Server(Model(text))
-    with served(asked) as server:
+    with serve_once(asked) as server:
         client = Client(*server.getsockname(), Names(file))
         found = compared(client, tomllib.loads(file)).lines()
         client.close()
@@ -108,7 +108,7 @@ def differing(text, file=FILE):
 class Differences(unittest.TestCase):
     def test_the_same_bay(self):
         for text in (FILE, HEAD + QA1, HEAD + QB1, FILE.replace('M1', 'M2').replace('QB1', 'QB7')):
-            found, asked = differing(text, text)
+            found, asked = compare_bays(text, text)
             self.assertEqual(found, [])
             self.assertEqual([pdu.service for pdu in asked], ['read'])
             self.assertFalse([name for name in asked[0].names if '$CO' in name])
@@ -135,12 +135,12 @@ class Differences(unittest.TestCase):
                 (METER, '', 'the server has no MMXU1, the bay file\'s M1'),
                 (METER, METER * 2, 'the server has MMXU2, which the bay file has not')):
             with self.subTest(new=new):
-                self.assertEqual(differing(FILE.replace(old, new, 1))[0], wanted)
+                self.assertEqual(compare_bays(FILE.replace(old, new, 1))[0], wanted)
 
     def test_switches_that_changed_places(self):
         """Of two that differ in nothing else but their class."""
         one = QA1.replace('sbo"', 'direct"').replace('sbo_timeout_ms = 2000\n', '')
-        found, _ = differing(HEAD + QB1 + one, HEAD + one + QB1)
+        found, _ = compare_bays(HEAD + QB1 + one, HEAD + one + QB1)
         self.assertEqual(found, [
             f'the server\'s {control} and {own} are not one switch, '
             f'the bay file\'s {switch} is both' for control, own, switch in (
@@ -149,7 +149,7 @@ class Differences(unittest.TestCase):
     def test_other_parts(self):
         model = Model(FILE)
         model.rows['LLN0$DC'].value[0].value.append(Data(TEXT, 'more'))
-        with served(Server(model)) as server:
+        with serve_once(Server(model)) as server:
             client = Client(*server.getsockname(), Names(FILE))
             found = compared(client, tomllib.loads(FILE)).lines()
             client.close()
@@ -157,12 +157,12 @@ class Differences(unittest.TestCase):
 
     def test_what_can_not_be_told(self):
         """Two of one class and control: the revision alone tells it."""
-        self.assertEqual(differing(HEAD + QA1 + QB2 + QB1, HEAD + QA1 + QB1 + QB2)[0], [])
+        self.assertEqual(compare_bays(HEAD + QA1 + QB2 + QB1, HEAD + QA1 + QB1 + QB2)[0], [])
 
     def test_a_large_bay(self):
         """Both positions of a switch stand in one request."""
         text = HEAD + QA1 + ''.join(QB1.replace('QB1', f'QB{n}') for n in range(1, 32))
-        found, asked = differing(text, text)
+        found, asked = compare_bays(text, text)
         self.assertEqual((found, len(asked)), ([], 4))
         for pdu in asked:
             names = [name.partition('/')[2] for name in pdu.names]
@@ -173,9 +173,9 @@ class Differences(unittest.TestCase):
 
 @needs_loopback
 class Operating(Tools):
-    def asked(self, text, *words, file=FILE):
+    def run_client(self, text, *words, file=FILE):
         asked = Server(Model(text))
-        with served(asked) as server:
+        with serve_once(asked) as server:
             found = self.run_tool('client', '--bay', self.file('bay.toml', file),
                                   server.getsockname()[1], *words)
         asks = [name for pdu in asked.requests for name in pdu.names]
@@ -186,7 +186,7 @@ class Operating(Tools):
         other = FILE.replace('revision = "1"', 'revision = "2"')
         for words in (('select', 'QA1'), ('operate', 'QA1', 'close'), ('cancel', 'QA1'),
                       ('operate', 'CSWI2', 'close'), ('operate', 'QB1', 'close', '--unselected')):
-            found, is_operated = self.asked(other, *words)
+            found, is_operated = self.run_client(other, *words)
             self.assertEqual(found.out, 'the server has revision \'2\', the bay file has \'1\'\n')
             self.assertRegex(found.error, 'client: .*bay.toml: the server has another bay, so '
                              'nothing is operated without --anyway\n')
@@ -194,34 +194,34 @@ class Operating(Tools):
 
     def test_anyway(self):
         other = FILE.replace('revision = "1"', 'revision = "2"')
-        found, is_operated = self.asked(other, 'operate', 'QA1', 'close', '--anyway')
+        found, is_operated = self.run_client(other, 'operate', 'QA1', 'close', '--anyway')
         self.assertEqual(found.out.splitlines(), [
             'the server has revision \'2\', the bay file has \'1\'', 'select QA1: done',
             'operate QA1: accepted', 'operate QA1: done: closed'])
         self.assertEqual((found.status, is_operated), (0, True))
 
     def test_the_same_bay(self):
-        found, is_operated = self.asked(FILE, 'operate', 'QB1', 'close')
+        found, is_operated = self.run_client(FILE, 'operate', 'QB1', 'close')
         self.assertEqual(found.out, 'operate QB1: accepted\noperate QB1: done: closed\n')
         self.assertEqual((found.status, is_operated), (0, True))
 
     def test_a_file_that_bayctl_refuses(self):
         """Of two switches with one id one would be operated, and it might be the wrong one."""
-        found, is_operated = self.asked(FILE, 'operate', 'QB1', 'close',
-                                        file=FILE.replace('"QB2"', '"QB1"'))
+        found, is_operated = self.run_client(FILE, 'operate', 'QB1', 'close',
+                                             file=FILE.replace('"QB2"', '"QB1"'))
         self.assertRegex(found.error, r'bay\.toml is refused with 54: line 19: switch 3 \(QB1\): ')
         self.assertEqual((found.out, found.status, is_operated), ('', 3, False))
 
     def test_reading_is_not_refused(self):
-        found, _ = self.asked(FILE.replace('"M"', '"N"'), 'read', 'CSWI1$ST$Pos$stVal')
+        found, _ = self.run_client(FILE.replace('"M"', '"N"'), 'read', 'CSWI1$ST$Pos$stVal')
         self.assertEqual((found.out, found.status), ('CSWI1$ST$Pos$stVal (QA1) = closed\n', 0))
 
 
 @needs_loopback
 class Panels(unittest.TestCase):
-    def connected(self, text, anyway=False):
+    def connect_panel(self, text, anyway=False):
         """A panel's watcher of a server that has this bay."""
-        server = served(Server(Model(text)))
+        server = serve_once(Server(Model(text)))
         self.addCleanup(server.close)
         watcher = Watcher(tomllib.loads(FILE), FILE, *server.getsockname(), anyway)
         watcher.connect()
@@ -229,7 +229,7 @@ class Panels(unittest.TestCase):
         return watcher, Operator(watcher)
 
     def test_another_bay(self):
-        watcher, operator = self.connected(FILE.replace('2000', '9'))
+        watcher, operator = self.connect_panel(FILE.replace('2000', '9'))
         told = 'the server has another bay than the bay file, so nothing is operated'
         for verb in ('select', 'operate', 'cancel'):
             self.assertEqual(operator.act(verb, 'QA1', 'open'), {'good': False, 'told': told})
@@ -238,7 +238,7 @@ class Panels(unittest.TestCase):
         self.assertTrue(watcher.state['connected'])
 
     def test_another_bay_has_no_reasons(self):
-        watcher, _ = self.connected(FILE.replace('2000', '9'), True)
+        watcher, _ = self.connect_panel(FILE.replace('2000', '9'), True)
         for differs, told in ((watcher.differs, 'why is not known: another bay is served'),
                               ([], 'the program does not release it')):
             watcher.differs, watcher.conditions = differs, {}
@@ -249,13 +249,13 @@ class Panels(unittest.TestCase):
 
     def test_anyway_and_the_same_bay(self):
         for text, anyway in ((FILE.replace('2000', '9'), True), (FILE, False)):
-            watcher, operator = self.connected(text, anyway)
+            watcher, operator = self.connect_panel(text, anyway)
             self.assertEqual(watcher.state['barred'], '')
             operator.page_comes('one')
             self.assertTrue(operator.act('select', 'QA1', 'open', 'one')['good'])
 
     def test_differences_are_told_once(self):
-        watcher, _ = self.connected(FILE.replace('2000', '9'))
+        watcher, _ = self.connect_panel(FILE.replace('2000', '9'))
         count = len(watcher.events)
         watcher.is_connected(watcher.differs)
         self.assertEqual(len(watcher.events), count + 1)
@@ -288,7 +288,7 @@ class Captures(Tools):
         again = self.run_tool('explain', path, '--bay', bay, '--port', SERVER[1], '--replay', bay)
         self.assertEqual(again.error.splitlines()[:2], found.error.splitlines())
 
-    def held(self, *octets):
+    def compare_capture(self, *octets):
         held = Comparison(Names(FILE), tomllib.loads(FILE))
         conversation = Conversation(held.bay)
         conversation.on_answer = held.add_answer
@@ -302,15 +302,15 @@ class Captures(Tools):
             (b'V', b'M', b'7'))))
         names = respond(2, 0xA1, element(0xA0, element(0x1A, b'CSWI1'), element(0x1A, b'CSWI5$ST')),
                         element(0x81, b'\0'))
-        self.assertEqual(self.held((mms.request_octets(1, 0x82), who),
-                                   (mms.names_request(2, 'B1'), names)),
+        self.assertEqual(self.compare_capture((mms.request_octets(1, 0x82), who),
+                                              (mms.names_request(2, 'B1'), names)),
                          ['the server has revision \'7\', the bay file has \'1\'',
                           'the server has CSWI5, which the bay file has not'])
 
     def test_another_domain(self):
         request = mms.read_request(1, ['B9/LLN0$DC'])
         answer = respond(1, 0xA4, element(0xA1, mms.octets_of(rows_of(FILE)[1]['LLN0$DC'])))
-        self.assertEqual(self.held((request, answer)),
+        self.assertEqual(self.compare_capture((request, answer)),
                          ['the server has domain B9, the bay file has B1'])
 
 

@@ -48,7 +48,7 @@ LEAVES = {  # the type that a client sees of a row, by the kind of its value in 
     'Utc': 'utc-time', 'Octets': 'octet-string -64', 'Reference': 'visible-string -129',
     'Text': 'visible-string -255'}
 
-def written(bay):
+def scl_text(bay):
     file = tomllib.loads(bay.read_text())
     domain = file['bay']['domain']
     return text_of(Writer(file).root('TEMPLATE', 'LD0', domain, '127.0.0.1', 10102))
@@ -68,7 +68,7 @@ def rows(shape, above=''):
         yield from rows(part, f'{above}{name}$') if is_more else ()
 
 
-def worked():
+def read_cases():
     """Bay files with the rows that the cases give them: names with types."""
     file = ''
     for part in ('\n' + CASES.read_text(encoding='utf-8')).split('\n== '):
@@ -86,7 +86,7 @@ def row_of(line):
 
 class Scl(Tools):
     def test_it_tells_the_rows_of_the_cases(self):
-        cases = list(worked())
+        cases = list(read_cases())
         self.assertTrue(cases)
         for file, wanted in cases:
             for words in ([], ['--ied', 'BAY']):
@@ -114,14 +114,14 @@ class Scl(Tools):
 
     def test_attributes_are_those_of_the_schema(self):
         for bay in BAYS:
-            for element in ET.fromstring(written(bay)).iter():
+            for element in ET.fromstring(scl_text(bay)).iter():
                 name = Reader.bare(element)
                 for key, form in NEEDED.get(name, {}).items():
                     self.assertRegex(element.get(key, 'none'), f'^(?:{form})$', f'{name} {key}')
 
     def test_elements_stand_in_the_order_of_the_schema(self):
         for bay in BAYS:
-            root = ET.fromstring(written(bay))
+            root = ET.fromstring(scl_text(bay))
             self.assertEqual(root.tag, f'{{{NAMESPACE}}}SCL')
             for element in root.iter():
                 name = Reader.bare(element)
@@ -131,13 +131,13 @@ class Scl(Tools):
 
     def test_nodes_have_the_names_that_the_tools_know(self):
         for bay in BAYS:
-            for node, shape in Reader(written(bay)).nodes().items():
+            for node, shape in Reader(scl_text(bay)).nodes().items():
                 known = [names(kind) for kind in nodes_of(node)]
                 self.assertIn(names(shape), known, f'{bay}: {node}')
 
     def test_a_name_stands_once(self):
         for bay in BAYS:
-            root = ET.fromstring(written(bay))
+            root = ET.fromstring(scl_text(bay))
             for element in root.iter():
                 kinds = [(child.tag, child.get('id') or child.get('name')) for child in element
                          if child.get('id') or child.get('name')]
@@ -145,7 +145,7 @@ class Scl(Tools):
 
     def test_each_type_that_is_named_is_there(self):
         for bay in BAYS:
-            root = ET.fromstring(written(bay))
+            root = ET.fromstring(scl_text(bay))
             there = {element.get('id') for element in root.iter()}
             named = {element.get('type') for element in root.iter() if Reader.bare(element)
                      in ('DO', 'SDO', 'DA', 'BDA')} | {element.get('lnType')
@@ -154,7 +154,7 @@ class Scl(Tools):
 
     def test_the_edition(self):
         """There is no file for masters of edition 1, whose controls the server refuses."""
-        root = ET.fromstring(written(BAYS[0]))
+        root = ET.fromstring(scl_text(BAYS[0]))
         self.assertEqual((root.get('version'), root.get('revision')), ('2007', 'B'))
         self.assertIn('ENC', {element.get('cdc') for element in root.iter()})
         found = self.call_tool('scl', BAYS[0], '--edition', '1', '--ied', 'E')
@@ -178,7 +178,7 @@ class Scl(Tools):
 
     def test_ids_are_unique_over_all_kinds(self):
         for bay in BAYS:
-            ids = [element.get('id') for element in Reader(written(bay)).templates]
+            ids = [element.get('id') for element in Reader(scl_text(bay)).templates]
             self.assertEqual(len(ids), len(set(ids)))
 
     def test_nodes_stand_as_the_device_lists_them(self):
@@ -190,7 +190,7 @@ class Scl(Tools):
                           ('XSWI', 2, 'QC1')])
 
     def test_what_changes_and_what_is_fixed(self):
-        root = ET.fromstring(written(BAYS[0]))
+        root = ET.fromstring(scl_text(BAYS[0]))
         for element in root.iter():
             if Reader.bare(element) == 'DA':
                 name, constraint = element.get('name'), element.get('fc')
@@ -201,7 +201,7 @@ class Scl(Tools):
                                  else None)
 
     def test_the_port(self):
-        self.assertIn('<P type="MMS-Port">10102</P>', written(BAYS[0]))
+        self.assertIn('<P type="MMS-Port">10102</P>', scl_text(BAYS[0]))
 
     def test_the_nodes_are_all_of_the_shapes(self):
         self.assertEqual(len(CONTROL_NODES), 4)

@@ -74,14 +74,14 @@ class Simulations(unittest.TestCase):
         file.write(''.join(line + '\n' for line in lines))
         file.flush()
 
-    def waits_for(self, told):
+    def wait_for(self, told):
         """Waits until the simulator has said something."""
-        def said():
+        def find_text():
             self.out.seek(0)
             found = self.out.read()
             return found if told in found else None
 
-        return until(said, told)
+        return until(find_text, told)
 
 
 @needs_loopback
@@ -107,7 +107,7 @@ class Simulated(Simulations):
         run.stdin.flush()
         self.assertEqual(self.lines(file, 1), ['0 input ES 0'])
         self.tell(file, f'{now()} command QA1 on')
-        self.waits_for('QA1 is not carried out: its key is not at remote')
+        self.wait_for('QA1 is not carried out: its key is not at remote')
         run.stdin.write(b'QA1 remote\n')
         run.stdin.flush()
         self.assertEqual(self.lines(file, 1), ['0 input ES 1'])
@@ -120,7 +120,7 @@ class Simulated(Simulations):
         self.lines(file, 2)
         run.stdin.write(b'QA1 local\n')
         run.stdin.flush()
-        self.waits_for('QA1 has no key in the bay file')
+        self.wait_for('QA1 has no key in the bay file')
         file.close()
 
     def test_lines_that_come_at_once(self):
@@ -188,7 +188,7 @@ class Simulated(Simulations):
                   f'{now() - 100} command QA1 off')
         self.assertEqual(self.lines(file, 2), ['0 contact QA1 0', '0 contact QA1 1'])
         file.close()
-        said = self.waits_for('contact QA1 1')
+        said = self.wait_for('contact QA1 1')
         self.assertRegex(said, r'on\nnot carried out: it is [89],\d\d\d ms old\n')
         self.assertRegex(said, r"carried out: its time is [89],\d\d\d ms ahead of this machine's")
 
@@ -198,7 +198,7 @@ class Simulated(Simulations):
         self.tell(file, f'{now()} command QA1 on')
         self.assertEqual(self.lines(file, 1), ['0 contact QA1 0'])
         self.tell(file, f'{now()} over QX', f'{now()} over qa1')
-        self.waits_for('QA1 stays where it is: the time of its command is over')
+        self.wait_for('QA1 stays where it is: the time of its command is over')
         file.close()
 
     def test_a_switch_that_is_moved_by_hand_goes_on(self):
@@ -214,27 +214,27 @@ class Simulated(Simulations):
 
 @needs_loopback
 class Supervised(Simulations):
-    def greeted(self, limit, *words):
+    def greet(self, limit, *words):
         """A simulator that has answered the greeting and told its first values."""
         file, run = self.play(*words)
         self.tell(file, GREETING.format(limit).rstrip())
         first = self.lines(file, 3)
         return file, run, first
 
-    def parted(self, line):
+    def split(self, line):
         moment, _, rest = line.partition(' ')
         return int(moment), rest
 
     def next_line(self, file):
         """The next line that is no `alive`."""
         while True:
-            moment, rest = self.parted(file.readline().rstrip('\n'))
+            moment, rest = self.split(file.readline().rstrip('\n'))
             if rest != 'alive':
                 return moment, rest
 
     def test_a_greeting(self):
-        file, run, first = self.greeted(60_000)
-        moments, lines = zip(*map(self.parted, first))
+        file, run, first = self.greet(60_000)
+        moments, lines = zip(*map(self.split, first))
         self.assertEqual(lines, ('bay - E1 2 b', 'contact QA1 1', 'input ES 0'))
         self.assertTrue(all(5000 <= it < 8000 for it in moments), moments)
         time.sleep(0.1)
@@ -249,16 +249,16 @@ class Supervised(Simulations):
         run.stdin.flush()
         self.assertTrue(900_000 <= self.next_line(file)[0] < 904_000)
         file.close()
-        self.assertNotIn('alive', self.waits_for('input ES 0'))
+        self.assertNotIn('alive', self.wait_for('input ES 0'))
 
     def test_a_key(self):
         with tempfile.NamedTemporaryFile('w') as key:
             key.write('0123456789abcdefABCDEF0123456789\n')
             key.flush()
-            file, _, first = self.greeted(60_000, '--process-key', key.name)
-        self.assertEqual(self.parted(first[0])[1], 'bay 0123456789abcdefABCDEF0123456789 E1 2 b')
+            file, _, first = self.greet(60_000, '--process-key', key.name)
+        self.assertEqual(self.split(first[0])[1], 'bay 0123456789abcdefABCDEF0123456789 E1 2 b')
         file.close()
-        said = self.waits_for('contact QA1 1')
+        said = self.wait_for('contact QA1 1')
         self.assertIn(' bay KEY E1 2 b\n', said)
         self.assertNotIn('0123456789abcdef', said)
 
@@ -267,7 +267,7 @@ class Supervised(Simulations):
             file, run = self.play()
             self.tell(file, greeting.rstrip())
             self.assertEqual(run.wait(10), 1)
-            said = self.waits_for('simulate: port ')
+            said = self.wait_for('simulate: port ')
             self.assertRegex(said, r'simulate: port \d+: the server has bay [Ee]1, revision 2( b)?'
                              ', the bay file E1, 2 b\n$')
             file.close()
@@ -276,29 +276,29 @@ class Supervised(Simulations):
         file, run = self.play('--supervised')
         self.tell(file, 'QA1=10')
         self.assertEqual(run.wait(10), 1)
-        self.waits_for('the server does not greet: it is no supervised port')
+        self.wait_for('the server does not greet: it is no supervised port')
         file.close()
 
     def test_that_both_live(self):
         begun = time.monotonic()
-        file, run, _ = self.greeted(900)
+        file, run, _ = self.greet(900)
         for _ in range(5):
-            moment, rest = self.parted(file.readline().rstrip('\n'))
+            moment, rest = self.split(file.readline().rstrip('\n'))
             self.assertEqual(rest, 'alive')
             self.tell(file, f'{moment} alive')
         passed = time.monotonic() - begun
         self.assertTrue(4 * 0.225 - 0.1 < passed < 5 * 0.3 + 5, passed)
         self.assertEqual(run.wait(10), 3)
-        self.waits_for('the connection was lost: the server has not said for 900 ms that it lives')
+        self.wait_for('the connection was lost: the server has not said for 900 ms that it lives')
         file.close()
 
     def test_what_it_slept_through(self):
-        file, run, _ = self.greeted(60_000, '--oldest', '500')
+        file, run, _ = self.greet(60_000, '--oldest', '500')
         run.send_signal(signal.SIGSTOP)
         self.tell(file, '5200 command QA1 on')
         time.sleep(1.5)
         run.send_signal(signal.SIGCONT)
-        said = self.waits_for('not carried out')
+        said = self.wait_for('not carried out')
         self.assertRegex(said, r'< 5200 command QA1 on\nnot carried out: it is [1-9],?\d+ ms old\n')
         self.tell(file, '9000 command QA1 on')
         self.assertEqual([self.next_line(file)[1] for _ in range(2)],
@@ -306,27 +306,27 @@ class Supervised(Simulations):
         file.close()
 
     def test_what_it_slept_through_while_it_was_to_live(self):
-        file, run, _ = self.greeted(600)
+        file, run, _ = self.greet(600)
         run.send_signal(signal.SIGSTOP)
         self.tell(file, '5200 command QA1 on')
         time.sleep(1.5)
         run.send_signal(signal.SIGCONT)
         self.assertEqual(run.wait(10), 3)
-        self.assertRegex(self.waits_for('that it lives'), r'not carried out: it is [\d,]+ ms old\n'
+        self.assertRegex(self.wait_for('that it lives'), r'not carried out: it is [\d,]+ ms old\n'
                          'the connection was lost: the server has not said for 600 ms')
         file.close()
 
     def test_a_limit_of_the_server_binds(self):
-        file, run, _ = self.greeted(700, '--oldest', '60000')
+        file, run, _ = self.greet(700, '--oldest', '60000')
         self.tell(file, '7000 alive', '6200 command QA1 on', '6800 command QA1 off')
         self.assertEqual(self.next_line(file)[1], 'contact QA1 0')
-        self.assertIn('on\nnot carried out: it is 8', self.waits_for('not carried out'))
+        self.assertIn('on\nnot carried out: it is 8', self.wait_for('not carried out'))
         file.close()
 
     def test_a_command_that_is_over(self):
-        file, run, _ = self.greeted(60_000, '--oldest', '60000')
+        file, run, _ = self.greet(60_000, '--oldest', '60000')
         self.tell(file, '5000 command QA1 on', '5000 over QA1', '5000 over QX')
-        self.waits_for('on\nnot carried out: its time is over')
+        self.wait_for('on\nnot carried out: its time is over')
         run.stdin.write(b'ES 1\n')
         run.stdin.flush()
         self.assertEqual(self.next_line(file)[1], 'input ES 1')

@@ -19,7 +19,7 @@ from baytools.station.servers import Station
 from devtools.served import free_port, until
 from tests.tool import Tools, interruptible
 from tests.tools.loopback import needs_loopback
-from tests.tools.test_client import Bay as Server, served
+from tests.tools.test_client import Bay as Server, serve_once
 from tests.tools.test_same_bay import FILE, Model
 
 OTHER = FILE.replace('"B1"', '"B2"')
@@ -94,14 +94,14 @@ class Listing(Tools):
 class Journals(Tools):
     """What the lines of a server come to."""
 
-    def heard(self, text):
+    def journal_state(self, text):
         found = Journal()
         for line in text.splitlines(True):
             found.add_line(line)
         return found.state()
 
     def test_commands_process_and_links(self):
-        found = self.heard(LOGGED)
+        found = self.journal_state(LOGGED)
         self.assertEqual([(it['told'], it['good']) for it in found['commands']], [
             ('QB1 open: refused, the interlocking does not release the operation (10)', False),
             ('QA1 open: commanded', True), ('QA1: time over', False)])
@@ -109,26 +109,26 @@ class Journals(Tools):
         self.assertEqual(found['links'], [(1, '127.0.0.1:40000')])
 
     def test_a_process_that_is_gone(self):
-        found = self.heard(LOGGED + '1785000009000 process closed 134\n'
-                           '1785000009000 process closed 134: no line for 500 ms\n')
+        found = self.journal_state(LOGGED + '1785000009000 process closed 134\n'
+                                   '1785000009000 process closed 134: no line for 500 ms\n')
         self.assertRegex(found['process'],
                          r'^process gone since .*:09\.000 \(134: no line for 500 ms\)$')
 
     def test_a_server_that_starts_again_has_no_links(self):
-        found = self.heard(LOGGED + LOGGED.splitlines()[0] + '\n')
+        found = self.journal_state(LOGGED + LOGGED.splitlines()[0] + '\n')
         self.assertEqual((found['links'], found['process']), ([], ''))
 
     def test_without_a_log(self):
         """The links are not told, which is another thing than that there are none."""
         printed = [line for line in LOGGED.splitlines(True)
                    if 'Z ' not in line]
-        found = self.heard(''.join(printed))
+        found = self.journal_state(''.join(printed))
         self.assertIsNone(found['links'])
         self.assertEqual([it['told'] for it in found['commands']], ['QA1 open: commanded'])
 
     def test_a_client_that_calls_itself_a_line(self):
         """What a client says of itself stands between the words of the line that it is in."""
-        found = self.heard(
+        found = self.journal_state(
             '5 association 1 operate QA1 on orCat=2 orIdent=x ctlNum=1: refused 9: the process '
             'is lost ctlNum=7: done\n'
             '6 association 1 select QA1 on orCat=2 orIdent=5 command QB1 on ctlNum=7: done\n'
@@ -138,7 +138,7 @@ class Journals(Tools):
                          ['QA1 close: refused, the switch is operating (12)'])
 
     def test_the_last_ones_are_kept(self):
-        found = self.heard(''.join(f'{n} command Q{n} on\n' for n in range(9)))
+        found = self.journal_state(''.join(f'{n} command Q{n} on\n' for n in range(9)))
         self.assertEqual([it['told'][:2] for it in found['commands']], ['Q5', 'Q6', 'Q7', 'Q8'])
 
     def program(self, text):
@@ -182,7 +182,7 @@ class Stations(Tools):
         for place, (text, model) in enumerate(models):
             port = free_port()
             if model:
-                server = served(Server(model))
+                server = serve_once(Server(model))
                 self.addCleanup(server.close)
                 port = server.getsockname()[1]
             pairs.append([str(self.file(f'bay{place}', text)), str(port)])
@@ -240,7 +240,7 @@ class Stations(Tools):
                              daemon=True).start()
             Server(model)(connection)
 
-        with served(act) as server:
+        with serve_once(act) as server:
             pair = [str(self.file('bay', FILE)), str(server.getsockname()[1])]
             station = Station(all_of([pair], None))
             running = threading.Thread(target=station.run)
@@ -318,7 +318,7 @@ class Stations(Tools):
         self.assertEqual(later['bays'][0]['moves'], first['bays'][0]['moves'])
 
     def test_the_tool(self):
-        with served(Server(Model(FILE))) as server:
+        with serve_once(Server(Model(FILE))) as server:
             words = [sys.executable, '-B', TOOLS / 'station', '--http', '0', '--bay',
                      self.file('bay', FILE), str(server.getsockname()[1])]
             with interruptible():

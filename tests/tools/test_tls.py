@@ -16,7 +16,7 @@ from baytools.panel.web import Pages
 from baytools.wire import ber, tls
 from tests.tool import Tools
 from tests.tools.loopback import needs_loopback
-from tests.tools.test_client import served
+from tests.tools.test_client import serve_once
 from tests.tools.test_same_bay import FILE, Model, Server
 from tests.tools.trust import door, door_context, needs_openssl, trust
 
@@ -31,7 +31,7 @@ def files(name='operator', authority='a', trusted='a') -> list[str]:
 @needs_openssl
 @needs_loopback
 class Clients(Tools):
-    def asked(self, options, *words, context=None, seen=None):
+    def run_client(self, options, *words, context=None, seen=None):
         """What a client prints that asks a bay behind TLS, and what reached the bay."""
         reached = []
 
@@ -44,9 +44,9 @@ class Clients(Tools):
                                    *(words or ('read', 'CSWI1$ST$Pos$stVal')))
         return found, reached
 
-    def refused(self, options, told, **more):
+    def refuse(self, options, told, **more):
         """Nothing reaches the bay, and the client says why in one line."""
-        found, reached = self.asked(options, **more)
+        found, reached = self.run_client(options, **more)
         self.assertEqual((found.status, found.out, found.error.count('\n'), reached),
                          (3, '', 1, []), found)
         self.assertIn(told, found.error)
@@ -54,12 +54,12 @@ class Clients(Tools):
     def test_with_a_certificate(self):
         model = Model(FILE)
         for most in (ssl.TLSVersion.TLSv1_2, ssl.TLSVersion.TLSv1_3):
-            found, reached = self.asked([*files(), '--crl', trust() / 'a' / 'authority.crl'],
-                                        context=door_context(most=most), seen=model)
+            found, reached = self.run_client([*files(), '--crl', trust() / 'a' / 'authority.crl'],
+                                             context=door_context(most=most), seen=model)
             self.assertEqual((found.out, found.status, len(reached)),
                              ('CSWI1$ST$Pos$stVal = closed\n', 0, 1), found)
         bay = self.file('bay.toml', FILE)
-        found, _ = self.asked([*files(), '--bay', bay], 'operate', 'QB1', 'close', seen=model)
+        found, _ = self.run_client([*files(), '--bay', bay], 'operate', 'QB1', 'close', seen=model)
         self.assertEqual((found.out, found.status),
                          ('operate QB1: accepted\noperate QB1: done: closed\n', 0), found)
 
@@ -67,16 +67,16 @@ class Clients(Tools):
         one = self.file('one.pem', b''.join((trust() / 'a' / f'operator.{it}').read_bytes()
                                             for it in ('key', 'pem')))
         options = ['--tls', '--cert', one, '--ca', trust() / 'a' / 'authority.pem']
-        self.assertEqual(self.asked(options)[0].status, 0)
+        self.assertEqual(self.run_client(options)[0].status, 0)
 
     def test_a_revoked_one(self):
-        self.refused(files('old'), 'the server says that this certificate is revoked')
+        self.refuse(files('old'), 'the server says that this certificate is revoked')
 
     def test_one_of_another_authority(self):
-        self.refused(files(authority='b'), 'the server does not know the authority')
+        self.refuse(files(authority='b'), 'the server does not know the authority')
 
     def test_a_server_is_no_client(self):
-        self.refused(files('bay'), 'the server says that this certificate is none of a client')
+        self.refuse(files('bay'), 'the server says that this certificate is none of a client')
 
     def test_none(self):
         """Without one, in the clear, and by TLS 1.1."""
@@ -92,14 +92,14 @@ class Clients(Tools):
         def reset(connection):
             connection.setsockopt(socket.SOL_SOCKET, socket.SO_LINGER, struct.pack('ii', 1, 0))
 
-        server = served(reset)
+        server = serve_once(reset)
         found = self.call_tool('client', '--timeout', 3, server.getsockname()[1], 'browse')
         server.close()
         self.assertRegex(found.error, 'Connection reset by peer|Broken pipe|closed')
         self.assertEqual((found.status, found.error.count('\n')), (3, 1))
 
     def test_an_alert_of_tls(self):
-        server = served(lambda connection: connection.sendall(b'\x15\x03\x01\0\2\2\x46'))
+        server = serve_once(lambda connection: connection.sendall(b'\x15\x03\x01\0\2\2\x46'))
         found = self.call_tool('client', '--timeout', 3, server.getsockname()[1], 'browse')
         server.close()
         self.assertIn('it answers with an alert of TLS: this is a port of TLS, which needs --tls',
@@ -121,21 +121,21 @@ class Clients(Tools):
             one.recv(1)
 
     def test_servers_that_are_none(self):
-        self.refused(files(trusted='b'), 'the server\'s certificate is not taken: ')
-        self.refused([*files(), '--server-name', 'bay-e06'],
-                     'certificate is not valid for \'bay-e06\'')
+        self.refuse(files(trusted='b'), 'the server\'s certificate is not taken: ')
+        self.refuse([*files(), '--server-name', 'bay-e06'],
+                    'certificate is not valid for \'bay-e06\'')
         if not ssl.HAS_TLSv1_1:
             return
         with warnings.catch_warnings():
             warnings.simplefilter('ignore')
             old = door_context(ssl.TLSVersion.TLSv1, ssl.TLSVersion.TLSv1_1)
             old.set_ciphers('ALL:@SECLEVEL=0')
-        self.refused(files(), 'the server has no version of TLS that is asked for', context=old)
+        self.refuse(files(), 'the server has no version of TLS that is asked for', context=old)
 
     def test_a_name_in_place_of_the_host(self):
-        found, _ = self.asked([*files(), '--server-name', 'localhost'])
+        found, _ = self.run_client([*files(), '--server-name', 'localhost'])
         self.assertEqual(found.status, 0)
-        found, reached = self.asked([*files(), '--server-name', '.'])
+        found, reached = self.run_client([*files(), '--server-name', '.'])
         self.assertEqual((found.status, found.error, reached),
                          (2, 'client: . is no name of a server\n', []))
 
@@ -144,14 +144,15 @@ class Clients(Tools):
         context = ssl.SSLContext(ssl.PROTOCOL_TLS_SERVER)
         context.load_cert_chain(folder / 'bay.pem', folder / 'bay.key')
         listed = [*files(trusted='b'), '--crl', folder / 'authority.crl']
-        self.assertEqual(self.asked(listed, context=context)[0].status, 0)
+        self.assertEqual(self.run_client(listed, context=context)[0].status, 0)
         wrong = [*files(trusted='b'), '--crl', trust() / 'a' / 'authority.crl']
-        self.refused(wrong, 'unable to get certificate CRL', context=context)
+        self.refuse(wrong, 'unable to get certificate CRL', context=context)
 
     def test_ports_of_no_tls(self):
         for octets, told in ((b'no TLS\r\n', 'no TLS is spoken there'),
                              (b'', 'the server ended the handshake: is it a port of TLS?')):
-            server = served(lambda connection: (connection.recv(999), connection.sendall(octets)))
+            server = serve_once(
+                lambda connection: (connection.recv(999), connection.sendall(octets)))
             found = self.call_tool('client', '--timeout', 3, *files(), server.getsockname()[1],
                                    'browse')
             server.close()
@@ -159,7 +160,7 @@ class Clients(Tools):
             self.assertIn(told, found.error)
 
     def test_a_port_that_says_nothing(self):
-        server = served(lambda connection: time.sleep(2))
+        server = serve_once(lambda connection: time.sleep(2))
         found = self.call_tool('client', '--timeout', 0.4, *files(), server.getsockname()[1],
                                'browse')
         server.close()
@@ -171,7 +172,7 @@ class Clients(Tools):
         bay = self.file('bay.toml', FILE)
         for more, ident in (([], b'operator'), (['--originator', 'A'], b'A')):
             model = Noted(FILE)
-            self.asked([*files(), '--bay', bay], 'operate', 'QB1', 'close', *more, seen=model)
+            self.run_client([*files(), '--bay', bay], 'operate', 'QB1', 'close', *more, seen=model)
             self.assertEqual(model.idents, {ident})
 
 
@@ -200,7 +201,7 @@ class Words(Tools):
             self.assertEqual((found.status, found.error), (2, f'client: {told}\n'))
 
     def test_files(self):
-        folder, locked = trust() / 'a', self.locked()
+        folder, locked = trust() / 'a', self.make_locked_key()
         pem, key, ca = (folder / it for it in ('operator.pem', 'operator.key', 'authority.pem'))
         odd = self.file('odd', b'-----BEGIN CERTIFICATE-----\nMAA=\n-----END CERTIFICATE-----\n')
         for cert, own, authority, told in (
@@ -219,7 +220,7 @@ class Words(Tools):
             self.assertEqual((found.status, found.error.count('\n')), (3, 1), found)
             self.assertIn(told, found.error)
 
-    def locked(self):
+    def make_locked_key(self):
         """A key with a passphrase."""
         path = self.folder / 'locked'
         subprocess.run(['openssl', 'ec', '-in', trust() / 'a' / 'operator.key', '-aes128',

@@ -99,26 +99,26 @@ class Rules(unittest.TestCase):
 
 
 class Follow(unittest.TestCase):
-    def told(self, *rows: str) -> list[tuple[int, int]]:
+    def fault_lines(self, *rows: str) -> list[tuple[int, int]]:
         found = program.faults_of(program_of(*rows), None)
         return [(it.code, it.line - HEAD.count('\n')) for it in found]
 
     def test_a_misspelt_name_is_told_alone(self):
         rest = ('AND QB1_OPEN', 'ST QA1_ENA_OPN', 'OR( QB1_OPEN', 'AND QB1_CLOSED', ')',
                 'JMPC done', 'NOT', 'done: ST QA1_ENA_CLS', 'GT 5', 'ST QB1_ENA_OPN')
-        self.assertEqual(self.told('LD QA1_OPN', *rest)[0], (70, 1))
-        self.assertEqual(self.told('LD QA1_OPN', *rest[:8]), [(70, 1)])
-        self.assertEqual(self.told('LD QA1_OPEN', 'AND( QB1_OPN', 'OR QB1_OPEN', ')',
-                                   'ST QA1_ENA_OPN'), [(70, 2)])
-        self.assertEqual(self.told('LD t', 'ST QA1_ENA_OPN'), [(72, 1)])
+        self.assertEqual(self.fault_lines('LD QA1_OPN', *rest)[0], (70, 1))
+        self.assertEqual(self.fault_lines('LD QA1_OPN', *rest[:8]), [(70, 1)])
+        self.assertEqual(self.fault_lines('LD QA1_OPEN', 'AND( QB1_OPN', 'OR QB1_OPEN', ')',
+                                          'ST QA1_ENA_OPN'), [(70, 2)])
+        self.assertEqual(self.fault_lines('LD t', 'ST QA1_ENA_OPN'), [(72, 1)])
 
     def test_what_is_a_fault_of_its_own_stays(self):
-        self.assertEqual(self.told('LD QA1_OPN', 'ST QA1_ENA_OPN', 'LD 5', 'ST QA1_ENA_OPN'),
+        self.assertEqual(self.fault_lines('LD QA1_OPN', 'ST QA1_ENA_OPN', 'LD 5', 'ST QA1_ENA_OPN'),
                          [(70, 1), (72, 4)])
-        self.assertEqual(self.told('LD QA1_OPN', 'CAL t(IN := TRUE)', 'ST QA1_ENA_OPN'),
+        self.assertEqual(self.fault_lines('LD QA1_OPN', 'CAL t(IN := TRUE)', 'ST QA1_ENA_OPN'),
                          [(70, 1), (73, 3)])
-        self.assertEqual(self.told('AND QA1_OPEN', 'ST QA1_ENA_OPN'), [(73, 1), (73, 2)])
-        self.assertEqual(self.told('LD QA1_OPN', 'GT 5', 'ADD 1'), [(70, 1), (72, 3)])
+        self.assertEqual(self.fault_lines('AND QA1_OPEN', 'ST QA1_ENA_OPN'), [(73, 1), (73, 2)])
+        self.assertEqual(self.fault_lines('LD QA1_OPN', 'GT 5', 'ADD 1'), [(70, 1), (72, 3)])
 
     def test_a_name_is_shown_as_it_is_declared(self):
         found = program.faults_of(program_of('LD open_coli', 'ST QA1_ENA_OPN'), {})
@@ -143,31 +143,31 @@ class Remedies(unittest.TestCase):
 
 
 class Releases(unittest.TestCase):
-    def told(self, *rows: str) -> list[tuple[int, str]]:
+    def warn(self, *rows: str) -> list[tuple[int, str]]:
         found = release_warnings(lines.read(program_of(*rows)), SWITCHES)
         return [(it.line - HEAD.count('\n'), it.told.split(';')[0].split(':')[0]) for it in found]
 
     def test_set_and_never_reset(self):
         wanted = 'S sets the release QA1_ENA_CLS, and no line takes it back'
-        self.assertEqual(self.told('LD QB1_OPEN', 'S QA1_ENA_CLS'), [(2, wanted)])
+        self.assertEqual(self.warn('LD QB1_OPEN', 'S QA1_ENA_CLS'), [(2, wanted)])
         for back in ('R QA1_ENA_CLS', 'ST qa1_ena_cls', 'STN QA1_ENA_CLS'):
-            self.assertEqual(self.told('LD QB1_OPEN', 'S QA1_ENA_CLS', back), [])
-        self.assertEqual(self.told('LD QB1_OPEN', 'S open_coil'), [])
+            self.assertEqual(self.warn('LD QB1_OPEN', 'S QA1_ENA_CLS', back), [])
+        self.assertEqual(self.warn('LD QB1_OPEN', 'S open_coil'), [])
 
     def test_what_a_return_jumps_over(self):
-        self.assertEqual(self.told('LD QB1_OPEN', 'RETC', 'ST QA1_ENA_CLS', 'ST QA1_ENA_OPN'),
+        self.assertEqual(self.warn('LD QB1_OPEN', 'RETC', 'ST QA1_ENA_CLS', 'ST QA1_ENA_OPN'),
                          [(2, 'where RETC returns, QA1_ENA_CLS, QA1_ENA_OPN keep what an earlier '
                               'scan gave')])
-        self.assertEqual(self.told('LD QB1_OPEN', 'ST QA1_ENA_CLS', 'RETCN', 'ST QA1_ENA_CLS'), [])
+        self.assertEqual(self.warn('LD QB1_OPEN', 'ST QA1_ENA_CLS', 'RETCN', 'ST QA1_ENA_CLS'), [])
 
     def test_two_stores(self):
         rows = ('LD QB1_OPEN', 'ST QA1_ENA_CLS', 'LD QB1_CLOSED', 'ST QA1_ENA_CLS')
-        self.assertEqual(self.told(*rows), [(4, 'QA1_ENA_CLS is stored twice')])
-        self.assertEqual(self.told(*rows[:2], 'JMPC done', *rows[2:], 'done: ST open_coil'), [])
-        self.assertEqual(self.told(*rows[:3], 'S QA1_ENA_CLS'), [])
+        self.assertEqual(self.warn(*rows), [(4, 'QA1_ENA_CLS is stored twice')])
+        self.assertEqual(self.warn(*rows[:2], 'JMPC done', *rows[2:], 'done: ST open_coil'), [])
+        self.assertEqual(self.warn(*rows[:3], 'S QA1_ENA_CLS'), [])
 
     def test_not_closed_for_open(self):
-        self.assertEqual(self.told('LDN QB1_CLOSED', 'ANDN QA1_CLOSED', 'ANDN QB1_OPEN',
+        self.assertEqual(self.warn('LDN QB1_CLOSED', 'ANDN QA1_CLOSED', 'ANDN QB1_OPEN',
                                    'ST QA1_ENA_CLS'),
                          [(1, 'LDN QB1_CLOSED takes QB1 for open also while it is on its way or '
                               'bad'),

@@ -24,7 +24,7 @@ DECISIONS = CRATES / 'bay_control' / 'specs' / 'Decisions.antt'
 HEAD = 'use Rattle.std.specs.Prelude.{ℕ, Bool}\n\n-- 5 and "true"\n'
 
 
-def changed(text: str, kind: str, name: str = 'f') -> list[str]:
+def change(text: str, kind: str, name: str = 'f') -> list[str]:
     """What the changes of a kind make of the first definition of this name, line by line."""
     number = HEAD.count('\n') + 1
     definition = Definition('bay_control', DECISIONS, name, number, '', text)
@@ -43,51 +43,51 @@ class Kinds(unittest.TestCase):
 
     def test_a_number_is_one_more(self):
         text = 'abbrev pub f : ℕ → Type 0\nf n = g n.0 5 (Unit {0})'
-        self.assertEqual(changed(text, 'number'), ['f n = g n.0 6 (Unit {0})'])
+        self.assertEqual(change(text, 'number'), ['f n = g n.0 6 (Unit {0})'])
 
     def test_a_sign_is_its_counterpart(self):
         text = 'abbrev pub f : ℕ → Bool\nf n = nat_lt n m && true'
-        self.assertEqual(changed(text, 'sign'), ['f n = nat_le n m && true',
-                                                 'f n = nat_lt n m || true',
-                                                 'f n = nat_lt n m && false'])
-        self.assertEqual(changed('abbrev pub f : ℕ → Type 0\nf n = n ≤ n - 1', 'sign'),
+        self.assertEqual(change(text, 'sign'), ['f n = nat_le n m && true',
+                                                'f n = nat_lt n m || true',
+                                                'f n = nat_lt n m && false'])
+        self.assertEqual(change('abbrev pub f : ℕ → Type 0\nf n = n ≤ n - 1', 'sign'),
                          ['f n = n < n - 1', 'f n = n ≤ n + 1'])
 
     def test_a_test_is_negated(self):
         text = 'abbrev pub f : Bool → ℕ\nf b = if g (if b then 1 else 2) then 3 else 4'
-        self.assertEqual(changed(text, 'test'), [
+        self.assertEqual(change(text, 'test'), [
             'f b = if not (g (if b then 1 else 2)) then 3 else 4',
             'f b = if g (if not (b) then 1 else 2) then 3 else 4'])
-        self.assertEqual(changed('abbrev pub f : Bool → Bool\nf b = not b', 'test'), ['f b = b'])
+        self.assertEqual(change('abbrev pub f : Bool → Bool\nf b = not b', 'test'), ['f b = b'])
         text = 'abbrev pub f : ℕ → Bool\nf n = if n == 1 then g n && n.a == 2 else n == (3 + n)'
-        self.assertEqual(changed(text, 'equality'), [
+        self.assertEqual(change(text, 'equality'), [
             'f n = if n == 1 then g n && not (n.a == 2) else n == (3 + n)',
             'f n = if n == 1 then g n && n.a == 2 else not (n == (3 + n))'])
 
     def test_an_arm_says_what_the_next_one_says(self):
         text = ('abbrev pub f : Option ℕ → ℕ → ℕ\nf None n = n\nf (Some m) n =\n    g m\n'
                 'f x n = n\n    f more')
-        self.assertEqual(changed(text, 'arm'), [])
-        self.assertEqual(changed('f : Bool → ℕ\nf true = 1\nf false =\n    2', 'arm'),
+        self.assertEqual(change(text, 'arm'), [])
+        self.assertEqual(change('f : Bool → ℕ\nf true = 1\nf false =\n    2', 'arm'),
                          ['f true = 2 f false = 1'])
 
     def test_arguments_of_one_type_are_swapped(self):
         text = 'abbrev pub f : ℕ → ℕ → State → State\nf a k s = is_selected_by a (k + 1) None'
-        self.assertEqual(changed(text, 'arguments'), ['f a k s = is_selected_by (k + 1) a None'])
+        self.assertEqual(change(text, 'arguments'), ['f a k s = is_selected_by (k + 1) a None'])
 
     def test_an_operand_is_left_out(self):
         text = 'abbrev pub f : Bool → Bool\nf b = if a && (b && c) && d ≡ e then 1 else 2'
-        self.assertEqual(changed(text, 'conjunct'), [
+        self.assertEqual(change(text, 'conjunct'), [
             'f b = if (b && c) && d ≡ e then 1 else 2', 'f b = if a && d ≡ e then 1 else 2',
             'f b = if a && (c) && d ≡ e then 1 else 2', 'f b = if a && (b) && d ≡ e then 1 else 2',
             'f b = if a && (b && c) ≡ e then 1 else 2'])
-        self.assertEqual(changed('f : Type 0\nf = (n : ℕ) → P n × All (λ m. m ≡ n) l', 'conjunct'),
+        self.assertEqual(change('f : Type 0\nf = (n : ℕ) → P n × All (λ m. m ≡ n) l', 'conjunct'),
                          ['f = (n : ℕ) → All (λ m. m ≡ n) l', 'f = (n : ℕ) → P n'])
 
     def test_a_fact_of_a_record_is_left_out(self):
         text = ('pub record F (n : ℕ) : Type 0 where\n  pub next : ℕ\n  pub after : next ≡ n\n'
                 '  pub is : All (λ m.\n      m ≡ n) l')
-        self.assertEqual(changed(text, 'fact', 'F'), ['', ''])
+        self.assertEqual(change(text, 'fact', 'F'), ['', ''])
         definition = Definition('bay_control', DECISIONS, 'F', 4, '', text)
         whole = HEAD + text + '\n'
         found = [it.applied(whole) for it in Changer(definition, whole).changes()]
@@ -103,7 +103,7 @@ class Kinds(unittest.TestCase):
         self.assertEqual(without_fact(text, 'c', frozenset({'c'})), text)
 
     def test_data_and_types_are_left(self):
-        self.assertEqual(changed('pub data f : Type 0 where\n  A : (a b : ℕ) → f', 'number'), [])
+        self.assertEqual(change('pub data f : Type 0 where\n  A : (a b : ℕ) → f', 'number'), [])
         self.assertEqual(types_of(only('shared_select_rows')),
                          ['Bool', 'ℕ', 'ℕ', 'State', 'List Row'])
 
@@ -129,7 +129,7 @@ class Texts(unittest.TestCase):
     def test_what_moves_stays_as_it_is_written(self):
         text = 'f : Bool → ℕ\nf true = codes "1 2"\n-- of the other\nf false = 2 -- so'
         self.assertIn('f true = 2 -- of the other f false = codes "1 2" -- so',
-                      changed(text, 'arm'))
+                      change(text, 'arm'))
 
     def test_each_change_of_the_headline_is_at_one_place(self):
         found = [change for it in reached() for change in changes_of(it)]
