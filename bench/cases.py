@@ -15,7 +15,7 @@ def sections(crate: str = 'bayctl_cases') -> Iterator[tuple[str, str]]:
         yield head, body
 
 
-def expanded(trace: str) -> str:
+def expand_octets(trace: str) -> str:
     """A trace in which `{OCTETS*TIMES}` stands for octets that are repeated so many times."""
     return re.sub(r'\{(\w+)\*(\d+)\}', lambda part: part[1] * int(part[2]), trace)
 
@@ -25,7 +25,7 @@ def scenarios() -> Iterator[tuple[str, dict[str, str]]]:
     texts = dict.fromkeys(TEXTS, '')
     for head, body in sections():
         if head in texts:
-            texts[head] = expanded(body) if head == 'trace' else body
+            texts[head] = expand_octets(body) if head == 'trace' else body
         elif head.startswith('report '):
             yield head.split(' ', 2)[2] if head.count(' ') > 1 else '', dict(texts)
 

@@ -25,7 +25,7 @@ MIB = 1_048_576
 sys.path += [str(TOP / 'tools'), str(TOP / 'dev')]
 
 
-def say_measured() -> None:
+def print_stamp() -> None:
     """Prints the line that stands above the script's figures in bench/RESULTS.md."""
     from devtools.figures.stamps import stamp_of_script
     print(stamp_of_script(), end='\n\n', flush=True)
@@ -58,7 +58,7 @@ def scenario_at(folder: pathlib.Path) -> bytes:
     return scenario_at(folder)
 
 
-def replayed() -> list[pathlib.Path]:
+def replayed_examples() -> list[pathlib.Path]:
     """The folders of the examples that have the three parts and are not served by a `run`."""
     return sorted(path.parent for path in EXAMPLES.glob('*/trace')
                   if not (path.parent / 'run').exists())
@@ -70,7 +70,7 @@ def write(path: str | os.PathLike, text: str) -> None:
         file.write(text)
 
 
-def compiled(folder: str, source: str, *words: str) -> str:
+def compile_c(folder: str, source: str, *words: str) -> str:
     """Compiles a C file of bench/ with -O2 into a folder, and returns the path of the result."""
     need('cc')
     made = os.path.join(folder, pathlib.Path(source).stem)
@@ -84,12 +84,12 @@ def library(folder: str, source: str) -> str:
     from devtools import preloads
     path = TOP / 'bench' / source
     if '#include' not in text_of(path):
-        return preloads.library(folder, path) or compiled(folder, source)
-    return compiled(folder, source, '-shared', '-fPIC', '-ldl')
+        return preloads.library(folder, path) or compile_c(folder, source)
+    return compile_c(folder, source, '-shared', '-fPIC', '-ldl')
 
 
-def preloaded(path: str, words: list, given: bytes = b'',
-              **settings: str) -> subprocess.CompletedProcess:
+def run_preloaded(path: str, words: list, given: bytes = b'',
+                  **settings: str) -> subprocess.CompletedProcess:
     """Runs a program with a preloaded library, and the library's settings in the environment. Its
     standard input is a file, since a pipe may give fewer octets than are asked for."""
     with tempfile.TemporaryFile() as file:
@@ -116,7 +116,7 @@ def least(run: Callable[[], tuple], times: int = 3) -> tuple:
     return min(run() for _ in range(times))
 
 
-def spent(words: list, given: str, out: str, **more) -> tuple[float, int, int]:
+def measure_run(words: list, given: str, out: str, **more) -> tuple[float, int, int]:
     """One run from a file to a file: the processor's seconds, the peak of memory in KiB, and the
     status."""
     with open(given, 'rb') as source, open(out, 'wb') as sink:
@@ -134,16 +134,16 @@ def instructions(words: list, given: str, *more: str) -> tuple[bytes, int]:
     return done.stdout, int(re.search(rb'Collected : (\d+)', done.stderr)[1])
 
 
-def serving(words: list, turns: int, names: list[str], reads: int) -> int:
+def count_served(words: list, turns: int, names: list[str], reads: int) -> int:
     """The instructions that callgrind counts of a server of this many turns, and of a client's
     reads of these names within them."""
     port = free_port()
     with tempfile.TemporaryFile() as log:
         count = ['valgrind', '--tool=callgrind', '--callgrind-out-file=/dev/null', PROGRAM, 'serve',
                  *words, '--port', str(port), '--turns', str(turns)]
-        with started(count, stdout=subprocess.DEVNULL, stderr=log) as child:
+        with run_in_block(count, stdout=subprocess.DEVNULL, stderr=log) as child:
             if reads:
-                client = connected(port)
+                client = connect(port)
                 for _ in range(reads):
                     client.read(names)
                 client.close()
@@ -153,7 +153,7 @@ def serving(words: list, turns: int, names: list[str], reads: int) -> int:
         return int(found[1]) if found else sys.exit('nothing is counted')
 
 
-def connected(port: int) -> 'Client':
+def connect(port: int) -> 'Client':
     """A client, once the server is there, which takes seconds under valgrind."""
     from baytools.wire.client import Client
     for _ in range(1_000):
@@ -166,7 +166,7 @@ def connected(port: int) -> 'Client':
 
 
 @contextlib.contextmanager
-def started(words: list, **more) -> Iterator[subprocess.Popen]:
+def run_in_block(words: list, **more) -> Iterator[subprocess.Popen]:
     """A program that runs until the block ends."""
     child = subprocess.Popen(words, **more)
     try:

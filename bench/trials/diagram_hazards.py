@@ -93,7 +93,7 @@ class Diagram:
             found |= self.at[node]
         return found
 
-    def reached(self, over: int, start: int, avoided: int = 0) -> int:
+    def nodes_reached(self, over: int, start: int, avoided: int = 0) -> int:
         """The nodes to which walks over some branches lead, none of which leads to a node that is
         avoided. No walk leads over an earthing switch."""
         over &= self.walked & ~self.touching(avoided)
@@ -113,7 +113,7 @@ class Diagram:
 
     def is_joined(self, over: int, one: int, other: int, avoided: int = 0) -> bool:
         """Whether a walk leads from one node to the other."""
-        return bool(self.reached(over, one, avoided) >> other & 1)
+        return bool(self.nodes_reached(over, one, avoided) >> other & 1)
 
     def has_beside(self, known: Known, switch: int, branch: int) -> bool:
         """Whether a path beside a branch, without a switch, is surely closed, and goes through no
@@ -126,7 +126,8 @@ class Diagram:
         """Whether walks lead from one end of a branch to one of the first nodes, and from its other
         end to one of the second, neither by way of the end of the other."""
         one, other = self.ends[branch]
-        return any(self.reached(over, a, 1 << b) & first and self.reached(over, b, 1 << a) & second
+        return any(self.nodes_reached(over, a, 1 << b) & first
+                   and self.nodes_reached(over, b, 1 << a) & second
                    for a, b in ((one, other), (other, one)))
 
     # ---- earths
@@ -135,7 +136,7 @@ class Diagram:
         """The node that an earthing switch earths."""
         return next(it for it in self.ends[branch] if self.nodes[it].kind != EARTH)
 
-    def earthed(self, switch: int, closed: int) -> int:
+    def earthed_nodes(self, switch: int, closed: int) -> int:
         """The nodes that earthing switches other than one earth, if these branches are closed."""
         return sum({1 << self.earthed_node(at) for at, it in enumerate(self.branches)
                     if it.kind == EARTHING and at != switch and closed >> at & 1})
@@ -145,11 +146,11 @@ class Diagram:
     def hazards(self, switch: int, way: int, known: Known) -> str:
         """The letters of the hazards of an operation of a branch."""
         kind = self.branches[switch].kind
-        live = self.sources & ~self.earthed(switch, known.sure)
+        live = self.sources & ~self.earthed_nodes(switch, known.sure)
         if kind == EARTHING:
             letter, is_so = ('E', self.earths) if way == CLOSE else ('L', self.unearths)
             return letter * is_so(switch, known)
-        earthed = self.earthed(switch, known.may)
+        earthed = self.earthed_nodes(switch, known.may)
         gapless = (~self.isolating | known.may) & ~(1 << switch)
         found = ''
         if way == CLOSE and self.spans(gapless, switch, live, earthed):
@@ -169,14 +170,14 @@ class Diagram:
 
     # ---- hazards that count only if a key of the diagram asks for them
 
-    def energised(self, switch: int, known: Known) -> int:
+    def live_sources(self, switch: int, known: Known) -> int:
         """The live sources that are not known to be dead."""
-        return self.sources & ~self.earthed(switch, known.sure) & known.alive
+        return self.sources & ~self.earthed_nodes(switch, known.sure) & known.alive
 
     def joins(self, switch: int, known: Known) -> bool:
         """Y: a breaker joins two live parts that are not surely joined, and no synchrocheck surely
         lets it."""
-        sources, branch = self.energised(switch, known), self.branches[switch]
+        sources, branch = self.live_sources(switch, known), self.branches[switch]
         return bool((self.network.live_parts or branch.synchro) and not known.agreed >> switch & 1
                     and self.spans(known.may & ~(1 << switch), switch, sources, sources)
                     and not self.has_beside(known, switch, switch))
@@ -192,15 +193,15 @@ class Diagram:
         """L: an earthing switch opens while a source may feed it that a gap could part from it."""
         node = self.earthed_node(switch)
         return self.network.fed_earths and bool(
-            self.reached(known.may & ~(1 << switch), node) & self.energised(switch, known)
-            & ~self.reached(~self.isolating, node))
+            self.nodes_reached(known.may & ~(1 << switch), node) & self.live_sources(switch, known)
+            & ~self.nodes_reached(~self.isolating, node))
 
     def earths(self, switch: int, known: Known) -> bool:
         """E: a source lies beyond no isolating gap, and is not known to be dead; that it is dead
         counts only where no gap can part it."""
         node = self.earthed_node(switch)
-        inseparable = self.reached(~self.isolating, node) & self.sources
-        gapless = self.reached(~self.isolating | known.may, node) & self.sources
+        inseparable = self.nodes_reached(~self.isolating, node) & self.sources
+        gapless = self.nodes_reached(~self.isolating | known.may, node) & self.sources
         return bool(gapless & ~(inseparable & ~known.alive))
 
     def breaks(self, switch: int, known: Known, live: int, earthed: int) -> bool:
@@ -227,8 +228,8 @@ class Diagram:
         near, far = 1 << a | 1 << x, ~self.transformers
         return any(not near & between
                    and self.is_joined(over, a, x, between | 1 << b | 1 << y)
-                   and self.reached(over, b, near | 1 << y & far) & first
-                   and self.reached(over, y, near | 1 << b & far) & last
+                   and self.nodes_reached(over, b, near | 1 << y & far) & first
+                   and self.nodes_reached(over, y, near | 1 << b & far) & last
                    for between, first, last in through)
 
     def leaves(self, switch: int, moving: int, known: Known, live: int) -> bool:

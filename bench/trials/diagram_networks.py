@@ -37,7 +37,7 @@ def nodes_of(chance: random.Random, inputs: list[str]) -> dict[str, Node]:
     return found | {'E': Node('E', EARTH)}
 
 
-def whole(node: Node, switches: list[Switch], chance: random.Random) -> Node:
+def with_no_loose_end(node: Node, switches: list[Switch], chance: random.Random) -> Node:
     """A junction of one switch is mostly a busbar; as it is, a diagram is refused for it."""
     is_loose = node.kind == JUNCTION and len(switches) < 2
     return Node(node.name, BUSBAR) if is_loose and chance.random() < 0.9 else node
@@ -57,7 +57,7 @@ def network_of(chance: random.Random, most: int = 8) -> tuple[Network, list[str]
         inputs += filter(None, told)
         switches.append(Switch(name, kind, ends, is_own, *told, isolates=kind == DISCONNECTOR
                                or kind == BREAKER and chance.random() < 0.1))
-    used = {name: whole(it, [one for one in switches if name in one.nodes], chance)
+    used = {name: with_no_loose_end(it, [one for one in switches if name in one.nodes], chance)
             for name, it in nodes.items() if any(name in one.nodes for one in switches)}
     return Network('random', used, switches), inputs
 

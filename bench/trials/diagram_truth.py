@@ -32,7 +32,7 @@ class Truth:
                         waiting.append(end)
         return found
 
-    def carries(self, closed: int, branch: int, live: int) -> bool:
+    def has_current(self, closed: int, branch: int, live: int) -> bool:
         """Whether a current flows through a disconnector that is closed: a live source feeds one of
         its sides, and no other path joins them but one over a transformer."""
         one, other = self.diagram.ends[branch]
@@ -43,20 +43,20 @@ class Truth:
         return bool(near[one] & self.diagram.terminals and near[other] & self.diagram.terminals
                     and (whole[one] | whole[other]) & live)
 
-    def happens(self, closed: int, switch: int, way: int) -> tuple[bool, set[int]]:
+    def judge_operation(self, closed: int, switch: int, way: int) -> tuple[bool, set[int]]:
         """Whether an operation is a hazard by itself, and the disconnectors that would make or
         break a current by it if they were on their way."""
         it, branch = self.diagram, self.diagram.branches[switch]
         closed &= ~(1 << switch)
-        live = it.sources & ~it.earthed(switch, closed)
-        earthed = it.earthed(switch, closed)
+        live = it.sources & ~it.earthed_nodes(switch, closed)
+        earthed = it.earthed_nodes(switch, closed)
         if branch.kind == EARTHING:
             return way == CLOSE and self.earths(closed, switch), set()
         arcs = {at for at, other in enumerate(it.branches) if other.kind == DISCONNECTOR
-                and at != switch and self.arcs(closed, switch, way, at, live)}
+                and at != switch and self.makes_arc(closed, switch, way, at, live)}
         is_hazard = way == CLOSE and self.shorts(closed, switch, live, earthed)
         if branch.kind != BREAKER:
-            is_hazard = is_hazard or self.carries(closed, switch, live) or self.shorts(
+            is_hazard = is_hazard or self.has_current(closed, switch, live) or self.shorts(
                 closed, switch, live, earthed, gapless=False)
         return is_hazard, arcs
 
@@ -75,30 +75,30 @@ class Truth:
         inseparable = self.parts(~it.isolating)[node]
         return bool(self.parts(~it.isolating | closed)[node] & it.sources & ~inseparable)
 
-    def arcs(self, closed: int, switch: int, way: int, moving: int, live: int) -> bool:
+    def makes_arc(self, closed: int, switch: int, way: int, moving: int, live: int) -> bool:
         """Whether a current begins or is left in a disconnector by the operation."""
         rest = closed & ~(1 << moving)
         before, after = (rest, rest | 1 << switch) if way == CLOSE else (rest | 1 << switch, rest)
-        return self.carries(after, moving, live) and not self.carries(before, moving, live)
+        return self.has_current(after, moving, live) and not self.has_current(before, moving, live)
 
-    def found(self, switch: int, way: int, closed: int, unknown: int) -> int:
+    def code_of(self, switch: int, way: int, closed: int, unknown: int) -> int:
         """What happens in some way in which unknown positions can be: a bit for a hazard by itself,
         and above it one for each disconnector that would make or break a current."""
         key = switch, way, closed, unknown
         if key not in self.codes:
             if unknown:
                 one = unknown & -unknown
-                self.codes[key] = (self.found(switch, way, closed, unknown ^ one)
-                                   | self.found(switch, way, closed | one, unknown ^ one))
+                self.codes[key] = (self.code_of(switch, way, closed, unknown ^ one)
+                                   | self.code_of(switch, way, closed | one, unknown ^ one))
             else:
-                by_itself, arcs = self.happens(closed, switch, way)
+                by_itself, arcs = self.judge_operation(closed, switch, way)
                 self.codes[key] = by_itself | sum(2 << at for at in arcs)
         return self.codes[key]
 
     def is_hazard(self, known: Known, switch: int, way: int) -> bool:
         """Whether an operation would be a hazard in some way in which the unknown positions can
         be."""
-        code = self.found(switch, way, known.sure & ~(1 << switch), known.moves & ~(1 << switch))
+        code = self.code_of(switch, way, known.sure & ~(1 << switch), known.moves & ~(1 << switch))
         if code & 1 or code >> 1 & known.moves:
             return True
         return self.diagram.branches[switch].kind == EARTHING and way == CLOSE and (

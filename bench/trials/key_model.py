@@ -244,9 +244,9 @@ class Bay:
             return ONE_OF_N
         if self.positions[ask.switch][0] == (CLOSED if ask.on else OPEN):
             return REACHED
-        return self.blocked(now, ask, one, was_remote)
+        return self.blocking_cause(now, ask, one, was_remote)
 
-    def blocked(self, now: int, ask: Ask, one: Switch, was_remote: bool) -> int | None:
+    def blocking_cause(self, now: int, ask: Ask, one: Switch, was_remote: bool) -> int | None:
         """The checks of the process, of the key, of the interlocking, and of the synchrocheck."""
         is_remote = self.is_remote(one)
         if self.has('the key is that of the select') and one.control != 'direct':

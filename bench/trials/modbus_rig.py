@@ -41,7 +41,7 @@ class Rig:
         shared.write(self.wiring, text)
         self.is_over = False
         for name in ('io1', 'io2', 'bayctl', 'driver'):
-            self.starts(name)
+            self.start(name)
         self.watching = threading.Thread(target=self.watch, daemon=True)
         self.watching.start()
 
@@ -57,22 +57,22 @@ class Rig:
         plant = shared.TOP / 'bench' / 'trials' / 'modbus_plant'
         return [SYSTEM, '-B', plant, self.library, BAY, self.wiring, name]
 
-    def starts(self, name: str) -> None:
+    def start(self, name: str) -> None:
         with (self.folder / name).open('a') as out:
             self.running[name] = subprocess.Popen(
                 [*map(str, self.words(name))], stdin=subprocess.PIPE, stdout=out, stderr=out)
 
-    def kills(self, name: str, number: signal.Signals = signal.SIGKILL) -> None:
+    def kill(self, name: str, number: signal.Signals = signal.SIGKILL) -> None:
         run = self.running[name]
         run.send_signal(number)
         run.wait()
         with contextlib.suppress(OSError):
             run.stdin.close()
 
-    def signals(self, name: str, number: signal.Signals) -> None:
+    def send_signal(self, name: str, number: signal.Signals) -> None:
         self.running[name].send_signal(number)
 
-    def types(self, name: str, line: str) -> None:
+    def type_line(self, name: str, line: str) -> None:
         """Tells a module a line, if it lives."""
         with contextlib.suppress(OSError, ValueError):
             self.running[name].stdin.write(f'{line}\n'.encode())
@@ -123,14 +123,14 @@ class Rig:
                 raise TimeoutError(f'not within {seconds} s: {told}')
             time.sleep(0.01)
 
-    def is_steady(self) -> None:
+    def wait_until_steady(self) -> None:
         """All positions are ends, and the spring is charged."""
-        self.types('io1', 'SPRING 1')
+        self.type_line('io1', 'SPRING 1')
         self.until(lambda: all(self.position(name) in ('open', 'closed') for name in POSITIONS),
                    'all is good')
         time.sleep(0.3)
 
-    def ends(self) -> None:
+    def end(self) -> None:
         self.is_over = True
         self.watching.join(5)
         for name in ('driver', 'bayctl', 'io1', 'io2'):

@@ -51,22 +51,22 @@ class Soak:
         begun = now()
         who = {'module': module, 'driver': 'driver', 'server': 'bayctl'}.get(kind.split(' ')[-1])
         if kind.startswith('stop'):
-            rig.signals(who, signal.SIGSTOP)
+            rig.send_signal(who, signal.SIGSTOP)
             time.sleep(length)
-            rig.signals(who, signal.SIGCONT)
+            rig.send_signal(who, signal.SIGCONT)
         elif kind.startswith(('kill', 'end')):
-            rig.kills(who, signal.SIGKILL if kind.startswith('kill') else signal.SIGTERM)
+            rig.kill(who, signal.SIGKILL if kind.startswith('kill') else signal.SIGTERM)
             time.sleep(length)
-            rig.starts(who)
+            rig.start(who)
             if who == 'io1':
-                rig.types('io1', 'SPRING 1')
+                rig.type_line('io1', 'SPRING 1')
         else:
-            self.typed(kind, module, length)
+            self.command_fault(kind, module, length)
         self.faults.append(Fault(kind, module, begun, now()))
 
-    def typed(self, kind: str, module: str, length: float) -> None:
+    def command_fault(self, kind: str, module: str, length: float) -> None:
         """A fault of a module that is told so."""
-        pick, types = self.random.choice, self.rig.types
+        pick, types = self.random.choice, self.rig.type_line
         before, after = {
             'exception': (f'exception {pick((1, 4, 6, 11))}', 'exception 0'),
             'delay': (f'delay {pick((0.1, 0.3, 2))}', 'delay 0'),
@@ -100,11 +100,11 @@ class Soak:
         while time.monotonic() < end:
             self.operate()
         time.sleep(4)
-        self.rig.kills('driver', signal.SIGTERM)
+        self.rig.kill('driver', signal.SIGTERM)
         for module in ('io1', 'io2'):
-            self.rig.types(module, 'state')
+            self.rig.type_line(module, 'state')
         time.sleep(0.2)
-        self.rig.ends()
+        self.rig.end()
 
 
 @dataclass(frozen=True)
@@ -133,7 +133,7 @@ def commands(rig: Rig) -> list[tuple[int, str, str]]:
     return [(moment, it[1], it[2]) for moment, it in words if it[0] == 'command']
 
 
-def matched(soak: Soak) -> tuple[list[str], list[str], list[str], int]:
+def match_pulses(soak: Soak) -> tuple[list[str], list[str], list[str], int]:
     """Pulses without a command, second pulses for one, late pulses, and how many commands had
     none."""
     rig, without, twice, late = soak.rig, [], [], []
@@ -172,7 +172,7 @@ def causes(faults: list[Fault], lates: list[Fault], one: Edge, asked: int) -> li
     return found
 
 
-def gone(rig: Rig) -> list[tuple[int, str, str, bool]]:
+def release_changes(rig: Rig) -> list[tuple[int, str, str, bool]]:
     """When the driver was told that a way of a switch is released, or no longer. What it was told
     is void where its connection has ended."""
     found, known = [], set()
@@ -186,11 +186,11 @@ def gone(rig: Rig) -> list[tuple[int, str, str, bool]]:
     return found
 
 
-def unreleased(soak: Soak) -> list[str]:
+def unreleased_pulses(soak: Soak) -> list[str]:
     """Pulses that began UNSEEN after the driver was told that their release had gone, and those of
     a disconnector that went on so long after it. Where the module acted late, or a driver or module
     had a fault of its own meanwhile, that is no wrong of the driver."""
-    changes, found, begun = gone(soak.rig), [], {}
+    changes, found, begun = release_changes(soak.rig), [], {}
     lates = [it for it in soak.faults if it.kind == 'late']
     for one in edges(soak.rig):
         key = one.module, one.switch, one.way
@@ -222,7 +222,7 @@ def truth(rig: Rig) -> list[tuple[int, str, str]]:
     return sorted(found)
 
 
-def stale(soak: Soak) -> dict[str, int]:
+def stale_ends(soak: Soak) -> dict[str, int]:
     """Ends that a client was told though the switch had left them STALE before it asked. (What it
     asks of a server that is stopped is answered late, and of when it asked.) What io1 is, which has
     no counter, while it stalls nobody can know."""
@@ -287,12 +287,12 @@ def summary_of(soak: Soak) -> tuple[list[str], bool]:
         moments, count = both_on(rig, name)
         both, excused = both + moments, excused + count
     foreign = sum('another master' in one.by for one in edges(rig))
-    without, twice, late, unused = matched(soak)
+    without, twice, late, unused = match_pulses(soak)
     on = [text for name in ('io1', 'io2') for _, text in rig.lines(name)
           if 'coils that are on' in text and not text.endswith('none')]
-    unfree = unreleased(soak)
+    unfree = unreleased_pulses(soak)
     unexplained = [one for one in late if 'acted late' not in one]
-    old = stale(soak)
+    old = stale_ends(soak)
     kinds = {kind: sum(it.kind == kind for it in soak.faults) for kind in KINDS}
     said = '\n'.join(soak.said)
     lines = [

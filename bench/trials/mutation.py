@@ -161,7 +161,7 @@ def outer(rng: Random, front: bytes | int, items: list | None, roots: list[Value
                                 for name, value in items))
 
 
-def joined(octets: bytes) -> tuple[bytes | None, bytes]:
+def join_tsdu(octets: bytes) -> tuple[bytes | None, bytes]:
     """The TSDU at the front of octets, and the octets behind it; None and all octets where there is
     none."""
     at, tsdu = 0, b''
@@ -177,7 +177,7 @@ def joined(octets: bytes) -> tuple[bytes | None, bytes]:
 
 def elements_of(octets: bytes) -> list[Value] | None:
     """The elements of the first TSDU in octets, or None."""
-    tsdu, _ = joined(octets)
+    tsdu, _ = join_tsdu(octets)
     try:
         return inner(tsdu)[2] if tsdu else None
     except (ber.Unreadable, KeyError):
@@ -186,7 +186,7 @@ def elements_of(octets: bytes) -> list[Value] | None:
 
 def change_octets(rng: Random, octets: bytes, others: list[list[Value]]) -> bytes:
     """The octets of a line of the trace, changed."""
-    tsdu, rest = joined(octets)
+    tsdu, rest = join_tsdu(octets)
     if not tsdu or rng.random() < 0.25:
         return odd_octets(rng, octets)
     try:
@@ -265,7 +265,7 @@ def change_text(rng: Random, text: str) -> str:
     return '\n'.join(lines)
 
 
-def changed(rng: Random, seeds: list[Seed], donors: list[list[Value]]) -> bytes:
+def change_scenario(rng: Random, seeds: list[Seed], donors: list[list[Value]]) -> bytes:
     """The octets of a scenario like one of those given."""
     bay, logic, trace = rng.choice(seeds)
     lines, kind = list(trace), rng.randrange(20)
@@ -275,11 +275,11 @@ def changed(rng: Random, seeds: list[Seed], donors: list[list[Value]]) -> bytes:
         logic = change_text(rng, logic)
     elif kind < 19:
         bay = change_text(rng, bay)
-    octets = whole(bay, logic, lines)
+    octets = scenario_octets(bay, logic, lines)
     return odd_octets(rng, octets) if kind == 19 else octets
 
 
-def whole(bay: str, logic: str, lines: list[str]) -> bytes:
+def scenario_octets(bay: str, logic: str, lines: list[str]) -> bytes:
     """The octets of a scenario."""
     trace = ''.join(line + '\n' for line in lines)
     return f'{bay}%%\n{logic}%%\n{trace}'.encode('latin-1', 'replace')

@@ -116,7 +116,7 @@ class Part:
         """What the run of now printed."""
         return self.runs[-1].read_text(encoding='utf-8', errors='replace')
 
-    def printed(self) -> str:
+    def printed_text(self) -> str:
         return ''.join(path.read_text(encoding='utf-8', errors='replace') for path in self.runs)
 
 
@@ -128,7 +128,7 @@ class Gear:
     def __init__(self) -> None:
         self.positions = dict(FIRST)
 
-    def started(self, name: str) -> None:
+    def on_start(self, name: str) -> None:
         """A part was started."""
 
     def pulses(self) -> int:
@@ -163,7 +163,8 @@ class Simulated(Gear):
     def pulses(self) -> int:
         """How often one began to move; where the connection is new, it is told once more of it."""
         before, count = dict.fromkeys(FIRST, ''), 0
-        for name, number in re.findall(r'^> \d+ contact (\w+) (\d)$', self.part.printed(), re.M):
+        printed = self.part.printed_text()
+        for name, number in re.findall(r'^> \d+ contact (\w+) (\d)$', printed, re.M):
             count += number == '0' != before[name]
             before[name] = number
         return count
@@ -186,14 +187,14 @@ class Played(Gear):
         self.module = Part('module', folder, lambda: [*self.words, '--play', self.wiring])
         self.parts = [self.module]
 
-    def started(self, name: str) -> None:
+    def on_start(self, name: str) -> None:
         """A module that is played begins with all switches open, and the spring not charged."""
         if name == 'module':
             self.module.type('SPRING 1', *(
                 f'{name} close' for name, place in self.positions.items() if place == 'closed'))
 
     def pulses(self) -> int:
-        return len(re.findall(r'coil \d+ \(\w+ (?:open|close)\) on', self.module.printed()))
+        return len(re.findall(r'coil \d+ \(\w+ (?:open|close)\) on', self.module.printed_text()))
 
     def places(self) -> dict[str, str]:
         """They are where the module last said."""
@@ -205,7 +206,7 @@ class Played(Gear):
         return found
 
     def wrongs(self) -> list[str]:
-        return re.findall(r'both coils of \w+ are on', self.module.printed())
+        return re.findall(r'both coils of \w+ are on', self.module.printed_text())
 
 
 class Wired(Played):

@@ -108,13 +108,14 @@ class Twins(Tools):
         self.assertEqual(self.try_one(answer), (0, '1 passed, 0 failed'))
 
     def test_one_that_is_refused(self) -> None:
-        self.assertEqual(self.try_one('must-fail low/a.edit: refused, as it must be: src/lib.rt:1:1'),
-                         (1, '0 passed, 1 failed'))
+        answer = 'must-fail low/a.edit: refused, as it must be: src/lib.rt:1:1'
+        self.assertEqual(self.try_one(answer), (1, '0 passed, 1 failed'))
 
     def test_one_that_was_not_tried(self) -> None:
         self.assertEqual(self.try_one('must-fail low/a.edit: BAD EDIT: it is no edit'),
                          (1, '0 passed, 1 failed'))
-        self.assertEqual(self.try_one('rt: the library low did not build'), (1, '0 passed, 1 failed'))
+        self.assertEqual(self.try_one('rt: the library low did not build'),
+                         (1, '0 passed, 1 failed'))
 
     def test_each_has_its_edit_of_the_same_text(self) -> None:
         def lines_but_new(path: pathlib.Path) -> list[str]:

@@ -143,7 +143,7 @@ class Trial(unittest.TestCase):
                 (answers.OPEN, True, '', 'open, and a scan breaks it'),
                 (answers.MANY, False, '', 'many')):
             proof = Proof(1, 'QA1', 0, verdict, timer=timer)
-            ended = TRIAL.ended(self.rule, proof, [run((0, OUT, True)), run((0, IN, given))])
+            ended = TRIAL.outcome_of(self.rule, proof, [run((0, OUT, True)), run((0, IN, given))])
             self.assertEqual(ended, told)
             rules['with memory', TRIAL.kind_of(self.until), ended] += 1
         rules['without memory', TRIAL.kind_of(self.rule), 'holds'] += 7
@@ -216,7 +216,7 @@ class Trial(unittest.TestCase):
                      {(INPUT, 'I1')})
         with mock.patch.object(TRIAL, 'scans_of', side_effect=lambda _, octets: iter(
                 [releases_of_all(True)] * octets.count(b' scan'))):
-            found = TRIAL.scanned(bay, [(0,), (1,)], [0, 49, 100])
+            found = TRIAL.scan_combinations(bay, [(0,), (1,)], [0, 49, 100])
             self.assertEqual([(it.moment, it.state) for it in found], [
                 *((at, OUT) for at in (0, 49, 100)), *((at, IN) for at in (100, 149, 200))])
             self.assertEqual(len(TRIAL.walk(random.Random(1), bay)), TRIAL.STEPS)
