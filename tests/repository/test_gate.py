@@ -13,9 +13,10 @@ PARTS = ('examples/check', 'bench/trials/faults', 'bench/speed/allocations')
 
 
 class Gate(unittest.TestCase):
-    def run_with(self, printed: dict[str, tuple[int, str]]) -> tuple[int, list[str]]:
+    def run_with(self, printed: dict[str, tuple[int, str]],
+                 body: str = 'pass') -> tuple[int, list[str]]:
         """The status and the lines of a gate each of whose programs ends with a status and prints
-        some lines."""
+        some lines, and whose only test of the tools has this body."""
         with tempfile.TemporaryDirectory() as folder:
             top = pathlib.Path(folder)
             silent = {'dev/figures': (0, ''), 'dev/memory_check': (0, '')}
@@ -28,7 +29,7 @@ class Gate(unittest.TestCase):
             (top / 'tests').mkdir()
             (top / 'tests' / '__init__.py').touch()
             (top / 'tests' / 'test_one.py').write_text(
-                'import unittest\nclass One(unittest.TestCase):\n    def test(self): pass\n')
+                f'import unittest\nclass One(unittest.TestCase):\n    def test(self): {body}\n')
             done = subprocess.run([top / 'run'], cwd=top, capture_output=True, text=True,
                                   env={**os.environ, 'PATH': f'{top}:{os.environ["PATH"]}'})
             return done.returncode, done.stdout.splitlines()
@@ -57,6 +58,16 @@ class Gate(unittest.TestCase):
         parts['examples/check'] = 0, r'tools: 5 checks, 0 failed, 3 not tried\n'
         status, lines = self.run_with({'rt': (0, r'40 passed, 0 failed\n'), **parts})
         self.assertEqual((status, lines[-1]), (0, '49 passed, 0 failed, 3 not tried'))
+
+    def test_a_test_that_is_skipped_is_counted(self) -> None:
+        parts = {part: (0, r'one: 2 checks, 0 failed, 1 not tried\n') for part in PARTS}
+        status, lines = self.run_with({'rt': (0, r'40 passed, 0 failed\n'), **parts},
+                                      'self.skipTest("it needs a package")')
+        self.assertEqual((status, lines[-1]), (0, '46 passed, 0 failed, 4 not tried'))
+
+    def test_a_test_of_the_tools_fails(self) -> None:
+        status, lines = self.run_with({'rt': (0, r'40 passed, 0 failed\n')}, 'self.fail()')
+        self.assertEqual((status, lines[-1]), (1, '0 passed, 1 failed'))
 
     def test_what_tells_no_counts(self) -> None:
         status, lines = self.run_with({'rt': (2, '')})

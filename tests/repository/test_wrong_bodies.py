@@ -2,6 +2,7 @@
 import contextlib
 import dataclasses
 import io
+import json
 import os
 import pathlib
 import unittest
@@ -53,6 +54,18 @@ class Copy(Tools):
     def test_a_crate_that_is_not_named(self) -> None:
         self.assertEqual(self.copied_files([], True), {'src/lib.rt', 'out/rlib/stamp'})
 
+    def test_those_that_are_wanted(self) -> None:
+        found = loaded('wrong_bodies').copy_of(self.crates, self.room, ['low'], True, set(),
+                                               lambda name: name == 'low/a')
+        self.assertEqual(found, ['low'])
+        self.assertEqual([it.name for it in (self.room / 'crates').glob('*/must-fail/*')],
+                         ['a.edit'])
+
+    def test_a_crate_without_one_that_is_wanted(self) -> None:
+        found = loaded('wrong_bodies').copy_of(self.crates, self.room, ['low'], True, set(),
+                                               lambda name: False)
+        self.assertEqual(found, [])
+
     def test_a_twin_stands_where_the_gates_edits_did(self) -> None:
         tool = loaded('wrong_bodies')
         self.assertEqual(tool.crates_with_twins(self.crates), [])
@@ -82,8 +95,63 @@ class Tried(Tools):
         command.chmod(0o755)
         with mock.patch.dict(os.environ, CI='true', PATH=f'{self.folder}:{os.environ["PATH"]}'), \
                 contextlib.redirect_stdout(io.StringIO()):
-            self.assertEqual(loaded('wrong_bodies').tried('ci', ['low'], self.folder),
+            self.assertEqual(loaded('wrong_bodies').run_rt('ci', ['low'], self.folder),
                              (0, ' ci low\n'))
+
+
+class Kept(Tools):
+    """The answers of a crate are kept before the next crate is tried."""
+
+    def setUp(self) -> None:
+        super().setUp()
+        self.table = self.folder / 'refusals.json'
+        for patched in (mock.patch.object(refusals, 'TABLE', self.table),
+                        mock.patch.dict(os.environ, PATH=f'{self.folder}:{os.environ["PATH"]}')):
+            patched.start()
+            self.addCleanup(patched.stop)
+        read_table.cache_clear()
+        self.addCleanup(read_table.cache_clear)
+
+    def try_crates(self, script: str, *crates: str) -> tuple[int, str]:
+        """The exit status and the last line, with this script in the place of `rt`."""
+        pathlib.Path(self.file('rt', f'#!/bin/sh\n{script}\n')).chmod(0o755)
+        printed = io.StringIO()
+        with contextlib.redirect_stdout(printed):
+            status = loaded('wrong_bodies').try_edits('must-fail', list(crates), self.folder, False)
+        return status, printed.getvalue().splitlines()[-1]
+
+    def test_crate_after_crate(self) -> None:
+        first, second = (edits_of(it)[0] for it in ('bay_control', 'bay_device'))
+        answer = 'echo "must-fail $2/{}.edit: refused, as it must be: proofs/x/Answers.antt:1:1: {}"'
+        script = (f'case $2 in\nbay_control) {answer.format(first.path.stem, "one")};;\n'
+                  f'*) cp refusals.json before; {answer.format(second.path.stem, "two")};;\nesac')
+        self.assertEqual(self.try_crates(script, 'bay_control', 'bay_device'),
+                         (0, '2 passed, 0 failed'))
+        self.assertEqual(set(json.loads((self.folder / 'before').read_text())), {first.key})
+        self.assertEqual({name: it.goal for name, it in read_table().items()},
+                         {first.key: 'one', second.key: 'two'})
+
+    def test_a_status_of_any_crate_counts(self) -> None:
+        self.assertEqual(self.try_crates('[ $2 = bay_device ]', 'bay_control', 'bay_device'),
+                         (1, '0 passed, 0 failed'))
+
+    def test_which_are_still_needed(self) -> None:
+        call = next(it for it in calls_of('bay_device') if it.title == 'Device::step')
+        told = Refusal(call.title, 'steps', 'a goal', 'c0ffee', '2026-11-29')
+        one, two, three, four, five = (it.key for it in edits_of('bay_device')[:5])
+        refusals.write_table({
+            one: told, two: dataclasses.replace(told, call='gone'),
+            three: dataclasses.replace(told, clause='gone'),
+            four: dataclasses.replace(told, goal='a goal ..')})
+        self.assertEqual([it for it in (one, two, three, four, five)
+                          if refusals.is_needed(it, False)], [two, three, five])
+        self.assertTrue(refusals.is_needed(four, True))
+
+    def test_the_whole_of_an_answer(self) -> None:
+        edit = edits_of('bay_device')[0]
+        refusals.write_table({edit.key: Refusal('', '', 'a goal ..', 'c0ffee', '2026-11-29')})
+        refusals.complete(edit.key, lambda name: 'src/x.rt:1:1: a goal that goes on\n')
+        self.assertEqual(read_table()[edit.key].goal, 'a goal that goes on')
 
 
 class Twins(Tools):
@@ -100,7 +168,7 @@ class Twins(Tools):
         printed = io.StringIO()
         with mock.patch.dict(os.environ, PATH=f'{self.folder}:{os.environ["PATH"]}'), \
                 contextlib.redirect_stdout(printed):
-            status = loaded('wrong_bodies').tried_twins('must-fail', ['low'], self.folder)
+            status = loaded('wrong_bodies').try_twins('must-fail', ['low'], self.folder)
         return status, printed.getvalue().splitlines()[-1]
 
     def test_one_that_is_proved(self) -> None:

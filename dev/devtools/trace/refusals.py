@@ -4,6 +4,7 @@ import dataclasses
 import datetime
 import functools
 import json
+import os
 import re
 from collections.abc import Callable
 
@@ -109,17 +110,45 @@ def shortened(told: Refusal) -> dict[str, str]:
     return {name: it for name, it in dataclasses.asdict(told).items() if it or name != 'caveat'}
 
 
-def keep(log: str, check: Callable[[str], str] | None = None) -> int:
-    """Puts the answers of a log into the table, and returns how many there are. `check` returns
-    what a check of an edit prints, by its crate and name: it is asked for those that the kit
-    cut."""
-    found = answers_in(log)
-    for name, told in found.items():
-        if check and told.goal.endswith(CUT):
-            found[name] = completed(told, check(name))
-    table = {**read_table(), **found}
+def write_table(table: dict[str, Refusal]) -> None:
+    """Writes the answers of edits that are there. The new table takes the place of the old one at
+    once, so a run that is ended leaves one or the other."""
     there = {f'{it.parent.parent.name}/{it.stem}' for it in CRATES.glob('*/*/*.edit')}
-    told = {name: shortened(table[name]) for name in sorted(table) if name in there}
-    TABLE.write_text(json.dumps(told, indent=1, ensure_ascii=False) + '\n', encoding='utf-8')
+    rows = {name: shortened(table[name]) for name in sorted(table) if name in there}
+    new = TABLE.with_suffix('.new')
+    new.write_text(json.dumps(rows, indent=1, ensure_ascii=False) + '\n', encoding='utf-8')
+    os.replace(new, TABLE)
     read_table.cache_clear()
-    return len(found)
+
+
+def keep(log: str) -> list[str]:
+    """Puts the answers of a log into the table, and returns the names of their edits."""
+    found = answers_in(log)
+    read_table.cache_clear()
+    write_table({**read_table(), **found})
+    return list(found)
+
+
+def complete(name: str, check: Callable[[str], str]) -> None:
+    """Completes an answer that the kit cut. `check` returns what a check of an edit prints, by its
+    crate and name."""
+    told = read_table()[name]
+    if told.goal.endswith(CUT):
+        whole = completed(told, check(name))
+        read_table.cache_clear()
+        write_table({**read_table(), name: whole})
+
+
+def is_stale(name: str, told: Refusal) -> bool:
+    """Whether an answer names a call, or a clause of it, that is gone."""
+    crate = name.partition('/')[0]
+    calls = [it for it in calls_of(crate) if it.title == told.call]
+    labels = {clause.label or clause.kind for it in calls for clause in it.clauses}
+    return bool(told.call) and (not calls or bool(told.clause) and told.clause not in labels)
+
+
+def is_needed(name: str, is_whole: bool) -> bool:
+    """Whether an edit, by its crate and name, still needs an answer; `is_whole` asks for answers
+    that are not cut."""
+    told = read_table().get(name)
+    return told is None or is_stale(name, told) or is_whole and told.goal.endswith(CUT)
