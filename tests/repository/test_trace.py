@@ -1,6 +1,7 @@
 """From a promise to its proof: each row of README, PROVED and SECURITY names calls that are there,
 with clauses whose definitions are found; has a law, an edit and a case, or a reason for none; and
 keeps its id."""
+import hashlib
 import html
 import json
 import pathlib
@@ -10,14 +11,15 @@ import unittest
 from unittest import mock
 
 from baytools.common.paths import TOP
-from devtools.trace import changed, inner, lacking, shown, standards
+from devtools.trace import base, changed, inner, lacking, refusals, shown, standards
 from devtools.trace.calls import Source, all_calls, crates, quiet
 from devtools.trace.definitions import Reader, scope_of_call, unfound
 from devtools.trace.edits import broken, edits_of, laws_about, refused_of
 from devtools.trace.lacking import key_of
 from devtools.trace.markdown import block, inline
 from devtools.trace.promises import PAGES, Promise, Resolver, borne_by, promises, registered
-from devtools.trace.trace_page import FIRST, Sheet, StandardSheet
+from devtools.trace.refusals import Refusal
+from devtools.trace.trace_page import FIRST, Sheet, StandardSheet, breaks
 from tests.tool import Tools
 
 CODE = '''ghost use Rattle.bay_tree.specs.Rows.{place_of};
@@ -301,6 +303,68 @@ class Standards(unittest.TestCase):
                 ('(IEC 61850-7-3, ctlModel)', [('IEC 61850-7-3', 'ctlModel')]),
                 ('of our own', [])):
             self.assertEqual(standards.clauses_in(text), clauses, text)
+
+
+class Base(Tools):
+    """What the head of the page says of the kit, of the gate, and of what the page lacks."""
+
+    def make_kit(self) -> pathlib.Path:
+        """A kit with sums of its own, whose `toml` is over `core`."""
+        kit = self.folder / 'kit'
+        for name, text in (('WHAT', 'archive a1\ncommit b2\n'), ('bin/rattle', 'prover'),
+                           ('logic_built/format', 'rattle logic-built v1\nlogic c3\n'),
+                           ('rlibs/toml.rlib/format', f'over core d4\nsum {"5" * 64}\n')):
+            path = kit / name
+            path.parent.mkdir(parents=True, exist_ok=True)
+            path.write_text(text)
+        return kit
+
+    def test_a_kit(self):
+        found = dict(base.rows_of_kit(self.make_kit()))
+        self.assertIn('(archive a1, commit b2)', found['Kit'])
+        self.assertEqual(found['Prover'], f'SHA-256 {hashlib.sha256(b"prover").hexdigest()}')
+        self.assertEqual(found['Logic'], 'c3; taken as built')
+        libraries = found['Libraries of the kit'].partition(';')[0].split(', ')
+        self.assertIn(f'toml {"5" * 16}', libraries)
+        self.assertIn('core unknown', libraries)
+
+    def test_no_kit(self):
+        self.assertEqual(base.rows_of_kit(None), [('Kit', base.NO_KIT)])
+
+    def test_a_run_of_the_gate(self):
+        self.assertEqual(base.gate_text(None), base.NO_GATE)
+        log = 'rt: low proved\nrt: high is kept: x\n1 passed, 0 failed\n7 passed, {} failed{}\n'
+        for failed, more, told in (
+                (0, '', 'passed: 7 passed, 0 failed; 1 crate proved in this run, 1 taken from '),
+                (0, ', 2 not tried', 'passed: 7 passed, 0 failed, 2 not tried; 1 crate proved'),
+                (1, '', 'NOT PASSED: 7 passed, 1 failed; ')):
+            path = self.file('gate.log', log.format(failed, more))
+            self.assertTrue(base.gate_text(pathlib.Path(path)).startswith(told))
+
+    def test_what_the_page_lacks(self):
+        edit = edits_of('bay_device')[0]
+        told = Refusal('gone', '', 'a goal ..', 'c0ffee', '2026-11-29', 'only so')
+        with mock.patch.object(refusals, 'read_table', lambda: {edit.key: told}):
+            found = base.left_out()
+        count = sum(len(edits_of(it)) for it in crates())
+        self.assertIn(f'of {count} wrong bodies {count - 1} have no answer of the prover here, 1 '
+                      'one of code that has changed, 1 one that the kit cut, and 1 one against',
+                      found)
+        with mock.patch.object(refusals, 'read_table', lambda: {edit.key: told}):
+            self.assertIn('only so', breaks(edit))
+
+    def test_an_answer_of_code_that_has_changed(self):
+        edit = edits_of('bay_device')[0]
+        told = Refusal('gone', 'ok', 'a goal', 'c0ffee', '2026-11-29')
+        with mock.patch.object(refusals, 'read_table', lambda: {edit.key: told}):
+            self.assertEqual(breaks(edit), 'broke gone: ok, which is gone: the code has changed '
+                             'since (c0ffee): a goal')
+
+    def test_the_libraries_of_the_kit_are_on_the_page_of_what_is_trusted(self):
+        page = (TOP / 'docs' / 'TRUSTED.md').read_text(encoding='utf-8')
+        row = re.search(r"^\| \*\*The kit's libraries\*\* \((.*?)\)", page, re.M)
+        self.assertEqual(set(re.findall(r'\w+', row[1])) - {'and'},
+                         {*base.named_libraries(), 'std'})
 
 
 class Written(Tools):

@@ -10,7 +10,7 @@ from baytools.common.paths import TOP
 from baytools.common.texts import counted
 from devtools.paths import CRATES
 
-from . import changed, inner, lacking, refusals, shown, standards
+from . import base, changed, inner, lacking, refusals, shown, standards
 from .calls import Call, crates
 from .definitions import NAMED, Declared, Named, Scope, below, cited, scope_of, scope_of_call
 from .edits import Edit, broken, laws_about, obeying, refused_of
@@ -80,17 +80,20 @@ def sources_read() -> list[page_head.Source]:
     return [*found, page_head.source_of_many('Crates', crate_files)]
 
 
-def head(about: list[tuple[str, str]]) -> str:
-    """The head of a page: its time, this machine, the sources, the commit."""
+def head(about: list[tuple[str, str]], gate: pathlib.Path | None) -> str:
+    """The head of a page: what it is about, the kit, a run of the gate, its time, this machine,
+    the sources, the commit."""
     moment = page_head.moment_text(page_head.now())
-    return '\n'.join(page_head.head('dev/trace', moment, about, sources_read()))
+    rows = [*about, *base.rows(gate)]
+    return '\n'.join(page_head.head('dev/trace', moment, rows, sources_read()))
 
 
 class Sheet:
-    """One page, whose links into the sources begin with `sources`."""
+    """One page, whose links into the sources begin with `sources`; `gate` is the log of a run of
+    the gate on its commit."""
 
-    def __init__(self, sources: str) -> None:
-        self.sources = sources
+    def __init__(self, sources: str, gate: pathlib.Path | None = None) -> None:
+        self.sources, self.gate = sources, gate
         self.borne = {it: borne_by(it) for it in promises()}
         self.laws = {it: laws_about(borne) for it, borne in self.borne.items()}
         self.listed = self.definitions()
@@ -246,12 +249,13 @@ class Sheet:
         parts = {it: part for it in crates() if (part := self.crate(it, listed))}
         links = [f'<a href="#crate-{it}">{it}</a>' for it in parts]
         about = [('It has', f'{counted(len(self.borne), "promise")}, '
-                            f'{counted(len(listed), "definition")}')]
+                            f'{counted(len(listed), "definition")}'),
+                 ('It lacks', base.left_out())]
         return ''.join((
             '<!DOCTYPE html><html lang="en"><meta charset="utf-8">'
             '<meta name="viewport" content="width=device-width"><title>From a promise to its '
             f'proof</title><style>{STYLE}</style><h1>From a promise to its proof</h1>{LEAD}'
-            f'{head(about)}{self.first()}<ul>{"".join(told)}'
+            f'{head(about, self.gate)}{self.first()}<ul>{"".join(told)}'
             '<li><a href="#inner">Inner clauses</a></li>'
             '<li><a href="#changed">Definitions that were changed</a></li>'
             '<li><a href="#definitions">Definitions</a></li>'
@@ -306,7 +310,7 @@ class StandardSheet(Sheet):
             'stands under the clauses that the comment above it names, or else the heading above '
             'it, or the head of its file. Those of our own stand last, with what they are for. In '
             f'these crates each says what it is:</p>{self.counts()}'
-            f'{head([])}', *body, '<h2>Definitions</h2>',
+            f'{head([], self.gate)}', *body, '<h2>Definitions</h2>',
             *(self.crate(it, listed) for it in crates()), '</html>\n'))
 
 
@@ -317,6 +321,8 @@ def breaks(edit: Edit) -> str:
         return 'its answer is not kept yet'
     at = f'{told.call}: {told.clause}' if told.clause else told.call
     words = f'breaks {at}' if at else 'refused'
+    if refusals.is_stale(edit.key, told):
+        words = f'broke {at}, which is gone: the code has changed since'
     if told.caveat:
         words = f'refused, {told.caveat}'
     return html.escape(f'{words} ({told.commit}): {told.goal}')
