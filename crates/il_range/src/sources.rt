@@ -35,7 +35,7 @@ fn division_of(positions: Positions) -> usize {
 }
 
 // Returns the set of the source with this number, or the empty set if there is no such source.
-fn of(number: usize) -> SourceSet {
+fn set_with(number: usize) -> SourceSet {
     let mut set = SourceSet::new();
     if number < 64 * WORDS {
         set.words[number / 64] = 1 << (number % 64);
@@ -52,7 +52,7 @@ impl SourceSet {
     /// Returns the set with this slot alone.
     pub(crate) fn of_slot(slot: usize) -> SourceSet {
         if slot < SLOTS {
-            of(slot)
+            set_with(slot)
         } else {
             SourceSet::new()
         }
@@ -61,7 +61,7 @@ impl SourceSet {
     /// Returns the set with this timer alone.
     pub(crate) fn of_timer(timer: usize) -> SourceSet {
         if timer < TIMERS {
-            of(SLOTS + timer)
+            set_with(SLOTS + timer)
         } else {
             SourceSet::new()
         }
@@ -71,7 +71,7 @@ impl SourceSet {
     pub(crate) fn of_positions(switch: usize, positions: Positions) -> SourceSet {
         if switch < SWITCHES {
             let first = SLOTS + TIMERS + DIVISIONS * switch;
-            of(first.saturating_add(division_of(positions)))
+            set_with(first.saturating_add(division_of(positions)))
         } else {
             SourceSet::new()
         }
