@@ -56,7 +56,8 @@ class Door(Running):
         values = {'accept': f'127.0.0.1:{self.port}', 'connect': f'127.0.0.1:{to}',
                   'cert': authority.path('bay.pem'), 'key': authority.path('bay.key'),
                   'CAfile': authority.path(CERTIFICATE), 'CRLfile': authority.path(LIST)}
-        text = configured({name: str(value) for name, value in values.items()} | (settings or {}))
+        own = {name: str(value) for name, value in values.items()}
+        text = configuration_with(own | (settings or {}))
         path = authority.path(f'stunnel.{self.port}.conf')
         path.write_text(text, encoding='utf-8')
         super().__init__(next(filter(None, map(shutil.which, NAMES))), path)
@@ -78,8 +79,8 @@ class Door(Running):
         until(lambda: self.printed().count(READ) > before, 'stunnel has read its files')
 
 
-def configured(values: dict[str, str]) -> str:
-    """The example's configuration with other values; each of them must stand there."""
+def configuration_with(values: dict[str, str]) -> str:
+    """The example's configuration with other values for settings that it has."""
     text = CONFIGURATION.read_text(encoding='utf-8')
     known = set(SETTING.findall(text))
     if not set(values) <= known:

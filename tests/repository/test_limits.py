@@ -13,7 +13,7 @@ ROWS = re.compile(r'pub fn (\w+)_table\(.*?\n\{\n(.*?)\n\}\n', re.DOTALL)
 
 
 def place_of(crate, folder, ending, cell):
-    """The file that a cell names, below crates/, with what the cell says stands there.
+    """The file that a cell names, below crates/, with what the cell says is there.
 
     A file of another crate than the row's has its name before it, as in `il_image/Machine`.
     """
@@ -23,6 +23,7 @@ def place_of(crate, folder, ending, cell):
 
 
 def rows():
+    """The rows of the page: what is limited, its number, and where definition and code have it."""
     page = (TOP / 'docs' / 'LIMITS.md').read_text(encoding='utf-8')
     return [(what, int(number.replace(',', '')), place_of(crate, 'specs', 'antt', definition),
              place_of(crate, 'src', 'rt', code))
@@ -51,12 +52,13 @@ def rows_of_switches():
 
 
 def numbers(text):
+    """The numbers in a text, but for those that begin with 0."""
     return {int(number.replace('_', ''), 0) for number in NUMBER.findall(text)
             if not re.fullmatch(r'0\d+', number)}
 
 
 def source(place):
-    """The text of the file that a cell names, and what the cell says stands there."""
+    """The text of the file that a cell names, and what the cell says is there."""
     path, _, said = place.partition(': ')
     return (TOP / 'crates' / path).read_text(encoding='utf-8'), said
 

@@ -61,7 +61,7 @@ class Trial(unittest.TestCase):
             'always QA1 open after I1 for 50ms when QB1 open', self.trial.keys)
 
     def wrong(self, proof: Proof, *scans: tuple, has_memory: bool = False, rule=None) -> str | None:
-        return self.trial.wrong_of(rule or self.rule, proof, [run(*scans)], has_memory)
+        return self.trial.check_proof(rule or self.rule, proof, [run(*scans)], has_memory)
 
     def test_a_rule_that_holds_is_broken_nowhere(self):
         holds = Proof(1, 'QA1', 0, answers.HOLDS)
@@ -72,7 +72,7 @@ class Trial(unittest.TestCase):
         broken = Proof(1, 'QA1', 0, answers.BROKEN, case=case(1))
         self.assertIsNone(self.wrong(broken, (0, IN, True), (0, OUT, False)))
         self.assertEqual(self.wrong(broken, (0, IN, False)), 'a broken rule holds')
-        self.assertEqual(self.wrong(broken, (0, OUT, True)), 'a case in which nothing lies')
+        self.assertEqual(self.wrong(broken, (0, OUT, True)), 'a case that no scan is in')
         self.assertIsNone(self.wrong(broken, (0, OUT, True), has_memory=True))
 
     def breaks(self, rule, *scans: tuple) -> list[int]:
@@ -101,7 +101,7 @@ class Trial(unittest.TestCase):
         by = Proof(1, 'QA1', 0, answers.HOLDS, timer='d')
         late = [(0, IN | ASKED, False), (50, IN | ASKED, True)]
         for rule, scans, wrong in (
-                (self.rule, [], 'a timer bears a rule without a time'), (self.after, late, None),
+                (self.rule, [], 'a timer proves a rule without a time'), (self.after, late, None),
                 (self.after, [late[0], (50, IN | ASKED, False)], 'a proved rule is broken')):
             self.assertEqual(self.wrong(by, *scans, rule=rule), wrong)
 
@@ -133,7 +133,7 @@ class Trial(unittest.TestCase):
                                       (answers.BROKEN, False, 'a broken rule is not shown')):
             with mock.patch.object(TRIAL, 'replay_case', return_value=Shown({}, [], is_so)):
                 proof = Proof(1, 'QA1', 0, verdict)
-                self.assertEqual(self.trial.not_shown(self.rule, proof, None), wrong)
+                self.assertEqual(self.trial.check_replay(self.rule, proof, None), wrong)
 
     def test_how_rules_end_is_counted(self):
         rules = self.trial.rules
@@ -148,7 +148,7 @@ class Trial(unittest.TestCase):
             rules['with memory', TRIAL.kind_of(self.until), ended] += 1
         rules['without memory', TRIAL.kind_of(self.rule), 'holds'] += 7
         with contextlib.redirect_stdout(io.StringIO()) as out:
-            self.trial.rules_told()
+            self.trial.print_rules()
         self.assertEqual(out.getvalue(), (
             'rules until, programs with memory: 1 broken; 1 holds; 1 holds by a timer; 1 many; '
             '1 open; 1 open, and a scan breaks it\n'

@@ -79,13 +79,13 @@ class Shipped(unittest.TestCase):
 
 class Used(unittest.TestCase):
     def test_other_values(self):
-        text = guarded.configured({'accept': '7', 'CRLfile': '/x y\\1'})
+        text = guarded.configuration_with({'accept': '7', 'CRLfile': '/x y\\1'})
         self.assertIn('\naccept = 7\n', text)
         self.assertIn('\nCRLfile = /x y\\1\n', text)
         self.assertNotIn('setuid', text)
         self.assertEqual(text.count('verifyChain = yes'), 1)
         with self.assertRaisesRegex(ValueError, 'verify does not stand there'):
-            guarded.configured({'verify': '2'})
+            guarded.configuration_with({'verify': '2'})
 
     def test_users_that_need_not_exist(self):
         text = reachable.with_users(reachable.TABLE.read_text(encoding='utf-8'))

@@ -7,7 +7,7 @@ import tomllib
 import unittest
 from unittest import mock
 
-from baytools.bay.files import may_replace
+from baytools.bay.files import check_replaceable
 from baytools.common import page_head
 from baytools.common.ending import Failed
 from baytools.common.paths import TOP
@@ -122,11 +122,11 @@ class Replaced(Tools):
         for text in ('2026 command QA1 on\n', '%%\n', '# <!doctype html>'):
             path = self.file('kept', text)
             with self.assertRaisesRegex(Failed, 'kept: it is no page, so no page replaces it'):
-                may_replace(path)
+                check_replaceable(path)
         for text in ('', '<!DOCTYPE html>\n<html>', '\ufeff<!doctype HTML>', ' <html lang="en">'):
-            may_replace(self.file('page', text))
-        may_replace(self.folder / 'new.html')
-        may_replace('/dev/null')
+            check_replaceable(self.file('page', text))
+        check_replaceable(self.folder / 'new.html')
+        check_replaceable('/dev/null')
 
     def test_each_tool_that_writes_a_page(self):
         kept, bay = self.file('expected', '5 scan steps=3\n'), LINE / 'bay.toml'

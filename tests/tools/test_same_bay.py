@@ -257,9 +257,9 @@ class Panels(unittest.TestCase):
     def test_differences_are_told_once(self):
         watcher, _ = self.connect_panel(FILE.replace('2000', '9'))
         count = len(watcher.events)
-        watcher.is_connected(watcher.differs)
+        watcher.note_connection(watcher.differs)
         self.assertEqual(len(watcher.events), count + 1)
-        watcher.is_connected([])
+        watcher.note_connection([])
         self.assertEqual(watcher.state['barred'], '')
 
 

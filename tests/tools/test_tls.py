@@ -83,7 +83,7 @@ class Clients(Tools):
         with door(self.fail, door_context()) as port:
             for most in (None, *[ssl.TLSVersion.TLSv1_1] * ssl.HAS_TLSv1_1):
                 with self.assertRaises(ssl.SSLError):
-                    self.knock(port, most)
+                    self.connect_by(port, most)
             found = self.call_tool('client', '--timeout', 3, port, 'browse')
         self.assertEqual(found.status, 3)
         self.assertRegex(found.error, 'needs --tls|closed the connection')
@@ -105,8 +105,9 @@ class Clients(Tools):
         self.assertIn('it answers with an alert of TLS: this is a port of TLS, which needs --tls',
                       found.error)
 
-    def knock(self, port, most):
-        """A client that breaks the rules of ours."""
+    def connect_by(self, port, most):
+        """Connects by a version of TLS that our server refuses; or, without a version, without a
+        certificate."""
         context = ssl.SSLContext(ssl.PROTOCOL_TLS_CLIENT)
         context.check_hostname, context.verify_mode = False, ssl.CERT_NONE
         if most is not None:

@@ -13,7 +13,7 @@ from collections.abc import Iterator
 from baytools.certify.authority import CERTIFICATE, LIST, Authority
 from baytools.wire import tls
 from baytools.wire.client import Client
-from devtools.guarded import NAMES, READ, authority_in, configured
+from devtools.guarded import NAMES, READ, authority_in, configuration_with
 from devtools.paths import MODULES
 from devtools.served import Running
 
@@ -53,7 +53,7 @@ class Cable:
         return ''
 
     def pull(self) -> None:
-        """Nothing comes through any more, and nobody is told."""
+        """Nothing comes through any more, and neither end gets a sign of it."""
         done = ip('-n', self.far, 'link', 'set', 'far0', 'down')
         if done.returncode:
             raise RuntimeError(done.stderr)
@@ -62,15 +62,16 @@ class Cable:
         for name in (self.near, self.far):
             ip('netns', 'delete', name)
 
-    def runs(self, end: str, *words: object) -> Running:
-        """A program at one end."""
+    def run_at(self, end: str, *words: object) -> Running:
+        """Starts a program at one end."""
         return Running('ip', 'netns', 'exec', end, *words, env=os.environ | {
             'PYTHONPATH': MODULES, 'PYTHONDONTWRITEBYTECODE': '1'})
 
 
 @contextlib.contextmanager
-def laid(checks) -> Iterator[Cable | None]:
-    """A cable, or None where there can be none, which is counted."""
+def lay_cable(checks) -> Iterator[Cable | None]:
+    """A cable that is laid for the block; or None, if this system allows none, which counts as not
+    tried."""
     cable = Cable()
     try:
         why = cable.lay()
@@ -87,31 +88,33 @@ def door_of(authority: Authority) -> pathlib.Path:
               'cert': authority.path('bay.pem'), 'key': authority.path('bay.key'),
               'CAfile': authority.path(CERTIFICATE), 'CRLfile': authority.path(LIST)}
     path = pathlib.Path(authority.path('stunnel.conf'))
-    path.write_text(configured({name: str(it) for name, it in values.items()}), encoding='utf-8')
+    text = configuration_with({name: str(it) for name, it in values.items()})
+    path.write_text(text, encoding='utf-8')
     return path
 
 
 def client_at(cable: Cable, end: str, authority: Authority) -> Running:
-    """A client that has an association and is silent, once it is told."""
+    """Starts a client at an end, which opens an association, prints `open`, and is silent."""
     files = [authority.path(name) for name in ('panel.pem', 'panel.key', CERTIFICATE)]
-    return cable.runs(end, sys.executable, '-m', 'devtools.check.cables', NEAR, DOOR, *files)
+    return cable.run_at(end, sys.executable, '-m', 'devtools.check.cables', NEAR, DOOR, *files)
 
 
-def pulled(checks) -> None:
-    """The server is told of a client whose cable was pulled, and one that is silent stays."""
-    with laid(checks) as cable:
+def check_pulled_cable(checks) -> None:
+    """The server closes the association of a client whose cable was pulled, and keeps that of a
+    silent client."""
+    with lay_cable(checks) as cable:
         if cable:
             folder = checks.folder / 'cable'
             folder.mkdir()
-            between(checks, cable, authority_in(folder, 'panel'))
+            check_clients(checks, cable, authority_in(folder, 'panel'))
 
 
-def between(checks, cable: Cable, authority: Authority) -> None:
+def check_clients(checks, cable: Cable, authority: Authority) -> None:
     words = ['serve', '--bay', SERVED / 'bay.toml', '--logic', SERVED / 'logic.il', '--port',
              CLIENTS, '--turns', 1_000_000, '--log']
     stunnel = next(filter(None, map(shutil.which, NAMES)))
-    with (cable.runs(cable.near, checks.bayctl, *words) as server,
-          cable.runs(cable.near, stunnel, door_of(authority)) as door):
+    with (cable.run_at(cable.near, checks.bayctl, *words) as server,
+          cable.run_at(cable.near, stunnel, door_of(authority)) as door):
         server.waits_for('instructions=')
         door.waits_for(READ)
         with client_at(cable, cable.far, authority) as far:

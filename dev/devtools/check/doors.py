@@ -19,7 +19,7 @@ from baytools.wire.client import Client
 from devtools.guarded import Door, authority_in, missing, tls_of, words_of
 from devtools.served import PATIENCE, Running, Server, free_port, until, value
 
-from .cables import pulled
+from .cables import check_pulled_cable
 from .panels import SERVED, Page, gear
 from .reachable import packets
 
@@ -253,5 +253,5 @@ def all_of(checks) -> None:
         are = 'is' if len(absent) == 1 else 'are'
         checks.left_out(f'{" and ".join(absent)} {are} not installed', 'a bay behind stunnel')
         return
-    for part in (let_in, revoked, pulled):
+    for part in (let_in, revoked, check_pulled_cable):
         checks.run_part(part)

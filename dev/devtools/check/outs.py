@@ -39,9 +39,9 @@ class Place:
         return printed(words, cwd=self.folder, **self.user)
 
 
-def is_written(place: Place, out: pathlib.Path, at: pathlib.Path, mode: int) -> str:
-    """Whether a compilation to a name leaves an image with a mode at a place; else what there is
-    instead."""
+def fault_of_write(place: Place, out: pathlib.Path, at: pathlib.Path, mode: int) -> str:
+    """An empty text if a compilation to a name leaves an image with a mode at a place, and what
+    there is otherwise."""
     told = place.compile(out)
     if told[0] != 0 or not at.is_file():
         return str(told)
@@ -60,15 +60,15 @@ def replaced(checks, place: Place) -> None:
             at = place.own / f'file{mode:o}'
             at.write_bytes(b'old')
             place.owned(at).chmod(mode)
-            told = is_written(place, at, at, mode)
+            told = fault_of_write(place, at, at, mode)
             checks.holds('a file that is replaced gets another mode', not told, told)
-        told = is_written(place, place.own / 'new', place.own / 'new', 0o640)
+        told = fault_of_write(place, place.own / 'new', place.own / 'new', 0o640)
         checks.holds('a new file has another mode than the umask leaves', not told, told)
         for name, to, mode in (('to_file', 'file600', 0o600), ('to_none', 'none', 0o640),
                                ('to_link', 'to_file', 0o600)):
             link = place.own / name
             link.symlink_to(to)
-            told = is_written(place, place.owned(link), link.resolve(), mode)
+            told = fault_of_write(place, place.owned(link), link.resolve(), mode)
             checks.holds('a link is replaced and not followed',
                          not told and link.is_symlink(), f'{name}: {told}')
     finally:

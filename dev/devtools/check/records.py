@@ -43,7 +43,7 @@ class Seen:
     told: tuple[str, str]
 
 
-def replayed(checks, scenario: bytes) -> str:
+def replay(checks, scenario: bytes) -> str:
     """What a replay of a scenario prints."""
     return subprocess.run([checks.bayctl, 'replay'], input=scenario, check=False,
                           capture_output=True).stdout.decode()
@@ -162,10 +162,10 @@ def session(checks) -> None:
     path = checks.folder / 'record'
     seen = served_session(checks, path)
     joined, record = checks.run('join', BAY, LOGIC, path)[0], path.read_text()
-    for name, is_so, told in differences(seen, replayed(checks, joined.encode())):
+    for name, is_so, told in differences(seen, replay(checks, joined.encode())):
         checks.holds(name, is_so, told)
     for what, form in PARTS_OF_RECORD:
-        report = replayed(checks, scenario_without(record, form))
+        report = replay(checks, scenario_without(record, form))
         checks.holds(f'a record without {what} passes for the session',
                      not all(is_so for _, is_so, _ in differences(seen, report)), record)
 
@@ -176,7 +176,7 @@ def lines(checks) -> None:
     line. Another one comes, whose first octet would end that line."""
     record = checks.folder / 'lines'
 
-    def has(line: str) -> None:
+    def wait_for_line(line: str) -> None:
         with contextlib.suppress(TimeoutError):
             until(lambda: f'{line}\n' in record.read_text(), 'the line is recorded')
 
@@ -192,10 +192,10 @@ def lines(checks) -> None:
                 process.sendall(rest[:size])
                 rest = rest[size:]
                 time.sleep(0.002)
-            has(said[-1][2:])
+            wait_for_line(said[-1][2:])
         with socket.create_connection(('127.0.0.1', server.process)) as process:
             process.sendall(b'\n0 measure M1 AA 1\n')
-            has('measure M1 AA 1')
+            wait_for_line('measure M1 AA 1')
     found = lines_in(record.read_text(), r'\d+ (lost|measure .*)')
     wanted = [*(it[2:] for it in said), 'lost', 'measure M1 AA 1']
     checks.holds('a line of a process is lost, repeated, torn or joined with that of another',

@@ -35,7 +35,7 @@ class Run:
 
     @property
     def is_good(self) -> bool:
-        """Whether it is evidence of anything."""
+        """Whether the command succeeded, some checks passed, and none failed."""
         return self.status == 0 and self.passed > 0 and not self.failed
 
 

@@ -80,7 +80,7 @@ def meaning(rule) -> str:
     return f'no command to {ways_text(rule, ("open", "close"), "or")} {rule.switch}{tail_of(rule)}'
 
 
-def kept_text(audit: Audit, finding: Finding) -> str:
+def undecided_text(audit: Audit, finding: Finding) -> str:
     """Why a rule is neither proved nor broken."""
     if finding.proof.verdict == answers.MANY:
         return 'there are too many cases to prove it'
@@ -102,14 +102,14 @@ def tried_text(audit: Audit, finding: Finding) -> str:
 
 
 def lines_of(audit: Audit, finding: Finding) -> list[str]:
-    """What is said of a rule: a line with its verdict, and others that explain it."""
+    """The lines on a rule: the first has its verdict, the others explain it."""
     rule, verdict = finding.rule, finding.verdict()
     if verdict == 'PROVED':
         by = f' (by timer {finding.proof.timer})' if finding.proof.timer else ''
         return [f'PROVED: {meaning(rule)}{by}']
     if verdict == 'OPEN':
         return [f'OPEN: {rule.text}',
-                f'{kept_text(audit, finding)}; {tried_text(audit, finding)}']
+                f'{undecided_text(audit, finding)}; {tried_text(audit, finding)}']
     if verdict == 'BROKEN':
         return [f'BROKEN: {rule.text}', *broken_lines(audit, finding)]
     if verdict == 'TRIED':

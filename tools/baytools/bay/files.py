@@ -79,10 +79,10 @@ def bay_at(path: Path) -> tuple[str, dict[str, Any]]:
         raise BadFile(f'{path}: {error}') from None
 
 
-def may_replace(path: Path) -> None:
-    """Ends the tool where a page can't be written to a file, or where that has something else: it
+def check_replaceable(path: Path) -> None:
+    """Ends the tool if a page can't be written to a file, or if the file has something else: it
     might be the file that another option reads."""
-    may_be_written(path)
+    check_writable(path)
     path = pathlib.Path(path)
     if path.is_file() and path.stat().st_size:
         with open(path, 'rb') as file:
@@ -92,8 +92,8 @@ def may_replace(path: Path) -> None:
                           'remove it')
 
 
-def may_be_written(path: Path) -> None:
-    """Ends the tool where a file can't be written, before it has worked for it."""
+def check_writable(path: Path) -> None:
+    """Ends the tool if a file can't be written, before the tool works for nothing."""
     path = pathlib.Path(path)
     if not path.parent.is_dir():
         raise BadFile(f'{path}: there is no folder {path.parent}')

@@ -90,23 +90,23 @@ class Reader:
             if name == 'check':
                 if not isinstance(rows, dict):
                     raise self.wrong(name, 'it must be a table: write [check]')
-                self.has_known_keys(name, 'check', rows)
+                self.check_keys(name, 'check', rows)
             elif not isinstance(rows, list) or not all(isinstance(row, dict) for row in rows):
                 raise self.wrong(name, f'it must be a list of tables: write [[{name}]]')
         for number, row in enumerate(tables.get('node', []), 1):
-            self.node(self.checked('node', number, row), row)
+            self.node(self.check_row('node', number, row), row)
         for number, row in enumerate(tables.get('between', []), 1):
-            self.between(self.checked('between', number, row), row)
+            self.between(self.check_row('between', number, row), row)
         return self.network(tables.get('check', {}))
 
-    def checked(self, table: str, number: int, row: dict) -> str:
-        """The place of a row whose keys are known and of their types."""
+    def check_row(self, table: str, number: int, row: dict) -> str:
+        """Refuses a row with a wrong key, and returns the place of the row for messages."""
         called = row.get('name', row.get('switch'))
         place = f'{table} {number}' + (f' ({called})' if isinstance(called, str) else '')
-        self.has_known_keys(place, table, row)
+        self.check_keys(place, table, row)
         return place
 
-    def has_known_keys(self, place: str, table: str, row: dict) -> None:
+    def check_keys(self, place: str, table: str, row: dict) -> None:
         """Refuses a key that is unknown or whose value has another type."""
         for key, value in row.items():
             if key not in TABLES[table]:

@@ -88,7 +88,8 @@ class Switch:
         return (Part(self.name, NOT_AT_REST, text),) if is_told else ()
 
     def is_closed(self) -> tuple['Part', ...]:
-        """What holds only where it is known to be closed; nothing where that is never known."""
+        """The condition that holds only if the switch is known to be closed; none, if that is never
+        known."""
         text = f'{self.name} closed' if self.is_own else (
             f'{self.closed} and not {self.opened}' if self.closed and self.opened else self.closed)
         return (Part(self.name, IS_CLOSED, text),) if text else ()

@@ -113,7 +113,7 @@ class Substation:
                 rows.append((one, {'switch': one.name}))
             else:
                 rows.append((one, self.known(one)))
-        self.has_all(own_bay, [one for one, row in rows if 'switch' in row])
+        self.check_switches(own_bay, [one for one, row in rows if 'switch' in row])
         for one, _ in rows:
             if len(one.nodes) != 2:
                 raise self.wrong(one.path(), f'it has {len(one.nodes)} terminals: a switch has two')
@@ -129,8 +129,8 @@ class Substation:
                              f'{suggested_name(name, [it.rpartition("/")[2] for it in bays])}')
         return found[0]
 
-    def has_all(self, own_bay: str, own: list[Equipment]) -> None:
-        """Whether bay file and file have the same switches."""
+    def check_switches(self, own_bay: str, own: list[Equipment]) -> None:
+        """Refuses a file that has other switches of the bay than the bay file."""
         names = {raised(it['id']): it['id'] for it in self.bay['switch']}
         for one in own:
             if raised(one.name) not in names:

@@ -9,7 +9,7 @@ from typing import Any
 
 from baytools.audit.blocking_inputs import needed_of
 from baytools.bay.accepted import accepted_bay_at
-from baytools.bay.files import bay_at, may_be_written, octets_of
+from baytools.bay.files import bay_at, check_writable, octets_of
 from baytools.common.ending import DONE, UNREACHED, Failed, Parser
 from baytools.common.texts import raised
 from baytools.report.bayctl import usual
@@ -133,7 +133,7 @@ def run(parser: Parser, chosen: argparse.Namespace, bus: Bus) -> int:
     if chosen.logic and not chosen.check:
         parser.error('--logic is of --check')
     if chosen.html:
-        may_be_written(chosen.html)
+        check_writable(chosen.html)
     # Coils are switched off whatever else is wrong with the bay file, and with the inputs of keys.
     bay = (bay_at if chosen.off else accepted_bay_at)(chosen.bay)[1]
     for one in bay['switch'] if chosen.off else ():

@@ -109,10 +109,10 @@ class Watcher(Publisher):
             raise Lost('; '.join(held.lines()))
         with self.lock:
             self.client = client
-            self.is_connected(held.lines())
+            self.note_connection(held.lines())
             self.publish()
 
-    def is_connected(self, found) -> None:
+    def note_connection(self, found) -> None:
         """Notes a new connection, and how its server differs from the bay file."""
         whose = server_of(self.client.socket) if self.client else ''
         told = f'connected to port {self.port}' + (f' of {whose}' if whose else '') + (

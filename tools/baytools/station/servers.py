@@ -30,8 +30,8 @@ class BayWatcher(Watcher):
         self.changed, self.read_at, self.is_read = changed, 0, False
         self.shown = self.row()
 
-    def is_connected(self, found: list[str]) -> None:
-        super().is_connected(found)
+    def note_connection(self, found: list[str]) -> None:
+        super().note_connection(found)
         self.read_at, self.is_read = now(), False
 
     def read_once(self) -> bool:

@@ -79,7 +79,7 @@ class Comparison:
             self.domains += names if request.code == (9,) else []
         elif request.names == [self.bay.domain]:
             for name in names:
-                self.is_there(name.split('$')[0])
+                self.add_node(name.split('$')[0])
 
     def add_value(self, name, value) -> Iterator[tuple[str, Data]]:
         """A value that was read; what it holds of positions."""
@@ -92,7 +92,7 @@ class Comparison:
         elif '/' in item:
             self.domains.append(item.partition('/')[0])
         else:
-            self.is_there(node)
+            self.add_node(node)
             for row, leaf in leaves(item, value):
                 self.compare(row, leaf)
                 if '$ST$Pos$' in row:
@@ -100,7 +100,7 @@ class Comparison:
                 if row in self.asked:
                     self.odd.add(row)
 
-    def is_there(self, node) -> None:
+    def add_node(self, node) -> None:
         if class_of(node) in COUNTED and node not in self.nodes:
             self.further.add(node)
 
