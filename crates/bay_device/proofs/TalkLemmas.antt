@@ -168,7 +168,7 @@ CanAnswerAll (i ∷ is) = CanAnswer i × CanAnswerAll is
 
 record IsTold (t : ConnectionStep) : Type 0 where
   all : CanAnswerAll t.indications
-  left : IsSized t.left.phase
+  left : IsSized t.state.phase
 
 heard-told : (s : Stream) (h : TsduMeaning) (size : Option ℕ) (phase : Phase)
     (later : ConnectionStep)
