@@ -1,5 +1,5 @@
 -- What is found of a case, and of several.
-use Rattle.std.specs.Prelude.{ℕ, ◌≡◌, ◌<◌, Bool, true, false, List, slice_get}
+use Rattle.std.specs.Prelude.{ℕ, ◌≡◌, ◌<◌, Bool, true, false, List, slice_get, nat_lt, if◌then◌else◌}
 use Rattle.bay_base.specs.declared.position.Dbpos.{Dbpos}
 use Rattle.bay_base.specs.declared.switch.Operation.{Operation}
 use Rattle.bay_audit_rules.specs.Process.{Process}
@@ -8,13 +8,14 @@ use Rattle.bay_audit.specs.Process.{IsProcess}
 use Rattle.bay_audit.specs.Rules.{AreRightInCases, BoundProgram, ReleaseIs, case_count, reported_count}
 use Rattle.bay_audit.specs.declared.answer.ReportedCase.{ReportedCase}
 use Rattle.bay_audit.specs.declared.case.TestAnswer.{TestAnswer}
+use Rattle.bay_config.specs.declared.bay.Bay.{Bay}
 use Rattle.bay_diagram.specs.declared.network.Network.{Network}
 use Rattle.bay_diagram.specs.declared.reading.Bound.{Bound}
 use Rattle.bay_diagram.specs.declared.reading.InputSet.{InputSet}
 use Rattle.bay_diagram.specs.declared.reading.Known.{Known}
 use Rattle.bay_diagram.specs.declared.reading.PositionSet.{PositionSet}
-use Rattle.bay_diagram.specs.Reading.{IsAllowed, allowed_by, has_position, has_value}
-use Rattle.bay_audit_hazards.specs.Judged.{IsHazard, is_hazard_of}
+use Rattle.bay_diagram.specs.Reading.{allowed_by, has_position, has_value}
+use Rattle.bay_audit_hazards.specs.Judged.{IsHazard, allowed_in, is_hazard_of, is_surely_hazard}
 use Rattle.bay_audit_hazards.specs.declared.answer.Evaluation.{Evaluation}
 use Rattle.bay_audit_hazards.specs.declared.answer.Evaluation.TheVariants as evaluation
 use Rattle.bay_audit_hazards.specs.declared.answer.Sweep.{Sweep}
@@ -22,22 +23,23 @@ use Rattle.bay_audit_hazards.specs.declared.answer.Sweep.TheVariants as sweep
 
 -- ---- what is known in a case
 
--- The sets have each position that the case allows.
-abbrev pub AllowPositions : List TestAnswer → List PositionSet → Type 0
-AllowPositions case sets =
-    (k : ℕ) (position : Dbpos) → may_be case k position ≡ true
-    → has_position (slice_get sets k) position ≡ true
+-- The sets of the first n switches have the positions that the case allows.
+abbrev pub AllowPositions : List TestAnswer → ℕ → List PositionSet → Type 0
+AllowPositions case n sets =
+    (k : ℕ) (position : Dbpos) → has_position (slice_get sets k) position
+    ≡ (if nat_lt k n then may_be case k position else true)
 
--- The sets have each value that the case allows.
-abbrev pub AllowInputs : List TestAnswer → List InputSet → Type 0
-AllowInputs case sets =
-    (k : ℕ) (value : Bool) → input_may case k value ≡ true
-    → has_value (slice_get sets k) value ≡ true
+-- The sets of the first n inputs have the values that the case allows.
+abbrev pub AllowInputs : List TestAnswer → ℕ → List InputSet → Type 0
+AllowInputs case n sets =
+    (k : ℕ) (value : Bool) → has_value (slice_get sets k) value
+    ≡ (if nat_lt k n then input_may case k value else true)
 
--- What is known allows each process of the case.
-pub record IsKnown (bound : Bound) (case : List TestAnswer) (known : Known) : Type 0 where
+-- What is known is what the case allows.
+pub record IsKnown (bay : Bay) (bound : Bound) (case : List TestAnswer) (known : Known)
+    : Type 0 where
   pub bounds : known.bound ≡ bound
-  pub allows : (p : Process) → is_in case p ≡ true → IsAllowed (allowed_by known) p
+  pub allows : allowed_by known ≡ allowed_in bay case
 
 -- ---- a case
 
@@ -50,6 +52,15 @@ IsEvaluated net k operation case evaluation.Harmless =
 IsEvaluated net k operation case evaluation.Hazard = IsHazard net k operation case
 IsEvaluated net k operation case (evaluation.Split test) = Unit {0}
 IsEvaluated net k operation case evaluation.Unclear = Unit {0}
+
+-- If the evaluation is a hazard, it is one in the best that can be known in the case.
+abbrev pub IsSure : Bay → Network → ℕ → Operation → List TestAnswer → Evaluation → Type 0
+IsSure bay net k operation case evaluation.Empty = Unit {0}
+IsSure bay net k operation case evaluation.Harmless = Unit {0}
+IsSure bay net k operation case evaluation.Hazard =
+    is_surely_hazard bay net k operation case ≡ true
+IsSure bay net k operation case (evaluation.Split test) = Unit {0}
+IsSure bay net k operation case evaluation.Unclear = Unit {0}
 
 -- ---- several cases
 
@@ -65,6 +76,13 @@ IsSweep net k operation cases (sweep.Harmless n) =
 IsSweep net k operation cases (sweep.Hazard case) =
     IsHazard net k operation case × IsPart cases case
 IsSweep net k operation cases sweep.Undecided = Unit {0}
+
+-- If a hazard was found, it is one in the best that can be known in its case.
+abbrev pub IsSureSweep : Bay → Network → ℕ → Operation → Sweep → Type 0
+IsSureSweep bay net k operation (sweep.Harmless n) = Unit {0}
+IsSureSweep bay net k operation (sweep.Hazard case) =
+    is_surely_hazard bay net k operation case ≡ true
+IsSureSweep bay net k operation sweep.Undecided = Unit {0}
 
 -- ---- the cases of a release
 

@@ -18,7 +18,7 @@ use std::alloc::{AllocError, Global};
 
 // Returns the positions that each of the first `switches` switches may have in the case.
 fn positions_in(alloc: Global, case: &Case, switches: usize) -> Result<Vec<PositionSet>, AllocError>
-    ensures { IfOk result (λ sets. spec.AllowPositions case.now sets.items) }
+    ensures { IfOk result (λ sets. spec.AllowPositions case.now switches sets.items) }
 {
     let mut sets = Vec::new(alloc);
     for switch in 0..switches {
@@ -34,7 +34,7 @@ fn positions_in(alloc: Global, case: &Case, switches: usize) -> Result<Vec<Posit
 
 // Returns the values that each of the first `inputs` inputs may have in the case.
 fn inputs_in(alloc: Global, case: &Case, inputs: usize) -> Result<Vec<InputSet>, AllocError>
-    ensures { IfOk result (λ sets. spec.AllowInputs case.now sets.items) }
+    ensures { IfOk result (λ sets. spec.AllowInputs case.now inputs sets.items) }
 {
     let mut sets = Vec::new(alloc);
     for input in 0..inputs {
@@ -48,7 +48,7 @@ fn inputs_in(alloc: Global, case: &Case, inputs: usize) -> Result<Vec<InputSet>,
 
 /// Returns the worst that can be known in the case, or the best. Fails only if an allocation fails.
 pub fn known_in(alloc: Global, bay: &Bay, case: &Case, bound: Bound) -> Result<Known, AllocError>
-    ensures { IfOk result (spec.IsKnown bound case.now) }
+    ensures { IfOk result (spec.IsKnown bay.now bound case.now) }
 {
     let switches = bay.switches.as_slice().len();
     let inputs = bay.inputs.as_slice().len();
@@ -69,7 +69,8 @@ pub fn evaluate(
     operation: Operation,
     case: &Case,
 ) -> Result<Evaluation, AllocError>
-    ensures { IfOk result (spec.IsEvaluated network.now switch operation case.now) }
+    ensures right { IfOk result (spec.IsEvaluated network.now switch operation case.now) }
+    ensures sure { IfOk result (spec.IsSure bay.now network.now switch operation case.now) }
 {
     if !case.has_example() {
         return Ok(Evaluation::Empty);

@@ -2,7 +2,7 @@
 ghost use Rattle.std.specs.Prelude.{IfOk, OnOk};
 ghost use Rattle.bay_audit.specs.Effort.{IsSpent};
 ghost use Rattle.bay_audit.specs.Rules.{IsRelease};
-ghost use Rattle.bay_audit_hazards.specs.Judged.{IsHazardAnswer};
+ghost use Rattle.bay_audit_hazards.specs.Judged.{IsHazardAnswer, IsSureAnswer};
 ghost use Rattle.bay_audit_hazards.specs.Parts as spec;
 
 use crate::answer::{HazardAnswer, Sweep};
@@ -70,8 +70,10 @@ fn judge_within(
     passes: &mut u32,
 ) -> Result<HazardAnswer, AllocError>
     requires { IsRelease bay.now program.now release }
-    ensures { IfOk result
+    ensures right { IfOk result
         (IsHazardAnswer program.now network.now release.switch release.operation) }
+    ensures sure { IfOk result
+        (IsSureAnswer bay.now network.now release.switch release.operation) }
 {
     let Release {
         switch,
@@ -123,6 +125,10 @@ pub fn judge(
     // releases the switch, in each such state;
     ensures right { IfOk result
         (IsHazardAnswer program.now network.now release.switch release.operation) }
+    // If the answer has a case, the operation is a hazard in the best that can be known in it: so
+    // `explain` shows this hazard.
+    ensures sure { IfOk result
+        (IsSureAnswer bay.now network.now release.switch release.operation) }
     // It made at most its share of the passes, and one answer less shares the others.
     ensures shared { OnOk result (IsSpent budget.old budget.new) }
 {

@@ -35,7 +35,8 @@ pub fn sweep(
     cost: u32,
     passes: &mut u32,
 ) -> Result<Sweep, AllocError>
-    ensures { IfOk result (spec.IsSweep network.now switch operation cases.items) }
+    ensures right { IfOk result (spec.IsSweep network.now switch operation cases.items) }
+    ensures sure { IfOk result (spec.IsSureSweep bay.now network.now switch operation) }
 {
     let mut left = cases;
     let mut harmless: u32 = 0;

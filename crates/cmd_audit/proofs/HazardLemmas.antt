@@ -1,13 +1,18 @@
 -- Lemmas on the lines of judged releases that were written so far.
-use Rattle.std.proofs.Common.{◌≡◌, ◌∙◌, inl, inr, ℕ, ◌+◌, Bool, true, false, ◌&&◌, List, [], ◌∷◌, ◌++◌, codes, length, take, drop, take-append-drop, Option, Result, Ok, Err, MatchResult, refl, sym, ap, ap₂, subst, append-nil}
+use Rattle.std.proofs.Common.{◌≡◌, ◌∙◌, inl, inr, ℕ, ◌+◌, Bool, true, false, ◌&&◌, List, [], ◌∷◌, ◌++◌, codes, length, take, drop, take-append-drop, Option, None, Some, Result, Ok, Err, MatchResult, refl, sym, ap, ap₂, subst, append-nil}
 use Rattle.std.specs.List.{list_all}
 use Rattle.std.proofs.lemmas.Grind.{flat_map-append}
 use Rattle.std.proofs.lemmas.List.{map-append}
 use Rattle.std.proofs.lemmas.List.Folds.{list_all-append}
 use Rattle.bay_audit.specs.Rules.{BoundProgram, program_of, directions}
+use Rattle.bay_audit.specs.declared.case.TestAnswer.{TestAnswer}
+use Rattle.bay_audit_hazards.specs.Judged.{IsExplained, IsSureAnswer, is_surely_hazard}
+use Rattle.bay_audit_hazards.specs.declared.answer.HazardAnswer.{HazardAnswer}
+use Rattle.bay_audit_hazards.specs.declared.answer.HazardAnswer.TheVariants.{Holds, Broken, Open, Undecided}
 use Rattle.bay_base.specs.declared.switch.Operation.{Operation}
 use Rattle.bay_config.specs.declared.bay.Bay.{Bay}
 use Rattle.bay_diagram.specs.declared.network.Network.{Network}
+use Rattle.bay_diagram.specs.declared.shown.ShownHazard.{ShownHazard}
 use Rattle.bay_diagram_file.specs.declared.diagram.Diagram.{Diagram}
 use Rattle.bay_io.specs.Calls.{WriteCall}
 use Rattle.bay_io.specs.Sent.{Puts}
@@ -16,7 +21,7 @@ use Rattle.bay_io.proofs.SentLemmas.{Puts-as, Puts-nil, Puts-then}
 use Rattle.bay_load.specs.Loads.{LoadData}
 use Rattle.cmd_audit.specs.Auditing.{Judgements, status_of}
 use Rattle.cmd_audit.specs.HazardText.{hazard_line, hazard_lines}
-use Rattle.cmd_audit.specs.Judged.{AreJudged, IsJudgedRelease, is_safe, judged_way}
+use Rattle.cmd_audit.specs.Judged.{AreJudged, IsCaseShown, IsExplainedAnswer, IsJudgedRelease, IsShown, is_safe, judged_way}
 use Rattle.cmd_audit.specs.Written.{PutsFirstJudged, PutsJudged, PutsText}
 use Rattle.cmd_audit.specs.declared.judged.JudgedRelease.{JudgedRelease}
 
@@ -26,6 +31,27 @@ pub judged-more : (g : BoundProgram) (net : Network) (releases : List JudgedRele
 judged-more g net [] r all one = (one, tt)
 judged-more g net (first ∷ releases) r all one =
     (all.0, judged-more g net releases r all.1 one)
+
+no-yes : true ≡ false → ⊥
+no-yes h = cc
+
+-- a hazard of the case is shown, since it is one in the best that can be known in the case
+case-shown : (bay : Bay) (net : Network) (k : ℕ) (operation : Operation) (case : List TestAnswer)
+    (shown : Option ShownHazard) → is_surely_hazard bay net k operation case ≡ true
+    → IsExplained bay net k operation case shown → IsCaseShown net k operation case shown
+case-shown bay net k operation case None sure is = no-yes (sym sure ∙ is)
+case-shown bay net k operation case (Some shown) sure is = is
+
+pub answer-shown : (bay : Bay) (net : Network) (k : ℕ) (operation : Operation)
+    (answer : HazardAnswer) (shown : Option ShownHazard)
+    → IsSureAnswer bay net k operation answer
+    → IsExplainedAnswer bay net k operation answer shown → IsShown net k operation answer shown
+answer-shown bay net k operation (Holds cases) shown sure is = is
+answer-shown bay net k operation (Broken case) shown sure is =
+    case-shown bay net k operation case shown sure is
+answer-shown bay net k operation (Open case) shown sure is =
+    case-shown bay net k operation case shown sure is
+answer-shown bay net k operation Undecided shown sure is = is
 
 and-true : (b : Bool) → (b && true) ≡ b
 and-true true = refl

@@ -2,7 +2,7 @@
 ghost use Rattle.std.specs.Prelude.{◌≡◌, IfOk, length, map};
 ghost use Rattle.std.specs.List.{list_all};
 ghost use Rattle.bay_audit.specs.Rules.{directions};
-ghost use Rattle.cmd_audit.specs.Judged.{AreJudged, IsJudgedRelease, IsShown, judged_way};
+ghost use Rattle.cmd_audit.specs.Judged.{AreJudged, IsExplainedAnswer, IsJudgedRelease, judged_way};
 ghost use Rattle.cmd_audit.specs.Judged as spec;
 
 use bay_audit::effort::PassBudget;
@@ -24,7 +24,7 @@ pub struct JudgedRelease {
     pub switch: usize,
     pub operation: Operation,
     pub answer: HazardAnswer,
-    /// A hazard in the case of the answer, if it has one and a walk of the hazard was found.
+    /// A hazard in the case of the answer, if it has one.
     pub shown: Option<ShownHazard>,
 }
 
@@ -59,7 +59,7 @@ fn shown_of(
     way: (usize, Operation),
     answer: &HazardAnswer,
 ) -> Result<Option<ShownHazard>, AllocError>
-    ensures { IfOk result (IsShown network.now way.0 way.1 answer.now) }
+    ensures { IfOk result (IsExplainedAnswer bay.now network.now way.0 way.1 answer.now) }
 {
     match answer {
         HazardAnswer::Broken { case } | HazardAnswer::Open { case } => {

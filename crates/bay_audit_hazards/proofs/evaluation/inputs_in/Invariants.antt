@@ -5,5 +5,5 @@ use Rattle.bay_audit_hazards.proofs.evaluation.inputs_in.Given as goal
 abbrev pub invariant-loop-input : goal.invariant-loop-input
 invariant-loop-input l = record {
   long : length l.sets.items ≡ l.input;
-  allow : AllowInputs l.case l.sets.items;
+  allow : AllowInputs l.case l.input l.sets.items;
 }

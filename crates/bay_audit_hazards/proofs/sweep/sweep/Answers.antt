@@ -19,12 +19,13 @@ loop-preserved c =
           subst (AreLeft net k operation first) (sym (ap (λ v. v.items) w.left-is))
           (left-without net k operation first rest case left
           (λ p ip h. subst (IsEvaluated net k operation case) w.in-Empty.is
-          c.in_ok-evaluate.ensures p ip))
+          c.in_ok-evaluate.ensures.right p ip))
       | in-Harmless w ↦
           subst (AreLeft net k operation first) (sym (ap (λ v. v.items) w.left-is))
           (left-without net k operation first rest case left
           (none-in net k operation case
-          (subst (IsEvaluated net k operation case) w.in-Harmless.is c.in_ok-evaluate.ensures)))
+          (subst (IsEvaluated net k operation case) w.in-Harmless.is
+          c.in_ok-evaluate.ensures.right)))
       | in-Split+in_ok-split-in-Split w ↦
           subst (AreLeft net k operation first)
           (sym (ap (λ v. v.items) w.left-is ∙ w.in_ok-split-in-Split.ensures))
