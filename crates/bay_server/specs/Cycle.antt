@@ -1,6 +1,6 @@
 -- How long turns last, on a host that keeps time.
 use Rattle.bay_io.specs.Calls.{WriteCall}
-use Rattle.std.specs.Prelude.{◌≡◌, ℕ, ◌+◌, ◌-◌, ◌^◌, ◌≤◌, min, List, Option, Some, Result}
+use Rattle.std.specs.Prelude.{◌≡◌, ℕ, ◌+◌, ◌-◌, ◌^◌, ◌≤◌, false, min, List, Option, Some, Result}
 use Rattle.bay_io.specs.Watched.{WriterState}
 use Rattle.bay_io.specs.declared.outbox.WriteFault.{WriteFault}
 use Rattle.bay_server.specs.Host.{HostCall, ReadsTimes, WaitsUntil}
