@@ -122,7 +122,8 @@ class Kept(Tools):
 
     def test_crate_after_crate(self) -> None:
         first, second = (edits_of(it)[0] for it in ('bay_control', 'bay_device'))
-        answer = 'echo "must-fail $2/{}.edit: refused, as it must be: proofs/x/Answers.antt:1:1: {}"'
+        answer = ('echo "must-fail $2/{}.edit: refused, as it must be: '
+                  'proofs/x/Answers.antt:1:1: {}"')
         script = (f'case $2 in\nbay_control) {answer.format(first.path.stem, "one")};;\n'
                   f'*) cp refusals.json before; {answer.format(second.path.stem, "two")};;\nesac')
         self.assertEqual(self.try_crates(script, 'bay_control', 'bay_device'),

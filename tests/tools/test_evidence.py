@@ -69,7 +69,7 @@ class Heads(Tools):
 
     def test_the_page_of_promises(self):
         """Its head alone, since the whole page takes long."""
-        page = self.file('page.html', trace_page.head([('It has', '2 promises')]))
+        page = self.file('page.html', trace_page.head([('It has', '2 promises')], None))
         text = self.head_of(page, 'trace', *trace_page.PAGES)
         self.assertRegex(text, r'<code>sha256sum of [0-9,]{5,} files</code></td>'
                          rf'<td class="number">[0-9,]+</td><td><code>{SUM}</code>')

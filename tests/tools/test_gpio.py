@@ -184,7 +184,7 @@ class Chips(unittest.TestCase):
     @needs_loopback
     def test_a_command(self):
         server, said = FakeServer(), []
-        self.addCleanup(server.ends)
+        self.addCleanup(server.end)
         asyncio.run(self.driven(server, said))
         close = [value for line, value in self.kernel.written if line == 21]
         self.assertEqual((close.count(0), close[-1], self.kernel.taken), (1, 1, {}), said)

@@ -93,7 +93,7 @@ class Telling(Driven):
     def test_another_bay(self):
         self.server.end()
         other = FakeServer('E2 2 b')
-        self.addCleanup(other.ends)
+        self.addCleanup(other.end)
         self.server.port = other.port
         self.start_driver()
         self.assertEqual(self.run.wait(10), 1)

@@ -152,7 +152,7 @@ class Played(Tools):
     def test_a_driver_on_played_modules(self):
         """A command moves the breaker; a module without power is bad, and comes again."""
         wiring, server = self.wiring(), FakeServer('E06 1.0')
-        self.addCleanup(server.ends)
+        self.addCleanup(server.end)
         words = [sys.executable, '-B', TOOLS / 'modbus', '--bay', EXAMPLE / 'bay.toml']
         with Running(*words, '--play', wiring, stdin=subprocess.PIPE) as played, \
                 Running(*words, '--wiring', wiring, '--process', server.port) as driver:

@@ -51,7 +51,7 @@ def sums_of_libraries(kit: pathlib.Path) -> dict[str, str]:
 
 
 def rows_of_kit(kit: pathlib.Path | None) -> list[tuple[str, str]]:
-    """The kit, with the sums that it has of itself, and the sum of its prover, which is measured."""
+    """The kit, with the sums that it has of itself, and its prover, whose sum is made here."""
     if kit is None:
         return [('Kit', NO_KIT)]
     what = (kit / 'WHAT').read_text(encoding='utf-8').strip() if (kit / 'WHAT').is_file() else ''
