@@ -1,4 +1,4 @@
-use Rattle.std.proofs.Common.{Ok, Err, inl, inr, refl, subst}
+use Rattle.std.proofs.Common.{Ok, Err, inl, inr, refl, sym}
 use Rattle.std.proofs.lemmas.Result.{err_from_is_err_and}
 use Rattle.cmd_serve.proofs.serve.bind_ports.Goals as goal
 
@@ -9,12 +9,8 @@ returns-in_err-device-clause-binds g c =
 
 pub returns-in-Ok-clause-binds : goal.returns-in-Ok-clause-binds
 returns-in-Ok-clause-binds g c =
-    inl (
-      Ok c.in-Ok.link,
-      c.bind.new.self,
-      c.in-Ok.ensures,
-      rw c.in_ok-device.ensures.device at c.bind_process.ensures.binds,
-    )
+    rw (sym c.in_ok-device.ensures.device)
+    (inl (Ok c.in-Ok.link, c.bind.new.self, c.in-Ok.ensures, c.bind_process.ensures.binds))
 
 pub returns-in-Err-clause-binds : goal.returns-in-Err-clause-binds
 returns-in-Err-clause-binds g c =
