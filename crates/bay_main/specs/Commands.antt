@@ -7,6 +7,7 @@ use Rattle.bay_load.specs.Loads.{LoadData, MayLoadTo}
 use Rattle.bay_load.specs.Report.{IsReport as IsReportOf}
 use Rattle.bay_load.specs.declared.error.LoadError.{LoadError}
 use Rattle.bay_load.specs.declared.load.Form.{Form}
+use Rattle.bay_load.specs.declared.load.Form.TheVariants as form
 use Rattle.bay_load.specs.declared.report.Report.{Report}
 use Rattle.bay_io.specs.Watched.{ReaderState, WriterState}
 use Rattle.bay_io.specs.declared.outbox.WriteFault.{WriteFault}

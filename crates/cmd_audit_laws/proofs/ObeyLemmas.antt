@@ -1,6 +1,6 @@
 -- Releases that are refused in a set of processes, and rules that hold, along the turns of a server
 -- and the events of a replay.
-use Rattle.std.proofs.Common.{◌≡◌, ◌+◌, ℕ, ◌<◌, Bool, true, false, cond, All, List, [], ◌∷◌, length, position, is_none, is_some, Option, Some, None, Result, refl, sym, subst, slice_get, ap, ◌∙◌}
+use Rattle.std.proofs.Common.{◌≡◌, ◌+◌, ℕ, ◌<◌, ◌≤◌, Bool, true, false, cond, All, List, [], ◌∷◌, length, position, is_none, is_some, Option, Some, None, Result, refl, sym, subst, slice_get, ap, ◌∙◌}
 use Rattle.std.specs.Prelude.{IfSome}
 use Rattle.std.proofs.lemmas.List.Elements.{All-cons, All-head, All-nil, All-tail, All-weaker}
 use Rattle.std.specs.declared.net.socket_addr.SocketAddrV4.{SocketAddrV4}
