@@ -182,8 +182,8 @@ class Answers(unittest.TestCase):
         found = self.answer('src/laws.rt:3:1: warning: unused',
                             'note: ./proofs/One.antt:3:1: no proof',
                             'fn bay_control::laws::runs_consist_of_calls: not proved')
-        self.assertEqual(found.text,
-                         'broken by bay_control, runs_consist_of_calls by proofs/One.antt: no proof')
+        self.assertEqual(found.text, 'broken by bay_control, runs_consist_of_calls by '
+                         'proofs/One.antt: no proof')
         self.assertEqual([title_of(it) for it in ('a::B::c', 'a::c', 'c')], ['B::c', 'c', 'c'])
 
     def test_only_names_that_went(self):
