@@ -148,7 +148,7 @@ def rig(library: str):
     with tempfile.TemporaryDirectory() as folder:
         one = Rig(folder, library)
         try:
-            one.is_steady()
+            one.wait_until_steady()
             yield one
         finally:
             one.ends()

@@ -329,7 +329,7 @@ class Faults(Driven):
         self.wait_for_values(LOST)
         self.assertEqual(self.server.told[-5:][0], 'input OK 0')
         again = Counting(self.port)
-        self.sets_up(again)
+        self.set_module_up(again)
         again.coils[CLOSE] = again.coils[2] = True
         self.module = again
         self.wait_until_good()
