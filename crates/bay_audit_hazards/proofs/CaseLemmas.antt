@@ -2,7 +2,6 @@
 use Rattle.std.proofs.Common.{◌≡◌, ℕ, Bool, true, false, List, cond, length, nat_lt, Option, None, Some, refl, sym, ap₂, subst, ◌∙◌}
 use Rattle.std.proofs.Math.Path.{fun_ext}
 use Rattle.bay_base.specs.declared.position.Dbpos.{Dbpos}
-use Rattle.bay_base.specs.declared.position.Dbpos.TheVariants.{Intermediate, Off, On, Bad}
 use Rattle.bay_base.specs.declared.switch.Operation.{Operation}
 use Rattle.bay_audit_rules.specs.Process.{Process}
 use Rattle.bay_audit.specs.Cases.{example_of, input_may, is_in, may_be}
@@ -14,12 +13,10 @@ use Rattle.bay_config.specs.declared.bay.Bay.{Bay}
 use Rattle.bay_diagram.specs.declared.network.Network.{Network}
 use Rattle.bay_diagram.specs.declared.reading.Bound.{Bound}
 use Rattle.bay_diagram.specs.declared.reading.Bound.TheVariants.{Worst, Best}
-use Rattle.bay_diagram.specs.declared.reading.InputSet.{InputSet}
 use Rattle.bay_diagram.specs.declared.reading.Known.{Known}
-use Rattle.bay_diagram.specs.declared.reading.PositionSet.{PositionSet}
 use Rattle.bay_diagram.specs.declared.shown.ShownHazard.{ShownHazard}
 use Rattle.bay_diagram.specs.Hazards.{is_hazard}
-use Rattle.bay_diagram.specs.Reading.{Allowed, IsAllowed, Reading, allowed_by, has_position, has_value, reading_at, reading_in, worst_of}
+use Rattle.bay_diagram.specs.Reading.{Allowed, IsAllowed, Reading, allowed_by, reading_at, reading_in, worst_of}
 use Rattle.bay_diagram.specs.Shown.{IsShownOf, is_shown}
 use Rattle.bay_diagram.proofs.GrowthLemmas.{hazards-are-bounded}
 use Rattle.bay_diagram.proofs.ShownGrowth.{shown-best}

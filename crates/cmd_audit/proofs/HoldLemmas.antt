@@ -1,15 +1,16 @@
 -- The lines of a whole audit, or of one for which memory ran out, are read back.
-use Rattle.std.proofs.Common.{◌≡◌, ◌⊎◌, inl, inr, ℕ, List, [], ◌∷◌, ◌++◌, codes, zip, refl, sym, subst}
+use Rattle.std.proofs.Common.{◌≡◌, ◌⊎◌, inl, inr, ℕ, List, [], ◌∷◌, ◌++◌, codes, zip, None, Some, refl, sym, subst, ◌∙◌}
 use Rattle.bay_config.specs.declared.bay.Bay.{Bay}
 use Rattle.bay_audit_rules.specs.declared.rule.Rule.{Rule}
 use Rattle.bay_audit.specs.Rules.{AreRightAnswers, BoundProgram, program_of}
 use Rattle.bay_audit.specs.declared.answer.RuleAnswer.{RuleAnswer}
 use Rattle.bay_audit.specs.declared.answer.Release.{Release}
 use Rattle.bay_replay_laws.proofs.LineLemmas.{AreLines, each-line, map-lines, more-lines, no-lines, one-line}
-use Rattle.cmd_audit.specs.Auditing.{IsCut, IsWhole}
+use Rattle.bay_load.specs.Loads.{LoadData}
+use Rattle.cmd_audit.specs.Auditing.{AuditText, IsCut, IsWhole}
 use Rattle.cmd_audit.specs.Names.{AreWords, HasWords, ProgramNames, program_names}
 use Rattle.cmd_audit.specs.Text as spec
-use Rattle.cmd_audit.specs.Verdicts.{HoldsAreRead}
+use Rattle.cmd_audit.specs.Verdicts.{HoldsAreRead, IsHold, PrintedHold, printed_hold}
 use Rattle.cmd_audit.proofs.VerdictLemmas as lines
 
 module _ (bay : Bay) (names : ProgramNames) (g : BoundProgram) (words : HasWords bay)
@@ -59,14 +60,27 @@ module _ (bay : Bay) (names : ProgramNames) (g : BoundProgram) (words : HasWords
       (more-lines (lines.shown-lines bay names g words known (zip rules answers) releases)
       (fault-line (zip rules answers))))
 
+-- the line is that of a rule that holds, if it is read so
+abbrev pub SaysHold : (loaded : LoadData) → List (Rule × RuleAnswer) → List ℕ → Type 0
+SaysHold loaded pairs line =
+    (hold : PrintedHold) → printed_hold line ≡ Some hold
+    → IsHold loaded.bay (program_of loaded.bay loaded.image) pairs hold
+
+pub says-no-hold : (loaded : LoadData) (pairs : List (Rule × RuleAnswer)) (line : List ℕ)
+    → printed_hold line ≡ None → SaysHold loaded pairs line
+says-no-hold loaded pairs line none hold e =
+    absurd (let bad : None ≡ Some hold = sym none ∙ e in cc)
+
+-- each line of the answers is that of a rule that holds, if it is read so
+pub holds-lines : (loaded : LoadData) (rules : List Rule) (text : List ℕ) (status : ℕ)
+    → HasWords loaded.bay → AreWords (program_names loaded)
+    → (written : AuditText loaded rules text status)
+    → AreLines (SaysHold loaded (zip rules written.answers)) text
+holds-lines loaded rules text status words known written =
+    said-lines loaded.bay (program_names loaded) (program_of loaded.bay loaded.image) words known
+    rules written.answers written.releases text status written.right written.written
+
 pub holds-are-read : HoldsAreRead
 holds-are-read loaded rules text status words known written line hold at e =
-    let bay = loaded.bay in
-    let names = program_names loaded in
-    let g = program_of bay loaded.image in
-    let pairs = zip rules written.answers in
-    each-line
-    (said-lines bay names g words known rules written.answers written.releases text status
-    written.right
-    written.written)
-    (lines.says-none bay names g words known pairs [] refl) line at hold e
+    each-line (holds-lines loaded rules text status words known written)
+    (says-no-hold loaded (zip rules written.answers) [] refl) line at hold e

@@ -1,5 +1,7 @@
 pub mod BayNameLemmas
 pub mod DeviceLemmas
+pub mod DiagramLineLemmas
+pub mod DiagramNameLemmas
 pub mod HazardLemmas
 pub mod HoldLemmas
 pub mod JudgeLemmas

@@ -38,7 +38,8 @@ use Rattle.cmd_audit.specs.Verdicts.{IsHold, PrintedHold, hold_in, hold_from_par
 
 -- ---- octets that end no line
 
-abbrev IsFree : List ℕ → Type 0
+-- no octet of the text ends a line
+abbrev pub IsFree : List ℕ → Type 0
 IsFree xs = free 10 xs ≡ true
 
 word-free : (c : ℕ) → is_name_character c ≡ false → (s : List ℕ) → IsWord s → free c s ≡ true
@@ -64,28 +65,33 @@ flat-free f P [] all is = refl
 flat-free f P (x ∷ xs) all is =
     free-append 10 (f x) (flat_map f xs) (is x all.0) (flat-free f P xs all.1 is)
 
-flat-all : {A : Type 0} (f : A → List ℕ) (xs : List A) → ((x : A) → IsFree (f x))
+-- texts that end no line end none one after the other
+pub flat-all : {A : Type 0} (f : A → List ℕ) (xs : List A) → ((x : A) → IsFree (f x))
     → IsFree (flat_map f xs)
 flat-all f [] is = refl
 flat-all f (x ∷ xs) is = free-append 10 (f x) (flat_map f xs) (is x) (flat-all f xs is)
 
-number-free : (n : ℕ) → IsFree (decimal n)
+-- digits end no line
+pub number-free : (n : ℕ) → IsFree (decimal n)
 number-free n = decimal-free 10 n no-end
 
 signed-free : (n : ℤ) → IsFree (signed_decimal n)
 signed-free (pos n) = number-free n
 signed-free (negsuc n) = number-free (suc n)
 
-name-free : (s : List ℕ) → IsWord s → IsFree s
+-- a word ends no line
+pub name-free : (s : List ℕ) → IsWord s → IsFree s
 name-free s word = word-free 10 refl s word
 
 -- ---- cases
 
-abbrev Maybe : {A : Type 0} → (A → Type 0) → Option A → Type 0
+-- the value has the property, if there is one
+abbrev pub Maybe : {A : Type 0} → (A → Type 0) → Option A → Type 0
 Maybe P None = Unit {0}
 Maybe P (Some x) = P x
 
-each-get : {A : Type 0} (P : A → Type 0) (xs : List A) (k : ℕ) → Each P xs
+-- a property of each item is one of the item at an index
+pub each-get : {A : Type 0} (P : A → Type 0) (xs : List A) (k : ℕ) → Each P xs
     → Maybe P (slice_get xs k)
 each-get P [] k all = tt
 each-get P (x ∷ xs) zero all = all.0
@@ -146,7 +152,9 @@ point-free bay case name (source.Input k) words word = input-free case k name wo
 point-free bay case name (source.Meter k field) words word =
     measure-free (low_of case k field) (high_of case k field) name word
 
-case-free : (bay : Bay) (case : List TestAnswer) → HasWords bay → IsFree (spec.case_text bay case)
+-- a case ends no line
+pub case-free : (bay : Bay) (case : List TestAnswer) → HasWords bay
+    → IsFree (spec.case_text bay case)
 case-free bay case words =
     flat-free (spec.point_text bay case) (λ p. IsWord p.name) bay.points words.points
     (λ p word. point-free bay case p.name p.source words word)
@@ -195,7 +203,8 @@ kept-free word names kept plain words =
 
 -- ---- words
 
-abbrev first : List (List ℕ) → List ℕ
+-- the first word; none if there is no word
+abbrev pub first : List (List ℕ) → List ℕ
 first [] = []
 first (w ∷ ws) = w
 
@@ -203,7 +212,9 @@ first-onto : (x : ℕ) (ws : List (List ℕ)) → first (onto_first x ws) ≡ x 
 first-onto x [] = refl
 first-onto x (w ∷ ws) = refl
 
-other-words : (ws : List (List ℕ)) → bytes_eq (first ws) (codes "rule") ≡ false → hold_in ws ≡ None
+-- words that begin with another word are of no rule
+pub other-words : (ws : List (List ℕ)) → bytes_eq (first ws) (codes "rule") ≡ false
+    → hold_in ws ≡ None
 other-words [] other = refl
 other-words (a ∷ []) other = refl
 other-words (a ∷ b ∷ []) other = refl
@@ -253,7 +264,8 @@ operation-is : (o : Operation) → spec.operation_text o ≡ 32 ∷ operation_wo
 operation-is operations.Open = refl
 operation-is operations.Close = refl
 
-operation-free : (o : Operation) → IsFree (spec.operation_text o)
+-- an operation ends no line
+pub operation-free : (o : Operation) → IsFree (spec.operation_text o)
 operation-free operations.Open = refl
 operation-free operations.Close = refl
 
@@ -289,7 +301,8 @@ rule-words line id o rest plain =
     ∙ ap (λ ls. decimal line ∷ ls) (split-at 32 id third plain
     ∙ ap (λ ls. id ∷ ls) (split-at 32 (operation_word o) rest (word-plain o))))
 
-id-word : (o : Option Switch) → Maybe (λ s. IsWord s.id) o → IsWord (spec.id_of o)
+-- the id of a switch is a word
+pub id-word : (o : Option Switch) → Maybe (λ s. IsWord s.id) o → IsWord (spec.id_of o)
 id-word None word = refl
 id-word (Some switch) word = word
 

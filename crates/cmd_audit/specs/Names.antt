@@ -1,8 +1,11 @@
--- The names of what a program retains from scan to scan.
+-- The names of what a program retains from scan to scan, and those that consist of letters, digits
+-- and `_` alone.
 use Rattle.std.specs.Prelude.{◌≡◌, ℕ, true, List, Ok}
 use Rattle.std.specs.List.{list_all}
 use Rattle.bay_config.specs.Key.{is_name_character}
 use Rattle.bay_config.specs.declared.bay.Bay.{Bay}
+use Rattle.bay_diagram_file.specs.Diagram.{diagram_of_file}
+use Rattle.bay_diagram_file.specs.declared.diagram.Diagram.{Diagram}
 use Rattle.bay_load.specs.Loads.{LoadData, LoadsTo, parsed_bay}
 use Rattle.bay_load.specs.declared.load.Form.{Form}
 use Rattle.il_image.specs.Images.{Each, IsImage}
@@ -48,3 +51,13 @@ pub record HasWords (bay : Bay) : Type 0 where
 -- The ids of switches and the names of points are words, in each bay that a file spells.
 abbrev pub BaysHaveWords : Type 0
 BaysHaveWords = (file : List ℕ) (bay : Bay) → parsed_bay file ≡ Ok bay → HasWords bay
+
+-- the names of a diagram's nodes and switches are words
+pub record HasDiagramWords (d : Diagram) : Type 0 where
+  pub nodes : Each IsWord d.nodes
+  pub switches : Each IsWord d.switches
+
+-- The names of nodes and switches are words, in each diagram that a file spells.
+abbrev pub DiagramsHaveWords : Type 0
+DiagramsHaveWords =
+    (bay : Bay) (file : List ℕ) (d : Diagram) → diagram_of_file bay file ≡ Ok d → HasDiagramWords d

@@ -11,8 +11,9 @@ use Rattle.bay_audit.specs.Rules.{BoundProgram, IsRightAnswer, program_of}
 use Rattle.bay_audit.specs.declared.answer.RuleAnswer.{RuleAnswer}
 use Rattle.bay_load.specs.Loads.{LoadData}
 use Rattle.bay_replay_laws.specs.Printed.{lines_in, words_in}
-use Rattle.cmd_audit.specs.Auditing.{AuditText}
-use Rattle.cmd_audit.specs.Names.{AreWords, HasWords, program_names}
+use Rattle.bay_diagram_file.specs.declared.diagram.Diagram.{Diagram}
+use Rattle.cmd_audit.specs.Auditing.{AuditText, Judgements}
+use Rattle.cmd_audit.specs.Names.{AreWords, HasDiagramWords, HasWords, program_names}
 use Rattle.cmd_audit.specs.Text.{id_of, is_passed}
 
 -- a line of a rule that holds: the digits of the line of the rule, the id of its switch, and its
@@ -69,3 +70,10 @@ HoldsAreRead =
     → (line : List ℕ) (hold : PrintedHold) → Contains (lines_in text) line
     → printed_hold line ≡ Some hold
     → IsHold loaded.bay (program_of loaded.bay loaded.image) (zip rules written.answers) hold
+
+-- No line of the text for a diagram is read as a line of a rule that holds.
+abbrev pub NoJudgementIsRead : Type 0
+NoJudgementIsRead =
+    (loaded : LoadData) (d : Diagram) (text : List ℕ) (status : ℕ)
+    → HasWords loaded.bay → HasDiagramWords d → Judgements loaded d text status
+    → (line : List ℕ) → Contains (lines_in text) line → printed_hold line ≡ None

@@ -5,19 +5,26 @@ use Rattle.std.proofs.lemmas.List.Elements.{Contains-append_cases}
 use Rattle.std.specs.Fmt.{decimal}
 use Rattle.std.specs.List.{Contains}
 use Rattle.std.specs.Str.{bytes_eq}
+use Rattle.bay_audit.specs.Rules.{program_of}
 use Rattle.bay_audit.specs.declared.answer.RuleAnswer.{RuleAnswer}
 use Rattle.bay_audit.specs.declared.answer.RuleAnswer.TheVariants.{Broken, Holds, Open, Since, TooMany}
-use Rattle.cmd_audit.specs.Auditing.{AuditText, AreAnswered, AuditReport, RulesReport, ParsedRulesReport, IsTextWith, RulesRead, status_of}
-use Rattle.cmd_audit.specs.Names.{AreWords, program_names}
+use Rattle.cmd_audit.specs.Auditing.{AuditText, AreAnswered, AuditReport, DiagramRead, JudgementsIf, RulesReport, ParsedRulesReport, IsTextWith, RulesRead, status_of}
+use Rattle.cmd_audit.specs.Names.{HasDiagramWords, HasWords}
+use Rattle.cmd_audit.specs.Refusals.{diagram_refusal, number_of, numbered_diagram, table_of, table_text}
 use Rattle.cmd_audit.specs.Text.{is_passed, numbered_text}
-use Rattle.cmd_audit.specs.Verdicts.{PrintedHold, hold_in, printed_hold}
+use Rattle.cmd_audit.specs.Verdicts.{IsHold, PrintedHold, hold_in, printed_hold}
 use Rattle.cmd_audit.proofs.BayNameLemmas.{bays-have-words}
+use Rattle.cmd_audit.proofs.DiagramLineLemmas.{judgements-lines}
+use Rattle.cmd_audit.proofs.DiagramNameLemmas.{diagrams-have-words}
 use Rattle.cmd_audit.proofs.NameLemmas.{names-are-words}
-use Rattle.cmd_audit.proofs.HoldLemmas.{holds-are-read}
+use Rattle.cmd_audit.proofs.HoldLemmas.{holds-lines, says-no-hold}
 use Rattle.bay_config.specs.declared.bay.Bay.{Bay}
 use Rattle.bay_device.proofs.LoadLemmas.{image-is}
 use Rattle.bay_diagram_file.specs.declared.diagram.Diagram.{Diagram}
+use Rattle.bay_diagram_file.specs.Code.{code_of as diagram_code}
 use Rattle.bay_diagram_file.specs.declared.fault.DiagramFault.{DiagramFault}
+use Rattle.bay_diagram_file.specs.declared.fault.Place.{Place}
+use Rattle.bay_diagram_file.specs.declared.fault.Place.TheVariants as places
 use Rattle.bay_load.specs.declared.report.Report.{Report}
 use Rattle.bay_load.specs.Errors as error_code
 use Rattle.bay_load.specs.Loads.{IsImageOf, LoadData, LoadsTo}
@@ -28,7 +35,7 @@ use Rattle.bay_report.specs.Report.{coded_refusal, load_refusal_text, report_tex
 use Rattle.bay_load.specs.declared.load.Form.{Form}
 use Rattle.bay_load.specs.declared.load.Form.TheVariants as form
 use Rattle.bay_replay_laws.specs.Printed.{lines_in, words_in}
-use Rattle.bay_replay_laws.proofs.LineLemmas.{AreLines, decimal-free, each-line, free, free-append, no-lines, one-line, split-at}
+use Rattle.bay_replay_laws.proofs.LineLemmas.{AreLines, decimal-free, each-line, free, free-append, map-lines, more-lines, no-lines, one-line, split-at}
 use Rattle.bay_replay_laws.proofs.PrintLemmas.{load-is}
 use Rattle.bay_replay_laws.proofs.ReadLemmas.{load_line, no-end, no-space}
 use Rattle.bay_replay_laws.proofs.WithinLemmas.{load-free}
@@ -127,6 +134,53 @@ rules-lines (Some code) line =
     (decimal-free 10 code no-end) (decimal-free 10 line no-end))
     (other-line (codes "rules") (codes "refused " ++ rest) refl refl))
 
+-- the line of a diagram file that is refused
+refused-diagram : (code : Option ℕ) (table : Option (List ℕ × ℕ))
+    → free 10 (table_text table) ≡ true → AreLines SaysNone (numbered_diagram code table)
+refused-diagram None table plain = no-lines
+refused-diagram (Some code) table plain =
+    let rest : List ℕ = decimal code ++ table_text table in
+    subst (AreLines SaysNone)
+    (ap (λ t. codes "diagram refused " ++ t) (append_assoc (decimal code) (table_text table)
+    (codes "\n")))
+    (one-line (codes "diagram" ++ 32 ∷ (codes "refused " ++ rest))
+    (free-append 10 (decimal code) (table_text table) (decimal-free 10 code no-end) plain)
+    (other-line (codes "diagram") (codes "refused " ++ rest) refl refl))
+
+place-free : (place : Place) → free 10 (table_text (table_of place)) ≡ true
+place-free places.File = refl
+place-free (places.Node k) =
+    free-append 10 (codes " node ") (decimal (number_of k)) refl
+    (decimal-free 10 (number_of k) no-end)
+place-free (places.Between k) =
+    free-append 10 (codes " between ") (decimal (number_of k)) refl
+    (decimal-free 10 (number_of k) no-end)
+place-free (places.Switch k) =
+    free-append 10 (codes " switch ") (decimal (number_of k)) refl
+    (decimal-free 10 (number_of k) no-end)
+
+diagram-lines : (fault : DiagramFault) → AreLines SaysNone (diagram_refusal fault)
+diagram-lines fault =
+    refused-diagram (diagram_code fault.kind) (table_of fault.place) (place-free fault.place)
+
+-- ---- the releases that a diagram judges
+
+-- the names of the diagram are words, if there is one
+abbrev MayHaveWords : Option Diagram → Type 0
+MayHaveWords None = Unit {0}
+MayHaveWords (Some d) = HasDiagramWords d
+
+may-have-words : (bay : Bay) (diagram : Option (List ℕ)) (d : Option Diagram)
+    → DiagramRead bay diagram (Ok d) → MayHaveWords d
+may-have-words bay diagram None read = tt
+may-have-words bay None (Some d) read = absurd cc
+may-have-words bay (Some file) (Some d) read = diagrams-have-words bay file d read
+
+judged-lines : (l : LoadData) (d : Option Diagram) (text : List ℕ) (ended : ℕ) → HasWords l.bay
+    → MayHaveWords d → JudgementsIf l d text ended → AreLines SaysNone text
+judged-lines l None text ended ids words j = subst (AreLines SaysNone) (sym j.0) no-lines
+judged-lines l (Some d) text ended ids words j = judgements-lines l d text ended ids words j
+
 -- ---- answers
 
 zip-at : (rules : List Rule) (answers : List RuleAnswer) (pair : Rule × RuleAnswer)
@@ -160,17 +214,11 @@ module _ (bay : List ℕ) (f : Form) (program rules : List ℕ) (log : Option (L
     (e : printed_hold line ≡ Some hold) where
   of-answers : (l : LoadData) → LoadsTo bay f program (Ok l) → (rs : List Rule)
       (text : List ℕ) (ended : ℕ) (written : AuditText l rs text ended)
-      → Contains (lines_in text) line
+      → IsHold l.bay (program_of l.bay l.image) (zip rs written.answers) hold
       → ((How : RuleAnswer → Type 0) (rule : Rule) → IsAnswered How rs written.answers rule
       → IsAudited How bay f program rules rule) → IsLineOfRule bay f program rules hold
-  of-answers l loads rs text ended written at more =
+  of-answers l loads rs text ended written h more =
       let made = load-made bay f program l loads in
-      let kept : IsImage l.image = image-kept f program l.bay l.image file made.made in
-      let known : AreWords (program_names l) = names-are-words bay f program l loads kept in
-      let h =
-      holds-are-read l rs text ended (bays-have-words bay l.bay made.read) known written line hold
-      at e
-      in
       let index = zip-at rs written.answers h.pair h.among in
       record {
         own = l.bay;
@@ -197,42 +245,69 @@ module _ (bay : List ℕ) (f : Form) (program rules : List ℕ) (log : Option (L
         ];
       }
 
-  of-both : (l : LoadData) → LoadsTo bay f program (Ok l) → (rs : List Rule) (text : List ℕ)
-      (prints : AreAnswered l (Some rs) None text status) → Contains (lines_in text) line
+  -- the lines of the answers, and then lines that say of no rule that it holds
+  of-lines : (l : LoadData) → LoadsTo bay f program (Ok l) → (rs : List Rule)
+      (answered judged : List ℕ) (ended : ℕ) (written : AuditText l rs answered ended)
+      → AreLines SaysNone judged → Contains (lines_in (answered ++ judged)) line
+      → IsHold l.bay (program_of l.bay l.image) (zip rs written.answers) hold
+  of-lines l loads rs answered judged ended written none at =
+      let made = load-made bay f program l loads in
+      let kept : IsImage l.image = image-kept f program l.bay l.image file made.made in
+      let pairs = zip rs written.answers in
+      each-line
+      (more-lines
+      (holds-lines l rs answered ended (bays-have-words bay l.bay made.read)
+      (names-are-words bay f program l loads kept) written)
+      (map-lines (says-no-hold l pairs) none))
+      (says-no-hold l pairs [] refl) line at hold e
+
+  of-both : (l : LoadData) → LoadsTo bay f program (Ok l) → (rs : List Rule) (d : Option Diagram)
+      → MayHaveWords d → (text : List ℕ) (prints : AreAnswered l (Some rs) d text status)
+      → Contains (lines_in text) line
       → ((How : RuleAnswer → Type 0) (rule : Rule)
-      → AnswersRuleIn How rule l (Some rs) None text status prints
+      → AnswersRuleIn How rule l (Some rs) d text status prints
       → IsAudited How bay f program rules rule) → IsLineOfRule bay f program rules hold
-  of-both l loads rs text (inl both) at more =
+  of-both l loads rs d words text (inl both) at more =
+      let made = load-made bay f program l loads in
       of-answers l loads rs both.answered (status_of both.passed) both.answers
-      (subst (λ t. Contains (lines_in t) line)
-      (both.whole ∙ ap (λ j. both.answered ++ j) both.judgements.0 ∙ append-nil both.answered) at)
+      (of-lines l loads rs both.answered both.judged (status_of both.passed) both.answers
+      (judged-lines l d both.judged both.ended (bays-have-words bay l.bay made.read) words
+      both.judgements)
+      (subst (λ t. Contains (lines_in t) line) both.whole at))
       more
-  of-both l loads rs text (inr cut) at more = of-answers l loads rs text 3 cut.1 at more
+  of-both l loads rs d words text (inr cut) at more =
+      of-answers l loads rs text 3 cut.1
+      (of-lines l loads rs text [] 3 cut.1 no-lines
+      (subst (λ t. Contains (lines_in t) line) (sym (append-nil text)) at))
+      more
 
   of-drawn : (l : LoadData) → LoadsTo bay f program (Ok l) → (rs : List Rule)
-      (parsed : Result (Option Diagram) DiagramFault) → parsed ≡ Ok None → (text : List ℕ)
+      (diagram : Option (List ℕ)) (parsed : Result (Option Diagram) DiagramFault)
+      → DiagramRead l.bay diagram parsed → (text : List ℕ)
       (prints : IsTextWith l (Some rs) parsed log text status) → Contains (lines_in text) line
       → ((How : RuleAnswer → Type 0) (rule : Rule)
       → IfDrawn (AnswersRuleIn How rule) l (Some rs) parsed log text status prints
       → IsAudited How bay f program rules rule) → IsLineOfRule bay f program rules hold
-  of-drawn l loads rs (Ok None) none text prints at more = of-both l loads rs text prints.1 at more
-  of-drawn l loads rs (Ok (Some d)) none text prints at more = absurd cc
-  of-drawn l loads rs (Err fault) none text prints at more = absurd cc
+  of-drawn l loads rs diagram (Ok d) read text prints at more =
+      of-both l loads rs d (may-have-words l.bay diagram d read) text prints.1 at more
+  of-drawn l loads rs diagram (Err fault) read text prints at more =
+      absurd (no-line text line hold
+      (subst (AreLines SaysNone) (sym prints.1.0) (diagram-lines fault)) at e)
 
-  of-rules : (l : LoadData) → LoadsTo bay f program (Ok l)
-      → (parsed : Result (Option (List Rule)) RuleFault) → RulesRead l.bay (Some rules) parsed
-      → (text : List ℕ) (prints : ParsedRulesReport l parsed None log text status)
+  of-rules : (l : LoadData) → LoadsTo bay f program (Ok l) → (diagram : Option (List ℕ))
+      (parsed : Result (Option (List Rule)) RuleFault) → RulesRead l.bay (Some rules) parsed
+      → (text : List ℕ) (prints : ParsedRulesReport l parsed diagram log text status)
       → Contains (lines_in text) line
       → ((How : RuleAnswer → Type 0) (rule : Rule)
-      → IfRead (AnswersRuleIn How rule) l parsed None log text status prints
+      → IfRead (AnswersRuleIn How rule) l parsed diagram log text status prints
       → IsAudited How bay f program rules rule) → IsLineOfRule bay f program rules hold
-  of-rules l loads (Err fault) parses text prints at more =
+  of-rules l loads diagram (Err fault) parses text prints at more =
       absurd (no-line text line hold
       (subst (AreLines SaysNone) (sym prints.1.0) (rules-lines (code_of fault) (line_of fault))) at
       e)
-  of-rules l loads (Ok None) parses text prints at more = absurd parses
-  of-rules l loads (Ok (Some rs)) parses text prints at more =
-      of-drawn l loads rs prints.parsed prints.parses text prints.prints at more
+  of-rules l loads diagram (Ok None) parses text prints at more = absurd parses
+  of-rules l loads diagram (Ok (Some rs)) parses text prints at more =
+      of-drawn l loads rs diagram prints.parsed prints.parses text prints.prints at more
 
   of-load : (report : Report) (rest : List ℕ) → whole ≡ report_text report ++ rest
       → Contains (lines_in whole) line → Contains (lines_in rest) line
@@ -259,16 +334,17 @@ module _ (bay : List ℕ) (f : Form) (program rules : List ℕ) (log : Option (L
           absurd (let bad : None ≡ Some hold = sym none ∙ ap printed_hold same ∙ e in cc)
       by-case first none (inl (suc k, low, same)) = absurd (omega (arith, low))
 
-  of-audit : (audit : AuditReport f (octets_with bay program (Some rules) None) log whole status)
+  of-audit : (diagram : Option (List ℕ))
+      (audit : AuditReport f (octets_with bay program (Some rules) diagram) log whole status)
       → Contains (lines_in whole) line → IsLineOfRule bay f program rules hold
-  of-audit (inr refused) at =
+  of-audit diagram (inr refused) at =
       absurd (no-line whole line hold
       (subst (AreLines SaysNone) (sym refused.reports.1.0) (refused-lines refused.error)) at e)
-  of-audit (inl load) at =
+  of-audit diagram (inl load) at =
       of-says load.reports.prints
       (of-load load.reports.report load.reports.rest load.reports.whole at)
       (λ How rule prints. record {
-        diagram = None;
+        diagram = diagram;
         log = log;
         text = whole;
         status = status;
@@ -276,12 +352,12 @@ module _ (bay : List ℕ) (f : Form) (program rules : List ℕ) (log : Option (L
         prints = prints;
       })
     where
-      of-says : (prints : RulesReport load.loaded (Some rules) None log load.reports.rest status
+      of-says : (prints : RulesReport load.loaded (Some rules) diagram log load.reports.rest status
           ⊎ IsLoggedOutput None (codes "fault memory\n") 3 log load.reports.rest status)
           → Contains (lines_in load.reports.rest) line
           → ((How : RuleAnswer → Type 0) (rule : Rule)
-          → AfterLoad (AnswersRuleIn How rule) _ load.loaded (Some rules) None log load.reports.rest
-          status prints
+          → AfterLoad (AnswersRuleIn How rule) _ load.loaded (Some rules) diagram log
+          load.reports.rest status prints
           → IsAudited How bay f program rules rule)
           → IsLineOfRule bay f program rules hold
       of-says (inr memory) there more =
@@ -289,9 +365,9 @@ module _ (bay : List ℕ) (f : Form) (program rules : List ℕ) (log : Option (L
           (subst (AreLines SaysNone) (sym memory.1.0) (one-line (codes "fault memory") refl refl))
           there e)
       of-says (inl prints) there more =
-          of-rules load.loaded load.loads prints.parsed prints.parses load.reports.rest
+          of-rules load.loaded load.loads diagram prints.parsed prints.parses load.reports.rest
           prints.prints there more
 
 pub holds-audited : HoldsAreAudited
-holds-audited bay f program rules log text status file audit line hold at e =
-    of-audit bay f program rules log text status file line hold e audit at
+holds-audited bay f program rules diagram log text status file audit line hold at e =
+    of-audit bay f program rules log text status file line hold e diagram audit at

@@ -1,7 +1,7 @@
 -- The line of an audit for a rule that holds.
 use Rattle.std.specs.Fmt.{decimal}
 use Rattle.std.specs.List.{Contains}
-use Rattle.std.specs.Prelude.{ℕ, ◌≡◌, ◌⊎◌, List, slice_get, Option, None, Some, Ok}
+use Rattle.std.specs.Prelude.{ℕ, ◌≡◌, ◌⊎◌, List, slice_get, Option, Some, Ok}
 use Rattle.cmd_audit.specs.Auditing.{AuditReport}
 use Rattle.cmd_audit.specs.Text.{id_of}
 use Rattle.cmd_audit.specs.Verdicts.{PrintedHold, printed_hold}
@@ -26,12 +26,12 @@ pub record IsLineOfRule (bay : List ℕ) (form : Form) (program rules : List ℕ
   pub audited : IsAudited Plainly bay form program rules rule
       ⊎ IsAudited ByTimer bay form program rules rule
 
--- Each such line of the text of an audit without a diagram is that of such a rule.
+-- Each such line of the text of an audit, with a diagram or without, is that of such a rule.
 abbrev pub HoldsAreAudited : Type 0
 HoldsAreAudited =
-    (bay : List ℕ) (form : Form) (program rules : List ℕ) (log : Option (List ℕ))
+    (bay : List ℕ) (form : Form) (program rules : List ℕ) (diagram log : Option (List ℕ))
     (text : List ℕ) (status : ℕ) → IsFile form program
-    → AuditReport form (octets_with bay program (Some rules) None) log text status
+    → AuditReport form (octets_with bay program (Some rules) diagram) log text status
     → (line : List ℕ) (hold : PrintedHold)
     → Contains (lines_in text) line → printed_hold line ≡ Some hold
     → IsLineOfRule bay form program rules hold

@@ -32,8 +32,8 @@ use bay_server_turn::link::Link;
 /// that a turn reports, and each line `ms command id on` (or `off`) that is printed or sent to the
 /// process, follows octets of a client.
 ///
-/// If the audit answers that a rule holds which forbids the command while a condition holds, this
-/// condition does not hold for what the process had last reported before these octets. If it
+/// If the audit answers `holds` for a rule that forbids the command while a condition holds, the
+/// condition does not hold by what the process had last reported before these octets. If it
 /// answers that a timer establishes a rule with a time, and the rule applies to what the process
 /// had last reported, its condition had held for this time at the last scan. After each scan of a
 /// turn the interlocking values meet each rule without a time that the audit answers to hold. If it
@@ -93,9 +93,9 @@ pub fn replayed_commands_obey()
     ensures { ReplayedCommandsObey }
 {}
 
-/// Each line `rule LINE ID OPERATION holds ..` of the text of an audit without a diagram is that of
-/// a rule in this line of the text of rules, for this operation of the switch with this id, for
-/// which the audit answers that it holds, or that a timer establishes it.
+/// Each line `rule LINE ID OPERATION holds ..` of the text of an audit, with a diagram or without,
+/// is that of a rule in this line of the text of rules, for this operation of the switch with this
+/// id, for which the audit answers that it holds, or that a timer establishes it.
 pub fn printed_holds_are_audited()
     ensures { HoldsAreAudited }
 {}

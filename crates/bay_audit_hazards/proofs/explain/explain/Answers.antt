@@ -1,4 +1,3 @@
-use Rattle.std.proofs.Common.{◌≡◌}
 use Rattle.bay_diagram.specs.Reading.{reading_in}
 use Rattle.bay_diagram.specs.Shown.{IsShownOf}
 use Rattle.bay_diagram.proofs.ShowLemmas.{ok-more}
