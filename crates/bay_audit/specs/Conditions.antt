@@ -83,7 +83,7 @@ abbrev pub truths_after_items : List TestAnswer → List ConditionItem → List 
 truths_after_items case [] stack = stack
 truths_after_items case (i ∷ is) stack = truths_after_items case is (truths_after_item case i stack)
 
--- the truth set on top; that of FALSE if the stack is empty
+-- the truth set on top of the stack, or that of FALSE if the stack is empty
 abbrev pub top_truths : List TruthSet → TruthSet
 top_truths [] = truth_set false true
 top_truths (a ∷ stack) = a

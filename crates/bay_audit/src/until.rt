@@ -239,8 +239,8 @@ fn answer_by_dependency(
     }
 }
 
-// Answers a rule that forbids until a condition has held for a time: it holds if one of the
-// program's timers establishes it.
+// Answers a rule that forbids an operation until a condition has held for a time: the rule holds if
+// one of the program's timers establishes it.
 fn answer_forbidden(
     alloc: Global,
     program: &AuditedProgram<'_>,

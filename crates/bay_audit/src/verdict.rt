@@ -75,7 +75,7 @@ fn outputs_of(
     Ok(outputs)
 }
 
-// Returns the range at an index; FALSE if the program does not name the point.
+// Returns the range at an index; that of FALSE if the program does not name the point.
 fn range_at(outputs: &[Range], place: Option<usize>) -> Range
     ensures { result ≡ spec.range_at outputs.now place }
 {

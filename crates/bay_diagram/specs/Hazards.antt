@@ -193,8 +193,8 @@ leaves_current net r s d =
     (lies_beside net r s d s.one s.other || lies_beside net r s d s.other s.one)
     && (feeds_from net r s d d.one d.other || feeds_from net r s d d.other d.one)
 
--- a disconnector that may be on its way, other than s, without a path beside it or beside s that
--- stays closed
+-- a disconnector other than s that may be on its way; no path that stays closed is beside it or
+-- beside s
 abbrev pub is_exposed : Network → Reading → Branch → Branch → Bool
 is_exposed net r s d =
     is_disconnector d.kind && (not (d.number == s.number) && (r.may_move d.device

@@ -2,12 +2,12 @@
 use Rattle.std.specs.Prelude.{ℕ, ◌≡◌, ◌==◌, ◌⊎◌, ◌↔◌, Bool, true, ◌&&◌, ◌||◌, List, [], ◌∷◌, fold, if◌then◌else◌}
 use Rattle.bay_diagram.specs.declared.network.Branch.{Branch}
 
--- the nodes that are joined by a branch, and by what joined nodes before it
+-- which nodes are joined if a branch is added to what joined nodes before it
 abbrev pub with_branch : (ℕ → ℕ → Bool) → Branch → ℕ → ℕ → Bool
 with_branch joins b x y =
     joins x y || (joins x b.one && joins b.other y || joins x b.other && joins b.one y)
 
--- the nodes that branches join: each one to itself, and then by each branch
+-- which nodes branches join: at first each node only itself, then one branch after the other
 abbrev pub joined : List Branch → ℕ → ℕ → Bool
 joined branches = fold with_branch (λ x y. x == y) branches
 

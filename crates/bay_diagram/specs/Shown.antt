@@ -302,7 +302,7 @@ pub record IsJoined (net : Network) (r : Reading) (route : Route) (a b : ℕ) : 
   pub there : leads net r route a b ≡ true
   pub back : leads net r route b a ≡ true
 
--- A walk of the route leads from the node a to the node n, for which it looks.
+-- The node n is a target of the route, and a walk of the route leads from the node a to it.
 pub record IsTargetOf (net : Network) (r : Reading) (s : Branch) (route : Route) (a : ℕ)
     (target : Target) (n : ℕ) : Type 0 where
   pub fits : is_target_at net r s target n ≡ true

@@ -517,7 +517,7 @@ pub(crate) fn joins_parts(network: &Network, known: &Known, switch: &Branch) -> 
 }
 
 // Returns whether a coupler would leave its two sides to disconnectors alone; FALSE if the switch
-// is none.
+// is not a coupler.
 pub(crate) fn uncouples(network: &Network, known: &Known, switch: &Branch) -> bool
     ensures { result ≡ spec.uncouples network.now (reading_in known.now) switch.now }
 {

@@ -413,7 +413,7 @@ fn duplicate_switch(switches: &[SwitchRow]) -> Option<usize>
         .position(|row| is_duplicate_switch(switches, row))
 }
 
-// Returns the first node whose input is none of the bay.
+// Returns the first node whose input is not an input of the bay.
 fn unknown_input_node(inputs: &[Text], nodes: &[NodeRow]) -> Option<usize>
     ensures { result ≡ position (λ n. spec.is_no_input inputs.now n.dead) nodes.now }
 {

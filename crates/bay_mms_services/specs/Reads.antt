@@ -48,7 +48,7 @@ abbrev pub read_after_value : Bay → ℕ → ReadState → ReadState
 read_after_value b place r =
     record r { results = r.results ++ datum_text (data_at (client_rows b r.controls) place) }
 
--- a read after a variable that is a part of a control
+-- the state of a read after a variable that is a part of a control
 abbrev pub read_part : ClientContext → Bay → ℕ → ReadState → ℕ → ControlPart → ReadState
 read_part c b place r k Select =
     read_after_select c b k (name_at b.rows place) r

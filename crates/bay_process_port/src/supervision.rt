@@ -318,8 +318,8 @@ pub(crate) fn has_jumped(watch: &Option<SupervisedProcess>, jump: u64) -> bool
     }
 }
 
-/// Returns that no line came, or why the connection ends if a supervised process has been silent
-/// for longer than it may be.
+/// Returns that no line came; or, if a supervised process has been silent for too long, why its
+/// connection ends.
 pub(crate) fn check_silence(
     watch: &Option<SupervisedProcess>,
     now: u64,

@@ -24,8 +24,7 @@ with_host served host lines = record {
 
 module _ {L H W : Type 0} (step : L → Call → L → Type 0) (acts : H → HostCall L → H → Type 0)
     (contents : W → Option (List ℕ)) (asks : W → WriteCall → W → Type 0) where
-  -- a turn was done, or it was refused, and what must be printed for it was; or that could not be
-  -- written
+  -- a turn was done or refused, and its output was printed; or the output could not be written
   abbrev pub TriesTurn : ServiceState L H → WriterState W → ServiceState L H → WriterState W
       → Result TurnAttempt WriteFault → Type 0
   TriesTurn before old after new (Ok (tried.Done was_idle)) =

@@ -152,7 +152,7 @@ fn take_loss<L>(process: &mut Option<Process<L>>, device: &Device, moment: u64, 
 }
 
 /// Returns whether the next turn skips its reads: a line of the process waits, and fewer than 63
-/// turns in a row have skipped them.
+/// turns in a row have skipped them. The first turn and the turn after a line of a trace read.
 pub fn skips_reads<L>(process: &Option<Process<L>>) -> bool
     ensures { result ≡ spec.skips_reads process.now }
 {

@@ -191,7 +191,8 @@ fn loaded_of(alloc: Global, bay: &Bay, octets: &mut [u8], at: usize) -> usize
     loaded
 }
 
-// Does this with each octet, and returns how many images are loaded.
+// Replaces each octet of an image in turn by each other value, and returns how many of these images
+// are loaded.
 fn loaded_in(alloc: Global, bay: &Bay, octets: &mut [u8]) -> usize {
     let mut loaded = 0usize;
     for at in 0..octets.len() {

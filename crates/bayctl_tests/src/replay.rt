@@ -105,9 +105,8 @@ const REPORT: &[u8] = b"instructions=6 depth=1 budget=6
 1500 scan steps=6 QA1=00 QB1=11
 ";
 
-// If the read with a number fails, the replay prints `fault 121` alone; if the write with a number
-// fails, it prints a prefix of its report, and ends with a failed write. Nothing is called after
-// that.
+// If the Nth read fails, the replay prints `fault 121` alone; if the Nth write fails, it prints a
+// prefix of its report, and ends with a failed write. Nothing is called after that.
 fn check_failing(rt: &impl Abort, alloc: Global, scenario: &[u8], calls: Calls) {
     let found = outcome_of(alloc, scenario, calls);
     let report = found.report.as_slice();

@@ -114,7 +114,7 @@ abbrev pub is_nonzero : text.OperandData → Bool
 is_nonzero (text.constant value) = is_nonzero_literal value
 is_nonzero (text.variable place) = false
 
--- a name as that of the timer of a call; a variable's name is misused
+-- a name in the place of the timer of a call; the name of a variable is misused there
 abbrev pub called_of : Option Meaning → CalledTimer
 called_of None = called.Missing
 called_of (Some (meaning.Variable slot kind writable)) = called.Misused

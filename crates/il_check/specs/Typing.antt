@@ -124,7 +124,7 @@ typed_transfer other = None
 abbrev pub action_entry : Resolved → Option ElementaryType → Option Entry
 action_entry r result = option_map operation (typed_operation r result)
 
--- a jump, return or call, or else an entry, if there is one
+-- the item of a jump, a return or a call; of any other instruction that of its entry, if it has one
 abbrev pub or_entry : Option Transfer → Option Entry → Option ProgramItem
 or_entry (Some t) e = Some (transfer t)
 or_entry None e = option_map plain e

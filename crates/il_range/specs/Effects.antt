@@ -456,7 +456,7 @@ replace_two f p =
 abbrev pub timer_of : ℕ → List KnownTimer → (KnownTimer → Option KnownData) → Option KnownData
 timer_of n timers act = option_and_then act (slice_get timers n)
 
--- changes a timer and the stack
+-- what is known with this timer in the place of the one at `n`, and these cells on the stack
 abbrev pub with_timer : List Range → ℕ → KnownTimer → KnownData → Option KnownData
 with_timer cells n u p =
     Some (record { cells = cells; slots = p.slots; timers = slice_set p.timers n u })
