@@ -3,10 +3,9 @@ use Rattle.std.proofs.Common.{◌≡◌, List, [], ◌∷◌, ◌++◌, map, Opt
 use Rattle.toml.specs.Data.{Members}
 use Rattle.bay_config.specs.declared.bay.Bay.{Bay}
 use Rattle.bay_config.specs.declared.fault.BayFault.{BayFault}
-use Rattle.bay_config.specs.declared.names.NameSection.TheVariants.{Input, Meter}
 use Rattle.bay_config.specs.declared.read.Lists.{Lists}
 use Rattle.bay_config.specs.declared.read.Sections.{Sections}
-use Rattle.bay_config.specs.Bay.{bay_section, switch_section, name_section, sections, bay_table, nameplate_in, switches_in, names_in, bay_in, bay_of_table}
+use Rattle.bay_config.specs.Bay.{bay_section, switch_section, input_section, meter_section, sections, bay_table, nameplate_in, profile_in, switches_in, inputs_in, meters_of, meters_in, bay_in, bay_of_table}
 use Rattle.bay_base.specs.Exact.{unless_refused}
 use Rattle.bay_config.specs.Key.{first_fault, unknown_refusal}
 use Rattle.bay_nodes.specs.Node.{bay_rows}
@@ -20,21 +19,25 @@ sections_in f =
     record {
       nameplate = nameplate_in (bay_table f);
       switches = switches_in f;
-      inputs = names_in f Input;
-      meters = names_in f Meter;
+      inputs = inputs_in f;
+      meters = meters_in f;
     }
 
 abbrev pub section_checks : Members → List (Option BayFault)
-section_checks f = unknown_refusal (map (λ s. s.name) sections) f ∷ map (section_refusal f) sections
+section_checks f =
+    unknown_refusal (map (λ s. s.name) (sections (profile_in f))) f
+    ∷ map (section_refusal f) (sections (profile_in f))
 
 -- the sections, one after another
 abbrev pub by_section : Members → Result Sections BayFault
 by_section f =
-    then (unless_refused {B = Unit {0}} (unknown_refusal (map (λ s. s.name) sections) f) tt)
+    then (unless_refused {B = Unit {0}}
+    (unknown_refusal (map (λ s. s.name) (sections (profile_in f))) f) tt)
     (λ _. then (unless_refused (section_refusal f bay_section) (nameplate_in (bay_table f)))
     (λ nameplate. then (unless_refused (section_refusal f switch_section) (switches_in f))
-    (λ switches. then (unless_refused (section_refusal f (name_section Input)) (names_in f Input))
-    (λ inputs. then (unless_refused (section_refusal f (name_section Meter)) (names_in f Meter))
+    (λ switches. then (unless_refused (section_refusal f input_section) (inputs_in f))
+    (λ inputs. then (unless_refused (section_refusal f (meter_section nameplate.profile))
+    (meters_of nameplate.profile f))
     (λ meters. Ok
     (record {
       nameplate = nameplate;
@@ -48,15 +51,15 @@ pub sections-by-section : (f : Members)
 sections-by-section f =
     let bay = section_refusal f bay_section in
     let switches = section_refusal f switch_section in
-    let inputs = section_refusal f (name_section Input) in
-    let meters = section_refusal f (name_section Meter) in
-    judged-step (unknown_refusal (map (λ s. s.name) sections) f)
+    let inputs = section_refusal f input_section in
+    let meters = section_refusal f (meter_section (profile_in f)) in
+    judged-step (unknown_refusal (map (λ s. s.name) (sections (profile_in f))) f)
     (bay ∷ switches ∷ inputs ∷ meters ∷ []) (tt {0}) (sections_in f) _
     (judged-step bay (switches ∷ inputs ∷ meters ∷ []) (nameplate_in (bay_table f)) (sections_in f)
     _
     (judged-step switches (inputs ∷ meters ∷ []) (switches_in f) (sections_in f) _
-    (judged-step inputs (meters ∷ []) (names_in f Input) (sections_in f) _
-    (judged-step meters [] (names_in f Meter) (sections_in f) _ refl))))
+    (judged-step inputs (meters ∷ []) (inputs_in f) (sections_in f) _
+    (judged-step meters [] (meters_in f) (sections_in f) _ refl))))
 
 -- the last checks, after the others
 judged-last_of : {S R : Type 0} (checks last : List (Option BayFault)) (x : S) (v : R)
@@ -71,7 +74,7 @@ abbrev pub lists_in : Sections → Lists
 lists_in s =
     record {
       points = bay_points s.switches s.inputs s.meters;
-      rows = bay_rows s.nameplate s.switches s.meters;
+      rows = bay_rows s.nameplate s.switches s.inputs s.meters;
     }
 
 -- the checks of the lists: the names of the points, and then the keys of the switches
@@ -100,6 +103,7 @@ bay_by_parts f =
       model = s.nameplate.model;
       revision = s.nameplate.revision;
       scan_max_age_ms = s.nameplate.scan_max_age_ms;
+      profile = s.nameplate.profile;
       rows = l.rows;
       points = l.points;
       switches = s.switches;

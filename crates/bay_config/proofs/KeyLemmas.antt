@@ -1,5 +1,5 @@
 -- From the keys of a map to the members that it stands for, and what a check says of its parts.
-use Rattle.std.proofs.Common.{◌≡◌, ◌⊎◌, inl, inr, ℕ, Bool, true, false, not, ◌||◌, cond, List, [], ◌∷◌, map, Option, None, Some, is_some, Result, Ok, Err, string_bytes, Bor, Ordering, Less, Equal, Greater, nat_cmp, refl, ap, ◌∙◌}
+use Rattle.std.proofs.Common.{◌≡◌, ◌⊎◌, inl, inr, ℕ, true, false, not, ◌||◌, cond, List, [], ◌∷◌, map, Option, None, Some, is_some, Result, Ok, Err, string_bytes, Bor, Ordering, Less, Equal, Greater, nat_cmp, refl, ap, ◌∙◌}
 use Rattle.std.proofs.lemmas.Bool.{not-false, or_parts}
 use Rattle.std.proofs.lemmas.Map.Lookups.{exact_bytes}
 use Rattle.std.specs.Cmp.Lexicographic.{slice_cmp}

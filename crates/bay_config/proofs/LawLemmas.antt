@@ -12,9 +12,8 @@ use Rattle.bay_base.specs.declared.point.Point.{Point}
 use Rattle.bay_nodes.specs.declared.switch.Switch.{Switch}
 use Rattle.bay_config.specs.declared.fault.BayFault.{BayFault}
 use Rattle.bay_config.specs.declared.fault.BayFault.TheVariants.{MissingKey, BadValue, DuplicateName, TooMany}
-use Rattle.bay_config.specs.declared.names.NameSection.{NameSection}
-use Rattle.bay_config.specs.declared.names.NameSection.TheVariants.{Input, Meter}
-use Rattle.bay_config.specs.Bay.{bay_section, switch_section, name_section, max_names, name_in, name_keys, sections, switches_in, names_in, bay_table, nameplate_in, bay_in, bay_of_table, file_refusal}
+use Rattle.bay_nodes.specs.declared.meter.Meter.{Meter}
+use Rattle.bay_config.specs.Bay.{bay_section, switch_section, input_section, input_in, input_keys, inputs_in, meter_section, meter_in, meter_keys, meters_in, profile_in, sections, switches_in, bay_table, nameplate_in, bay_in, bay_of_table, file_refusal}
 use Rattle.bay_config.specs.Key.{Key, is_among, unknown_refusal, refused_if}
 use Rattle.bay_config.specs.Laws.{IsOwned, IsBay}
 use Rattle.bay_config.specs.Remote.{are_inputs, remotes_refusal}
@@ -88,7 +87,7 @@ rest-of-rest (t ∷ all) zero s ss rest = cc
 rest-of-rest (t ∷ all) (suc k) s ss rest = rw (suc-add k 1) (rest-of-rest all k s ss rest)
 
 -- the points of a switch belong to it
-own-points : (all : List Switch) (is ms : List (List ℕ)) (k : ℕ) (s : Switch)
+own-points : (all : List Switch) (is : List (List ℕ)) (ms : List Meter) (k : ℕ) (s : Switch)
     → slice_get all k ≡ Some s → AllByRecursion (IsOwned all is ms) (points_of k s)
 own-points all is ms k s here = (
   record { switch = s; here = here; has = (0, lit< tt, refl) },
@@ -105,8 +104,8 @@ own-points all is ms k s here = (
 )
 
 -- so do those of the switches from a place on
-own-points-from : (all : List Switch) (is ms : List (List ℕ)) (k : ℕ) (ss : List Switch)
-    → drop k all ≡ ss → AllByRecursion (IsOwned all is ms) (points_from k ss)
+own-points-from : (all : List Switch) (is : List (List ℕ)) (ms : List Meter) (k : ℕ)
+    (ss : List Switch) → drop k all ≡ ss → AllByRecursion (IsOwned all is ms) (points_from k ss)
 own-points-from all is ms k [] rest = tt
 own-points-from all is ms k (s ∷ ss) rest =
     each-append (IsOwned all is ms) (points_of k s) (points_from (k + 1) ss)
@@ -114,42 +113,42 @@ own-points-from all is ms k (s ∷ ss) rest =
     (own-points-from all is ms (k + 1) ss (rest-of-rest all k s ss rest))
 
 -- and those of the inputs and of the meters
-own-inputs : (ss : List Switch) (all ms : List (List ℕ)) (k : ℕ) (is : List (List ℕ))
-    → drop k all ≡ is → AllByRecursion (IsOwned ss all ms) (inputs_from k is)
+own-inputs : (ss : List Switch) (all : List (List ℕ)) (ms : List Meter) (k : ℕ)
+    (is : List (List ℕ)) → drop k all ≡ is → AllByRecursion (IsOwned ss all ms) (inputs_from k is)
 own-inputs ss all ms k [] rest = tt
 own-inputs ss all ms k (i ∷ is) rest = (
   record { name = i; here = first-of-rest all k i is rest; is = refl },
   own-inputs ss all ms (k + 1) is (rest-of-rest all k i is rest),
 )
 
-own-fields : (ss : List Switch) (is all : List (List ℕ)) (k : ℕ) (m : List ℕ)
-    → slice_get all k ≡ Some m → AllByRecursion (IsOwned ss is all) (meter_points k m)
+own-fields : (ss : List Switch) (is : List (List ℕ)) (all : List Meter) (k : ℕ) (m : Meter)
+    → slice_get all k ≡ Some m → AllByRecursion (IsOwned ss is all) (meter_points k m.id)
 own-fields ss is all k m here = (
-  record { id = m; here = here; has = (0, lit< tt, refl) },
+  record { meter = m; here = here; has = (0, lit< tt, refl) },
   (
-    record { id = m; here = here; has = (1, lit< tt, refl) },
+    record { meter = m; here = here; has = (1, lit< tt, refl) },
     (
-      record { id = m; here = here; has = (2, lit< tt, refl) },
+      record { meter = m; here = here; has = (2, lit< tt, refl) },
       (
-        record { id = m; here = here; has = (3, lit< tt, refl) },
+        record { meter = m; here = here; has = (3, lit< tt, refl) },
         (
-          record { id = m; here = here; has = (4, lit< tt, refl) },
-          (record { id = m; here = here; has = (5, lit< tt, refl) }, tt),
+          record { meter = m; here = here; has = (4, lit< tt, refl) },
+          (record { meter = m; here = here; has = (5, lit< tt, refl) }, tt),
         ),
       ),
     ),
   ),
 )
 
-own-meters : (ss : List Switch) (is all : List (List ℕ)) (k : ℕ) (ms : List (List ℕ))
+own-meters : (ss : List Switch) (is : List (List ℕ)) (all : List Meter) (k : ℕ) (ms : List Meter)
     → drop k all ≡ ms → AllByRecursion (IsOwned ss is all) (meters_from k ms)
 own-meters ss is all k [] rest = tt
 own-meters ss is all k (m ∷ ms) rest =
-    each-append (IsOwned ss is all) (meter_points k m) (meters_from (k + 1) ms)
+    each-append (IsOwned ss is all) (meter_points k m.id) (meters_from (k + 1) ms)
     (own-fields ss is all k m (first-of-rest all k m ms rest))
     (own-meters ss is all (k + 1) ms (rest-of-rest all k m ms rest))
 
-all-owned : (ss : List Switch) (is ms : List (List ℕ))
+all-owned : (ss : List Switch) (is : List (List ℕ)) (ms : List Meter)
     → All (IsOwned ss is ms) (bay_points ss is ms)
 all-owned ss is ms =
     All-append (IsOwned ss is ms) (points_from 0 ss) (inputs_from 0 is ++ meters_from 0 ms)
@@ -196,34 +195,20 @@ list-counts : (least most : ℕ) (keys : Members → List Key) (o : Option Items
 list-counts least most keys None h = cc
 list-counts least most keys (Some items) h = items-counts least most keys items h
 
-names-counts : (f : Members) (which : NameSection) → section_refusal f (name_section which) ≡ None
-    → length (names_in f which) ≤ max_names which
-names-counts f Input h =
-    let counts =
-    list-counts 0 64 (λ _. name_keys Input) (items_at (get_member (codes "input") f)) h in
-    let long : length (names_in f Input) ≡ length (section_tables f (name_section Input)) =
-    length-map (section_tables f (name_section Input)) (name_in Input) in
-    omega (arith, counts.most_is)
-names-counts f Meter h =
-    let counts =
-    list-counts 0 8 (λ _. name_keys Meter) (items_at (get_member (codes "meter") f)) h in
-    let long : length (names_in f Meter) ≡ length (section_tables f (name_section Meter)) =
-    length-map (section_tables f (name_section Meter)) (name_in Meter) in
-    omega (arith, counts.most_is)
-
 sound-bay : (f : Members) → file_refusal f ≡ None → IsBay (bay_in f)
 sound-bay f h =
     let ss = switches_in f in
-    let is = names_in f Input in
-    let ms = names_in f Meter in
+    let profile = profile_in f in
+    let is = inputs_in f in
+    let ms = meters_in f in
     let names = names_refusal (bay_points ss is ms) in
     let keys = remotes_refusal is ss in
     let bay = section_refusal f bay_section in
     let switches = section_refusal f switch_section in
-    let inputs = section_refusal f (name_section Input) in
-    let meters = section_refusal f (name_section Meter) in
+    let inputs = section_refusal f input_section in
+    let meters = section_refusal f (meter_section profile) in
     let one =
-    none-first (unknown_refusal (map (λ section. section.name) sections) f)
+    none-first (unknown_refusal (map (λ section. section.name) (sections profile)) f)
     (bay ∷ switches ∷ inputs ∷ meters ∷ names ∷ keys ∷ []) h in
     let two = none-first bay (switches ∷ inputs ∷ meters ∷ names ∷ keys ∷ []) one.1 in
     let three = none-first switches (inputs ∷ meters ∷ names ∷ keys ∷ []) two.1 in
@@ -236,8 +221,16 @@ sound-bay f h =
     length-map (section_tables f switch_section) switch_in in
     let some : 1 ≤ length ss = omega (arith, counts.least_is) in
     let few : length ss ≤ 32 = omega (arith, counts.most_is) in
-    let few_inputs : length is ≤ 64 = names-counts f Input four.0 in
-    let few_meters : length ms ≤ 8 = names-counts f Meter five.0 in
+    let input_counts =
+    list-counts 0 64 (λ _. input_keys) (items_at (get_member (codes "input") f)) four.0 in
+    let input_long : length is ≡ length (section_tables f input_section) =
+    length-map (section_tables f input_section) input_in in
+    let few_inputs : length is ≤ 64 = omega (arith, input_counts.most_is) in
+    let meter_counts =
+    list-counts 0 8 (λ _. meter_keys profile) (items_at (get_member (codes "meter") f)) five.0 in
+    let meter_long : length ms ≡ length (section_tables f (meter_section profile)) =
+    length-map (section_tables f (meter_section profile)) (meter_in profile) in
+    let few_meters : length ms ≤ 8 = omega (arith, meter_counts.most_is) in
     let twin =
     none-first (refused_if (has_twin (names_of (bay_points ss is ms))) DuplicateName) _
     six.0 in
@@ -254,7 +247,9 @@ sound-bay f h =
       names = pairs-differ (bay_points ss is ms) differ;
       owners = all-owned ss is ms;
       keyed = not-false (are_inputs is ss) (refused_if-None _ BadValue seven.0);
-      tree = rows-make-tree (nameplate_in (bay_table f)) ss ms (omega arith) (omega arith);
+      tree =
+          rows-make-tree (nameplate_in (bay_table f)) ss is ms (omega arith) (omega arith)
+          (omega arith);
     }
 
 -- a bay that is read is sound

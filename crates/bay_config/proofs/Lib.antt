@@ -1,8 +1,10 @@
 pub mod BayLemmas
+pub mod EntryLemmas
 pub mod KeyLemmas
 pub mod LawLemmas
 pub mod ListLemmas
-pub mod NameLemmas
+pub mod MeterLemmas
+pub mod ModelLemmas
 pub mod NamedLemmas
 pub mod NameplateLemmas
 pub mod PassedLemmas

@@ -1,5 +1,5 @@
 -- The node of each switch is among the nodes of its bay.
-use Rattle.std.proofs.Common.{◌≡◌, ℕ, zero, suc, ◌+◌, ◌<◌, Bool, true, false, List, [], ◌∷◌, ◌++◌, length, map, filter, take, get_or, ltb, pos, slice_get, Option, None, Some, codes, All, Contains, append_assoc, refl, sym, ap, subst, ◌∙◌, arith}
+use Rattle.std.proofs.Common.{is_some, ◌≡◌, ℕ, zero, suc, ◌+◌, ◌<◌, Bool, true, false, List, [], ◌∷◌, ◌++◌, length, map, filter, take, get_or, ltb, pos, slice_get, Option, None, Some, codes, All, Contains, append_assoc, refl, sym, ap, subst, ◌∙◌, arith}
 use Rattle.std.proofs.lemmas.Bool.{ltb-true}
 use Rattle.std.proofs.lemmas.List.{get_or-map, length-map}
 use Rattle.std.proofs.lemmas.List.Elements.{Contains-append_left, Contains-append_right, Contains-get_or}
@@ -12,12 +12,13 @@ use Rattle.bay_config.specs.declared.bay.Bay.{Bay}
 use Rattle.bay_base.specs.declared.switch.Control.{Control}
 use Rattle.bay_base.specs.declared.switch.Control.TheVariants.{Status, Direct, Sbo, SboEnhanced}
 use Rattle.bay_nodes.specs.declared.switch.Switch.{Switch}
+use Rattle.bay_nodes.specs.declared.meter.Meter.{Meter}
 use Rattle.bay_nodes.specs.declared.nameplate.Nameplate.{Nameplate}
-use Rattle.bay_base.specs.declared.switch.SwitchKind.{SwitchKind}
-use Rattle.bay_base.specs.declared.switch.SwitchKind.TheVariants.{Breaker, Disconnector, Earthing}
-use Rattle.bay_config.specs.Laws.{nameplate_of, IsBay, HasNode, HasPosition, HasCancel, HasControl, HasCommands, HasEnable, HasMeter, HasValue, NamesPosition, NamesControl, NamesInterlocking, NamesMeter}
+use Rattle.bay_nodes.specs.declared.profile.Profile.{Profile}
+use Rattle.bay_nodes.specs.declared.profile.Profile.TheVariants.{One, Two}
+use Rattle.bay_config.specs.Laws.{nameplate_of, IsBay, HasNode, HasPosition, HasCancel, HasControl, HasCommands, HasEnable, HasLocal, HasMeter, HasValue, NamesPosition, NamesControl, NamesInterlocking, NamesMeter}
 use Rattle.bay_nodes.specs.Names.{StatusNames, opening_names, closing_names, control_names_of, meter_names_of}
-use Rattle.bay_nodes.specs.Node.{Parts, Node, row, node_rows, node_name, class_of, is_breaker, is_in_group, node_number, device_node, physical_node, position_node, position_nodes, position_parts, control_node, control_nodes, control_parts, interlocking_node, interlocking_nodes, interlocking_parts, meter_node, meter_nodes, meter_parts, nodes_of}
+use Rattle.bay_nodes.specs.Node.{Parts, parts_of, Node, row, node_rows, node_name, class_of, is_breaker, is_in_group, node_number, device_node, physical_node, position_node, position_nodes, position_parts, command_parts, control_node, control_nodes, control_parts, control_settings, control_status, input_nodes, interlocking_node, interlocking_nodes, interlocking_parts, meter_node, meter_nodes, meter_parts, meter_settings, meter_values, nodes_of}
 
 Contains-cons : {X : Type 0} (y : X) (xs : List X) (x : X) → Contains xs x → Contains (y ∷ xs) x
 Contains-cons y xs x w = (suc w.0, omega (arith, w.1), w.2)
@@ -95,13 +96,13 @@ enumerate-has (t ∷ ts) (suc index) n lt =
       w.2,
     )
 
-among-class : (b : Bool) (ss : List Switch) (index : ℕ) (s : Switch) → slice_get ss index ≡ Some s
-    → is_breaker s.kind ≡ b → Contains (position_nodes b ss)
-    (position_node (length (filter (is_in_group b) (take index ss)) + 1, s))
-among-class b ss index s here e =
+among-class : (p : Nameplate) (b : Bool) (ss : List Switch) (index : ℕ) (s : Switch)
+    → slice_get ss index ≡ Some s → is_breaker s.kind ≡ b → Contains (position_nodes p b ss)
+    (position_node p (length (filter (is_in_group b) (take index ss)) + 1, s))
+among-class p b ss index s here e =
     let count = length (filter (is_in_group b) (take index ss)) in
     let more : 1 + count ≡ count + 1 = omega arith in
-    Contains-map position_node (enumerate_from 1 (filter (is_in_group b) ss)) (count + 1, s)
+    Contains-map (position_node p) (enumerate_from 1 (filter (is_in_group b) ss)) (count + 1, s)
     (subst (λ m. Contains (enumerate_from 1 (filter (is_in_group b) ss)) (m, s)) more
     (numbered-has b ss index s 1 here (is-own b s e)))
   where
@@ -110,132 +111,196 @@ among-class b ss index s here e =
     is-own false s e = rw e
 
 -- the groups of nodes are among the nodes of a bay
-abbrev behind_positions : List Switch → List (List ℕ) → List Node
-behind_positions ss ms = control_nodes ss ++ (interlocking_nodes ss ++ meter_nodes ms)
-
 abbrev general : Nameplate → List Node
 general n = device_node n ∷ physical_node n ∷ []
 
-breakers-within : (n : Nameplate) (ss : List Switch) (ms : List (List ℕ)) (node : Node)
-    → Contains (position_nodes true ss) node → Contains (nodes_of n ss ms) node
-breakers-within n ss ms node h =
-    Contains-append_right (general n)
-    (position_nodes true ss ++ (position_nodes false ss ++ behind_positions ss ms)) node
-    (Contains-append_left (position_nodes true ss)
-    (position_nodes false ss ++ behind_positions ss ms) node h)
+module _ (n : Nameplate) (ss : List Switch) (ins : List (List ℕ)) (ms : List Meter) where
+  abbrev inputs : List Node
+  inputs = input_nodes n.profile n ins
 
-behind-breakers : (n : Nameplate) (ss : List Switch) (ms : List (List ℕ)) (node : Node)
-    → Contains (position_nodes false ss ++ behind_positions ss ms) node
-    → Contains (nodes_of n ss ms) node
-behind-breakers n ss ms node h =
-    Contains-append_right (general n)
-    (position_nodes true ss ++ (position_nodes false ss ++ behind_positions ss ms)) node
-    (Contains-append_right (position_nodes true ss)
-    (position_nodes false ss ++ behind_positions ss ms) node h)
+  abbrev behind_positions : List Node
+  behind_positions = control_nodes n ss ++ (interlocking_nodes n ss ++ (meter_nodes n ms ++ inputs))
 
-others-within : (n : Nameplate) (ss : List Switch) (ms : List (List ℕ)) (node : Node)
-    → Contains (position_nodes false ss) node → Contains (nodes_of n ss ms) node
-others-within n ss ms node h =
-    behind-breakers n ss ms node
-    (Contains-append_left (position_nodes false ss) (behind_positions ss ms) node h)
+  breakers-within : (node : Node) → Contains (position_nodes n true ss) node
+      → Contains (nodes_of n ss ins ms) node
+  breakers-within node h =
+      Contains-append_right (general n)
+      (position_nodes n true ss ++ (position_nodes n false ss ++ behind_positions)) node
+      (Contains-append_left (position_nodes n true ss)
+      (position_nodes n false ss ++ behind_positions) node h)
 
-behind-within : (n : Nameplate) (ss : List Switch) (ms : List (List ℕ)) (node : Node)
-    → Contains (behind_positions ss ms) node → Contains (nodes_of n ss ms) node
-behind-within n ss ms node h =
-    behind-breakers n ss ms node
-    (Contains-append_right (position_nodes false ss) (behind_positions ss ms) node h)
+  behind-breakers : (node : Node)
+      → Contains (position_nodes n false ss ++ behind_positions) node
+      → Contains (nodes_of n ss ins ms) node
+  behind-breakers node h =
+      Contains-append_right (general n)
+      (position_nodes n true ss ++ (position_nodes n false ss ++ behind_positions)) node
+      (Contains-append_right (position_nodes n true ss)
+      (position_nodes n false ss ++ behind_positions) node h)
 
-controls-within : (n : Nameplate) (ss : List Switch) (ms : List (List ℕ)) (node : Node)
-    → Contains (control_nodes ss) node → Contains (nodes_of n ss ms) node
-controls-within n ss ms node h =
-    behind-within n ss ms node
-    (Contains-append_left (control_nodes ss) (interlocking_nodes ss ++ meter_nodes ms) node h)
+  others-within : (node : Node) → Contains (position_nodes n false ss) node
+      → Contains (nodes_of n ss ins ms) node
+  others-within node h =
+      behind-breakers node
+      (Contains-append_left (position_nodes n false ss) behind_positions node h)
 
-interlockings-within : (n : Nameplate) (ss : List Switch) (ms : List (List ℕ)) (node : Node)
-    → Contains (interlocking_nodes ss) node → Contains (nodes_of n ss ms) node
-interlockings-within n ss ms node h =
-    behind-within n ss ms node
-    (Contains-append_right (control_nodes ss) (interlocking_nodes ss ++ meter_nodes ms) node
-    (Contains-append_left (interlocking_nodes ss) (meter_nodes ms) node h))
+  behind-within : (node : Node) → Contains behind_positions node
+      → Contains (nodes_of n ss ins ms) node
+  behind-within node h =
+      behind-breakers node
+      (Contains-append_right (position_nodes n false ss) behind_positions node h)
 
-meters-within : (n : Nameplate) (ss : List Switch) (ms : List (List ℕ)) (node : Node)
-    → Contains (meter_nodes ms) node → Contains (nodes_of n ss ms) node
-meters-within n ss ms node h =
-    behind-within n ss ms node
-    (Contains-append_right (control_nodes ss) (interlocking_nodes ss ++ meter_nodes ms) node
-    (Contains-append_right (interlocking_nodes ss) (meter_nodes ms) node h))
+  controls-within : (node : Node) → Contains (control_nodes n ss) node
+      → Contains (nodes_of n ss ins ms) node
+  controls-within node h =
+      behind-within node
+      (Contains-append_left (control_nodes n ss)
+      (interlocking_nodes n ss ++ (meter_nodes n ms ++ inputs)) node h)
 
-position-among : (b : Bool) (n : Nameplate) (ss : List Switch) (ms : List (List ℕ)) (index : ℕ)
-    (s : Switch) → slice_get ss index ≡ Some s → is_breaker s.kind ≡ b
-    → Contains (nodes_of n ss ms)
-    (position_node (length (filter (is_in_group b) (take index ss)) + 1, s))
-position-among true n ss ms index s here e =
-    breakers-within n ss ms _ (among-class true ss index s here e)
-position-among false n ss ms index s here e =
-    others-within n ss ms _ (among-class false ss index s here e)
+  behind-controls : (node : Node)
+      → Contains (interlocking_nodes n ss ++ (meter_nodes n ms ++ inputs)) node
+      → Contains (nodes_of n ss ins ms) node
+  behind-controls node h =
+      behind-within node
+      (Contains-append_right (control_nodes n ss)
+      (interlocking_nodes n ss ++ (meter_nodes n ms ++ inputs)) node h)
+
+  interlockings-within : (node : Node) → Contains (interlocking_nodes n ss) node
+      → Contains (nodes_of n ss ins ms) node
+  interlockings-within node h =
+      behind-controls node
+      (Contains-append_left (interlocking_nodes n ss) (meter_nodes n ms ++ inputs) node h)
+
+  behind-interlockings : (node : Node) → Contains (meter_nodes n ms ++ inputs) node
+      → Contains (nodes_of n ss ins ms) node
+  behind-interlockings node h =
+      behind-controls node
+      (Contains-append_right (interlocking_nodes n ss) (meter_nodes n ms ++ inputs) node h)
+
+  pub inputs-within : (node : Node) → Contains inputs node → Contains (nodes_of n ss ins ms) node
+  inputs-within node h =
+      behind-interlockings node (Contains-append_right (meter_nodes n ms) inputs node h)
+
+  meters-within : (node : Node) → Contains (meter_nodes n ms) node
+      → Contains (nodes_of n ss ins ms) node
+  meters-within node h =
+      behind-interlockings node (Contains-append_left (meter_nodes n ms) inputs node h)
+
+  position-among : (b : Bool) (index : ℕ) (s : Switch) → slice_get ss index ≡ Some s
+      → is_breaker s.kind ≡ b → Contains (nodes_of n ss ins ms)
+      (position_node n (length (filter (is_in_group b) (take index ss)) + 1, s))
+  position-among true index s here e = breakers-within _ (among-class n true ss index s here e)
+  position-among false index s here e = others-within _ (among-class n false ss index s here e)
 
 -- a row of a node, by its place among them
-row-at : (bay : Bay) (node : Node) → HasNode bay node → (k : ℕ)
+pub row-at : (bay : Bay) (node : Node) → HasNode bay node → (k : ℕ)
     → ltb k (length (node_rows node)) ≡ true
     → Contains bay.rows (get_or (node_rows node) k (row [] None))
 row-at bay node h k within = h k (row [] None) (ltb-true k (length (node_rows node)) within)
 
-has-value : {rows : List Row} {names : StatusNames} {value : Leaf} {quality : Validity}
+pub has-value : {rows : List Row} {names : StatusNames} {value : Leaf} {quality : Validity}
     → Contains rows (row names.value (Some value))
     → Contains rows (row names.quality (Some (Quality quality)))
     → Contains rows (row names.time (Some (Utc 0))) → HasValue rows names value quality
 has-value v q t = record { value_there = v; quality_there = q; moment_there = t }
 
-has-position : (bay : Bay) (name : List ℕ) (kind : SwitchKind)
-    → HasNode bay (record { name = name; parts = position_parts kind }) → HasPosition bay.rows name
-has-position bay name Breaker h =
-    let at = row-at bay (record { name = name; parts = position_parts Breaker }) h in
+has-position : (bay : Bay) (name : List ℕ) (profile : Profile) (breaker : Bool) (n : Nameplate)
+    (s : Switch)
+    → HasNode bay (record { name = name; parts = position_parts profile breaker n s })
+    → HasPosition bay.rows name
+has-position bay name One true n s h =
+    let at = row-at bay (record { name = name; parts = position_parts One true n s }) h in
     record {
       position = has-value (at 3 refl) (at 4 refl) (at 5 refl);
       operations = has-value (at 15 refl) (at 16 refl) (at 17 refl);
     }
-has-position bay name Disconnector h =
-    let at = row-at bay (record { name = name; parts = position_parts Disconnector }) h in
+has-position bay name One false n s h =
+    let at = row-at bay (record { name = name; parts = position_parts One false n s }) h in
     record {
       position = has-value (at 3 refl) (at 4 refl) (at 5 refl);
       operations = has-value (at 15 refl) (at 16 refl) (at 17 refl);
     }
-has-position bay name Earthing h =
-    let at = row-at bay (record { name = name; parts = position_parts Earthing }) h in
+has-position bay name Two true n s h =
+    let at = row-at bay (record { name = name; parts = position_parts Two true n s }) h in
     record {
-      position = has-value (at 3 refl) (at 4 refl) (at 5 refl);
-      operations = has-value (at 15 refl) (at 16 refl) (at 17 refl);
+      position = has-value (at 19 refl) (at 20 refl) (at 21 refl);
+      operations = has-value (at 11 refl) (at 12 refl) (at 13 refl);
+    }
+has-position bay name Two false n s h =
+    let at = row-at bay (record { name = name; parts = position_parts Two false n s }) h in
+    record {
+      position = has-value (at 23 refl) (at 24 refl) (at 25 refl);
+      operations = has-value (at 11 refl) (at 12 refl) (at 13 refl);
     }
 
-has-open : (bay : Bay) (name : List ℕ)
-    → HasNode bay (record { name = name; parts = interlocking_parts })
-    → HasEnable bay.rows (opening_names name)
-has-open bay name h =
-    let at = row-at bay (record { name = name; parts = interlocking_parts }) h in
-    has-value (at 3 refl) (at 4 refl) (at 5 refl)
-
-has-close : (bay : Bay) (name : List ℕ)
-    → HasNode bay (record { name = name; parts = interlocking_parts })
-    → HasEnable bay.rows (closing_names name)
-has-close bay name h =
-    let at = row-at bay (record { name = name; parts = interlocking_parts }) h in
+has-local : (bay : Bay) (name : List ℕ) (profile : Profile) (breaker : Bool) (n : Nameplate)
+    (s : Switch)
+    → HasNode bay (record { name = name; parts = position_parts profile breaker n s })
+    → HasLocal profile bay.rows name s
+has-local bay name One breaker n s h = tt
+has-local bay name Two true n s h =
+    let at = row-at bay (record { name = name; parts = position_parts Two true n s }) h in
+    has-value (at 7 refl) (at 8 refl) (at 9 refl)
+has-local bay name Two false n s h =
+    let at = row-at bay (record { name = name; parts = position_parts Two false n s }) h in
     has-value (at 7 refl) (at 8 refl) (at 9 refl)
 
-has-control : (bay : Bay) (name : List ℕ) (control : Control) (timeout : ℕ)
-    → HasNode bay (record { name = name; parts = control_parts control timeout })
+has-open : (bay : Bay) (name : List ℕ) (profile : Profile) (n : Nameplate) (s : Switch)
+    → HasNode bay (record { name = name; parts = interlocking_parts profile n s })
+    → HasEnable bay.rows (opening_names name)
+has-open bay name One n s h =
+    let at = row-at bay (record { name = name; parts = interlocking_parts One n s }) h in
+    has-value (at 3 refl) (at 4 refl) (at 5 refl)
+has-open bay name Two n s h =
+    let at = row-at bay (record { name = name; parts = interlocking_parts Two n s }) h in
+    has-value (at 7 refl) (at 8 refl) (at 9 refl)
+
+has-close : (bay : Bay) (name : List ℕ) (profile : Profile) (n : Nameplate) (s : Switch)
+    → HasNode bay (record { name = name; parts = interlocking_parts profile n s })
+    → HasEnable bay.rows (closing_names name)
+has-close bay name One n s h =
+    let at = row-at bay (record { name = name; parts = interlocking_parts One n s }) h in
+    has-value (at 7 refl) (at 8 refl) (at 9 refl)
+has-close bay name Two n s h =
+    let at = row-at bay (record { name = name; parts = interlocking_parts Two n s }) h in
+    has-value (at 11 refl) (at 12 refl) (at 13 refl)
+
+-- the node of a control of this kind
+abbrev control_node_of : List ℕ → Profile → Control → Nameplate → Switch → Node
+control_node_of name profile control n s = record {
+  name = name;
+  parts =
+      parts_of
+      (control_status profile ∷ command_parts control ++ control_settings profile n s);
+}
+
+has-control : (bay : Bay) (name : List ℕ) (profile : Profile) (control : Control) (n : Nameplate)
+    (s : Switch) → HasNode bay (control_node_of name profile control n s)
     → HasControl bay.rows name
-has-control bay name Status timeout h =
-    let at = row-at bay (record { name = name; parts = control_parts Status timeout }) h in
+has-control bay name One Status n s h =
+    let at = row-at bay (control_node_of name One Status n s) h in
     record { position = has-value (at 3 refl) (at 4 refl) (at 5 refl); selected = at 6 refl }
-has-control bay name Direct timeout h =
-    let at = row-at bay (record { name = name; parts = control_parts Direct timeout }) h in
+has-control bay name One Direct n s h =
+    let at = row-at bay (control_node_of name One Direct n s) h in
     record { position = has-value (at 3 refl) (at 4 refl) (at 5 refl); selected = at 6 refl }
-has-control bay name Sbo timeout h =
-    let at = row-at bay (record { name = name; parts = control_parts Sbo timeout }) h in
+has-control bay name One Sbo n s h =
+    let at = row-at bay (control_node_of name One Sbo n s) h in
     record { position = has-value (at 3 refl) (at 4 refl) (at 5 refl); selected = at 6 refl }
-has-control bay name SboEnhanced timeout h =
-    let at = row-at bay (record { name = name; parts = control_parts SboEnhanced timeout }) h in
+has-control bay name One SboEnhanced n s h =
+    let at = row-at bay (control_node_of name One SboEnhanced n s) h in
     record { position = has-value (at 3 refl) (at 4 refl) (at 5 refl); selected = at 6 refl }
+has-control bay name Two Status n s h =
+    let at = row-at bay (control_node_of name Two Status n s) h in
+    record { position = has-value (at 7 refl) (at 8 refl) (at 9 refl); selected = at 10 refl }
+has-control bay name Two Direct n s h =
+    let at = row-at bay (control_node_of name Two Direct n s) h in
+    record { position = has-value (at 7 refl) (at 8 refl) (at 9 refl); selected = at 10 refl }
+has-control bay name Two Sbo n s h =
+    let at = row-at bay (control_node_of name Two Sbo n s) h in
+    record { position = has-value (at 7 refl) (at 8 refl) (at 9 refl); selected = at 10 refl }
+has-control bay name Two SboEnhanced n s h =
+    let at = row-at bay (control_node_of name Two SboEnhanced n s) h in
+    record { position = has-value (at 7 refl) (at 8 refl) (at 9 refl); selected = at 10 refl }
 
 -- the names of a node's rows are its name and their paths
 inside-name : (rows : List Row) (name path word : List ℕ) (leaf : Option Leaf)
@@ -264,20 +329,20 @@ has-cancel {rows} name path structure value origin category identity number mome
   test = inside-name rows name path (codes "$Test") _ test;
 }
 
-has-commands : (bay : Bay) (name : List ℕ) (control : Control) (timeout : ℕ)
-    → HasNode bay (record { name = name; parts = control_parts control timeout })
+has-commands : (bay : Bay) (name : List ℕ) (profile : Profile) (control : Control) (n : Nameplate)
+    (s : Switch) → HasNode bay (control_node_of name profile control n s)
     → HasCommands bay.rows (control_names_of name) control
-has-commands bay name Status timeout h = tt
-has-commands bay name Direct timeout h =
-    let at = row-at bay (record { name = name; parts = control_parts Direct timeout }) h in
+has-commands bay name One Status n s h = tt
+has-commands bay name One Direct n s h =
+    let at = row-at bay (control_node_of name One Direct n s) h in
     record {
       parts =
           has-cancel name (codes "$CO$Pos$Oper") (at 9 refl) (at 10 refl) (at 11 refl) (at 12 refl)
           (at 13 refl) (at 14 refl) (at 15 refl) (at 16 refl);
       checks = inside-name bay.rows name (codes "$CO$Pos$Oper") (codes "$Check") _ (at 17 refl);
     }
-has-commands bay name Sbo timeout h =
-    let at = row-at bay (record { name = name; parts = control_parts Sbo timeout }) h in
+has-commands bay name One Sbo n s h =
+    let at = row-at bay (control_node_of name One Sbo n s) h in
     record {
       select = at 9 refl;
       operate = record {
@@ -292,8 +357,8 @@ has-commands bay name Sbo timeout h =
           (at 22 refl)
           (at 23 refl) (at 24 refl) (at 25 refl) (at 26 refl);
     }
-has-commands bay name SboEnhanced timeout h =
-    let at = row-at bay (record { name = name; parts = control_parts SboEnhanced timeout }) h in
+has-commands bay name One SboEnhanced n s h =
+    let at = row-at bay (control_node_of name One SboEnhanced n s) h in
     record {
       select = record {
         parts =
@@ -314,11 +379,66 @@ has-commands bay name SboEnhanced timeout h =
           (at 30 refl)
           (at 31 refl) (at 32 refl) (at 33 refl) (at 34 refl);
     }
+has-commands bay name Two Status n s h = tt
+has-commands bay name Two Direct n s h =
+    let at = row-at bay (control_node_of name Two Direct n s) h in
+    record {
+      parts =
+          has-cancel name (codes "$CO$Pos$Oper") (at 13 refl) (at 14 refl) (at 15 refl) (at 16 refl)
+          (at 17 refl) (at 18 refl) (at 19 refl) (at 20 refl);
+      checks = inside-name bay.rows name (codes "$CO$Pos$Oper") (codes "$Check") _ (at 21 refl);
+    }
+has-commands bay name Two Sbo n s h =
+    let at = row-at bay (control_node_of name Two Sbo n s) h in
+    record {
+      select = at 13 refl;
+      operate = record {
+        parts =
+            has-cancel name (codes "$CO$Pos$Oper") (at 14 refl) (at 15 refl) (at 16 refl)
+            (at 17 refl)
+            (at 18 refl) (at 19 refl) (at 20 refl) (at 21 refl);
+        checks = inside-name bay.rows name (codes "$CO$Pos$Oper") (codes "$Check") _ (at 22 refl);
+      };
+      cancel =
+          has-cancel name (codes "$CO$Pos$Cancel") (at 23 refl) (at 24 refl) (at 25 refl)
+          (at 26 refl)
+          (at 27 refl) (at 28 refl) (at 29 refl) (at 30 refl);
+    }
+has-commands bay name Two SboEnhanced n s h =
+    let at = row-at bay (control_node_of name Two SboEnhanced n s) h in
+    record {
+      select = record {
+        parts =
+            has-cancel name (codes "$CO$Pos$SBOw") (at 13 refl) (at 14 refl) (at 15 refl)
+            (at 16 refl)
+            (at 17 refl) (at 18 refl) (at 19 refl) (at 20 refl);
+        checks = inside-name bay.rows name (codes "$CO$Pos$SBOw") (codes "$Check") _ (at 21 refl);
+      };
+      operate = record {
+        parts =
+            has-cancel name (codes "$CO$Pos$Oper") (at 22 refl) (at 23 refl) (at 24 refl)
+            (at 25 refl)
+            (at 26 refl) (at 27 refl) (at 28 refl) (at 29 refl);
+        checks = inside-name bay.rows name (codes "$CO$Pos$Oper") (codes "$Check") _ (at 30 refl);
+      };
+      cancel =
+          has-cancel name (codes "$CO$Pos$Cancel") (at 31 refl) (at 32 refl) (at 33 refl)
+          (at 34 refl)
+          (at 35 refl) (at 36 refl) (at 37 refl) (at 38 refl);
+    }
 
-has-meter : (bay : Bay) (name : List ℕ) → HasNode bay (record { name = name; parts = meter_parts })
+-- the node of a meter; `scaled` says whether it has a scale
+abbrev meter_node_of : List ℕ → Profile → Bool → Nameplate → Meter → Node
+meter_node_of name profile scaled n m = record {
+  name = name;
+  parts = parts_of (meter_values profile ++ meter_settings profile scaled n m);
+}
+
+has-meter : (bay : Bay) (name : List ℕ) (profile : Profile) (scaled : Bool) (n : Nameplate)
+    (m : Meter) → HasNode bay (meter_node_of name profile scaled n m)
     → HasMeter bay.rows (meter_names_of name)
-has-meter bay name h =
-    let at = row-at bay (record { name = name; parts = meter_parts }) h in
+has-meter bay name One scaled n m h =
+    let at = row-at bay (meter_node_of name One scaled n m) h in
     record {
       tot_w = has-value (at 4 refl) (at 5 refl) (at 6 refl);
       tot_var = has-value (at 9 refl) (at 10 refl) (at 11 refl);
@@ -327,27 +447,55 @@ has-meter bay name h =
       phase_b = has-value (at 27 refl) (at 28 refl) (at 29 refl);
       phase_c = has-value (at 33 refl) (at 34 refl) (at 35 refl);
     }
+has-meter bay name Two true n m h =
+    let at = row-at bay (meter_node_of name Two true n m) h in
+    record {
+      tot_w = has-value (at 9 refl) (at 10 refl) (at 11 refl);
+      tot_var = has-value (at 14 refl) (at 15 refl) (at 16 refl);
+      hz = has-value (at 19 refl) (at 20 refl) (at 21 refl);
+      phase_a = has-value (at 26 refl) (at 27 refl) (at 28 refl);
+      phase_b = has-value (at 32 refl) (at 33 refl) (at 34 refl);
+      phase_c = has-value (at 38 refl) (at 39 refl) (at 40 refl);
+    }
+has-meter bay name Two false n m h =
+    let at = row-at bay (meter_node_of name Two false n m) h in
+    record {
+      tot_w = has-value (at 9 refl) (at 10 refl) (at 11 refl);
+      tot_var = has-value (at 14 refl) (at 15 refl) (at 16 refl);
+      hz = has-value (at 19 refl) (at 20 refl) (at 21 refl);
+      phase_a = has-value (at 26 refl) (at 27 refl) (at 28 refl);
+      phase_b = has-value (at 32 refl) (at 33 refl) (at 34 refl);
+      phase_c = has-value (at 38 refl) (at 39 refl) (at 40 refl);
+    }
+
+-- the nodes of a bay
+abbrev all_nodes : Bay → List Node
+all_nodes bay = nodes_of (nameplate_of bay) bay.switches bay.inputs bay.meters
 
 -- a node of a bay has its rows there
-node-there : (bay : Bay) (node : Node) → IsBay bay
-    → Contains (nodes_of (nameplate_of bay) bay.switches bay.meters) node → HasNode bay node
+pub node-there : (bay : Bay) (node : Node) → IsBay bay → Contains (all_nodes bay) node
+    → HasNode bay node
 node-there bay node is_bay at =
     subst (λ rows. All (Contains rows) (node_rows node)) (sym is_bay.rows)
-    (has-node (nodes_of (nameplate_of bay) bay.switches bay.meters) node at)
+    (has-node (all_nodes bay) node at)
 
 position-node : (bay : Bay) (index : ℕ) (s : Switch) (name : List ℕ)
     → slice_get bay.switches index ≡ Some s
     → name ≡ node_name (class_of s.kind) (node_number bay.switches s index) → IsBay bay
-    → HasNode bay (record { name = name; parts = position_parts s.kind })
+    → HasNode bay (record {
+      name = name;
+      parts = position_parts bay.profile (is_breaker s.kind) (nameplate_of bay) s;
+    })
 position-node bay index s name here named is_bay =
     let ss = bay.switches in
-    let all = nodes_of (nameplate_of bay) ss bay.meters in
-    let node : Node = record { name = name; parts = position_parts s.kind } in
-    let own : position_node (node_number ss s index, s) ≡ node =
-    ap (λ n. record { name = n; parts = position_parts s.kind }) (sym named) in
+    let n = nameplate_of bay in
+    let parts = position_parts bay.profile (is_breaker s.kind) n s in
+    let node : Node = record { name = name; parts = parts } in
+    let own : position_node n (node_number ss s index, s) ≡ node =
+    ap (λ m. record { name = m; parts = parts }) (sym named) in
     node-there bay node is_bay
-    (subst (Contains all) own
-    (position-among (is_breaker s.kind) (nameplate_of bay) ss bay.meters index s here refl))
+    (subst (Contains (all_nodes bay)) own
+    (position-among n ss bay.inputs bay.meters (is_breaker s.kind) index s here refl))
 
 -- a node that is numbered by its place
 numbered-among : {T : Type 0} (make : ℕ × T → Node) (class : List ℕ) (parts : T → Parts)
@@ -379,52 +527,67 @@ names-position bay index s name here named =
       here = here;
       named = named;
       node = node;
-      rows = λ is_bay. has-position bay name s.kind (node is_bay);
+      rows = λ is_bay. has-position bay name bay.profile (is_breaker s.kind) (nameplate_of bay) s
+          (node is_bay);
+      local = λ is_bay. has-local bay name bay.profile (is_breaker s.kind) (nameplate_of bay) s
+          (node is_bay);
     }
 
 pub names-control : (bay : Bay) (index : ℕ) (name : List ℕ) → index < length bay.switches
     → name ≡ node_name (codes "CSWI") (index + 1) → NamesControl bay index name
 names-control bay index name lt named =
-    let w = numbered-among control_node (codes "CSWI")
-    (λ s. control_parts s.control s.sbo_timeout_ms) (λ n t. refl) bay.switches index name lt
-    named in
-    let node : IsBay bay → HasNode bay
-    (record { name = name; parts = control_parts w.0.control w.0.sbo_timeout_ms }) =
+    let n = nameplate_of bay in
+    let w = numbered-among (control_node n) (codes "CSWI") (control_parts bay.profile n)
+    (λ k t. refl) bay.switches index name lt named in
+    let node : IsBay bay
+    → HasNode bay (record { name = name; parts = control_parts bay.profile n w.0 }) =
     λ is_bay. node-there bay _ is_bay
-    (controls-within (nameplate_of bay) bay.switches bay.meters _ w.1) in
+    (controls-within n bay.switches bay.inputs bay.meters _ w.1) in
     record {
       switch = w.0;
       here = w.2;
       named = named;
       node = node;
-      rows = λ is_bay. has-control bay name w.0.control w.0.sbo_timeout_ms (node is_bay);
-      commands = λ is_bay. has-commands bay name w.0.control w.0.sbo_timeout_ms (node is_bay);
+      rows = λ is_bay. has-control bay name bay.profile w.0.control n w.0 (node is_bay);
+      commands = λ is_bay. has-commands bay name bay.profile w.0.control n w.0 (node is_bay);
     }
 
 pub names-interlocking : (bay : Bay) (index : ℕ) (name : List ℕ) → index < length bay.switches
     → name ≡ node_name (codes "CILO") (index + 1) → NamesInterlocking bay index name
 names-interlocking bay index name lt named =
-    let w = numbered-among interlocking_node (codes "CILO") (λ s. interlocking_parts) (λ n t. refl)
-    bay.switches index name lt named in
-    let node : IsBay bay → HasNode bay (record { name = name; parts = interlocking_parts }) =
+    let n = nameplate_of bay in
+    let w = numbered-among (interlocking_node n) (codes "CILO") (interlocking_parts bay.profile n)
+    (λ k t. refl) bay.switches index name lt named in
+    let node : IsBay bay
+    → HasNode bay (record { name = name; parts = interlocking_parts bay.profile n w.0 }) =
     λ is_bay. node-there bay _ is_bay
-    (interlockings-within (nameplate_of bay) bay.switches bay.meters _ w.1) in
+    (interlockings-within n bay.switches bay.inputs bay.meters _ w.1) in
     record {
+      switch = w.0;
+      here = w.2;
       named = named;
       node = node;
-      open_rows = λ is_bay. has-open bay name (node is_bay);
-      close_rows = λ is_bay. has-close bay name (node is_bay);
+      open_rows = λ is_bay. has-open bay name bay.profile n w.0 (node is_bay);
+      close_rows = λ is_bay. has-close bay name bay.profile n w.0 (node is_bay);
     }
 
 pub names-meter : (bay : Bay) (index : ℕ) (name : List ℕ) → index < length bay.meters
     → name ≡ node_name (codes "MMXU") (index + 1) → NamesMeter bay index name
 names-meter bay index name lt named =
-    let w = numbered-among meter_node (codes "MMXU") (λ s. meter_parts) (λ n t. refl) bay.meters
-    index name lt named in
-    let node : IsBay bay → HasNode bay (record { name = name; parts = meter_parts }) =
+    let n = nameplate_of bay in
+    let w = numbered-among (meter_node n) (codes "MMXU") (meter_parts bay.profile n) (λ k t. refl)
+    bay.meters index name lt named in
+    let node : IsBay bay
+    → HasNode bay (record { name = name; parts = meter_parts bay.profile n w.0 }) =
     λ is_bay. node-there bay _ is_bay
-    (meters-within (nameplate_of bay) bay.switches bay.meters _ w.1) in
-    record { named = named; node = node; rows = λ is_bay. has-meter bay name (node is_bay) }
+    (meters-within n bay.switches bay.inputs bay.meters _ w.1) in
+    record {
+      meter = w.0;
+      here = w.2;
+      named = named;
+      node = node;
+      rows = λ is_bay. has-meter bay name bay.profile (is_some w.0.scale) n w.0 (node is_bay);
+    }
 
 pub get-at : (ss : List Switch) (index : ℕ) (s : Switch) → index < length ss → s ≡ get_or ss index s
     → slice_get ss index ≡ Some s

@@ -3,7 +3,7 @@ use Rattle.std.proofs.Common.{◌≡◌, [], ◌∷◌, map, codes, Result, Ok, 
 use Rattle.toml.specs.Data.{Members}
 use Rattle.bay_config.specs.declared.fault.BayFault.{BayFault}
 use Rattle.bay_nodes.specs.declared.nameplate.Nameplate.{Nameplate}
-use Rattle.bay_config.specs.Bay.{bay_keys, nameplate_in}
+use Rattle.bay_config.specs.Bay.{bay_keys, nameplate_in, profile_key, profile_numbered}
 use Rattle.bay_base.specs.Exact.{unless_refused}
 use Rattle.bay_config.specs.Key.{Key, identifier, description, number, unknown_refusal, key_refusal, entry_refusal, text_in, number_in}
 use Rattle.bay_config.proofs.KeyLemmas.{then, judged-step}
@@ -33,14 +33,17 @@ nameplate_by_keys t =
     (λ model. then (unless_refused (key_refusal t revision_key) (text_in t (codes "revision")))
     (λ revision. then (unless_refused (key_refusal t age_key)
     (number_in t (codes "scan_max_age_ms")))
-    (λ age. Ok
+    (λ age. then (unless_refused (key_refusal t profile_key)
+    (profile_numbered (number_in t (codes "profile"))))
+    (λ profile. Ok
     (record {
       domain = domain;
       vendor = vendor;
       model = model;
       revision = revision;
       scan_max_age_ms = age;
-    })))))))
+      profile = profile;
+    }))))))))
 
 pub by_keys : (t : Members)
     → unless_refused (entry_refusal bay_keys t) (nameplate_in t) ≡ nameplate_by_keys t
@@ -50,11 +53,14 @@ by_keys t =
     let model = key_refusal t model_key in
     let revision = key_refusal t revision_key in
     let age = key_refusal t age_key in
+    let profile = key_refusal t profile_key in
     let bay = nameplate_in t in
     judged-step (unknown_refusal (map (λ key. key.name) bay_keys) t)
-    (domain ∷ vendor ∷ model ∷ revision ∷ age ∷ []) (tt {0}) bay _
-    (judged-step domain (vendor ∷ model ∷ revision ∷ age ∷ []) (text_in t (codes "domain")) bay _
-    (judged-step vendor (model ∷ revision ∷ age ∷ []) (text_in t (codes "vendor")) bay _
-    (judged-step model (revision ∷ age ∷ []) (text_in t (codes "model")) bay _
-    (judged-step revision (age ∷ []) (text_in t (codes "revision")) bay _
-    (judged-step age [] (number_in t (codes "scan_max_age_ms")) bay _ refl)))))
+    (domain ∷ vendor ∷ model ∷ revision ∷ age ∷ profile ∷ []) (tt {0}) bay _
+    (judged-step domain (vendor ∷ model ∷ revision ∷ age ∷ profile ∷ [])
+    (text_in t (codes "domain")) bay _
+    (judged-step vendor (model ∷ revision ∷ age ∷ profile ∷ []) (text_in t (codes "vendor")) bay _
+    (judged-step model (revision ∷ age ∷ profile ∷ []) (text_in t (codes "model")) bay _
+    (judged-step revision (age ∷ profile ∷ []) (text_in t (codes "revision")) bay _
+    (judged-step age (profile ∷ []) (number_in t (codes "scan_max_age_ms")) bay _
+    (judged-step profile [] (profile_numbered (number_in t (codes "profile"))) bay _ refl))))))

@@ -2,7 +2,7 @@
 use Rattle.std.proofs.Common.{◌≡◌, ℕ, Bool, true, false, cond, List, [], ◌∷◌, ◌++◌, map, codes, unwrap_or, Option, Some, None, Ok, refl, subst, sym}
 use Rattle.toml.specs.Data.{Items, no_items, Members, get_member}
 use Rattle.bay_nodes.specs.declared.switch.Switch.{Switch}
-use Rattle.bay_config.specs.Bay.{bay_in, bay_of, bay_of_document, document_of, bay_section, file_refusal, name_section, names_in, sections, switch_section, switches_in}
+use Rattle.bay_config.specs.Bay.{bay_in, bay_of, bay_of_document, document_of, bay_section, file_refusal, input_section, inputs_in, meter_section, meters_in, profile_in, sections, switch_section, switches_in}
 use Rattle.bay_config.specs.Key.{entry_refusal, first_fault, unknown_refusal}
 use Rattle.bay_config.specs.Point.{names_refusal, bay_points}
 use Rattle.bay_config.specs.Remote.{remotes_refusal}
@@ -11,7 +11,6 @@ use Rattle.bay_config.specs.Switch.{switch_in, switch_keys}
 use Rattle.bay_config.specs.declared.bay.Bay.{Bay}
 use Rattle.bay_config.specs.declared.fault.BayFault.{BayFault}
 use Rattle.bay_config.specs.declared.fault.BayFault.TheVariants.{BadValue}
-use Rattle.bay_config.specs.declared.names.NameSection.TheVariants.{Input, Meter}
 use Rattle.bay_config.proofs.KeyLemmas.{judged-Ok}
 
 -- no check of some refuses
@@ -58,15 +57,15 @@ module _
     file-passes : (file : Members) → file_refusal file ≡ None → Q (switches_in file)
     file-passes file none =
         let names =
-        names_refusal (bay_points (switches_in file) (names_in file Input) (names_in file Meter))
-        in
-        let keys = remotes_refusal (names_in file Input) (switches_in file) in
+        names_refusal (bay_points (switches_in file) (inputs_in file) (meters_in file)) in
+        let keys = remotes_refusal (inputs_in file) (switches_in file) in
         let bay = section_refusal file bay_section in
         let switches = section_refusal file switch_section in
-        let inputs = section_refusal file (name_section Input) in
-        let meters = section_refusal file (name_section Meter) in
+        let inputs = section_refusal file input_section in
+        let meters = section_refusal file (meter_section (profile_in file)) in
         let one =
-        none-first (unknown_refusal (map (λ section. section.name) sections) file)
+        none-first (unknown_refusal (map (λ section. section.name) (sections (profile_in file)))
+        file)
         (bay ∷ switches ∷ inputs ∷ meters ∷ names ∷ keys ∷ []) none in
         let two = none-first bay (switches ∷ inputs ∷ meters ∷ names ∷ keys ∷ []) one.1 in
         let three = none-first switches (inputs ∷ meters ∷ names ∷ keys ∷ []) two.1 in

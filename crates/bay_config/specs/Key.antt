@@ -1,6 +1,6 @@
 -- The keys of a section of a bay file: which values each may have, and the first refusal of a table
 -- with such keys.
-use Rattle.std.specs.Prelude.{ℕ, ℤ, pos, negsuc, Bool, false, not, ◌&&◌, ◌||◌, nat_le, List, [], ◌∷◌, length, map, Option, None, Some, option_map, option_and_then, unwrap_or, if◌then◌else◌}
+use Rattle.std.specs.Prelude.{ℕ, ℤ, pos, negsuc, Bool, false, not, ◌&&◌, ◌||◌, nat_le, nat_lt, List, [], ◌∷◌, length, map, Option, None, Some, option_map, option_and_then, unwrap_or, if◌then◌else◌}
 use Rattle.std.specs.Char.{is_ascii_alphabetic, is_ascii_alphanumeric}
 use Rattle.std.specs.Int.{is_in_range}
 use Rattle.std.specs.List.{list_all, list_any}
@@ -17,6 +17,8 @@ pub data Form : Type 0 where
   description : Form
   -- an integer from the first number to the second
   number : ℕ → ℕ → Form
+  -- an integer of at most this magnitude
+  power : ℕ → Form
   -- one of these words
   word : List (List ℕ) → Form
   -- a value of this form, or no value
@@ -54,6 +56,11 @@ abbrev pub is_within : ℕ → ℕ → ℤ → Bool
 is_within least most (pos n) = nat_le least n && nat_le n most
 is_within least most (negsuc n) = false
 
+-- an integer from `-most` to `most`
+abbrev pub is_power : ℕ → ℤ → Bool
+is_power most (pos n) = nat_le n most
+is_power most (negsuc n) = nat_lt n most
+
 -- there is a value, and it passes the test
 abbrev pub passes : {T : Type 0} → (T → Bool) → Option T → Bool
 passes test None = false
@@ -64,6 +71,7 @@ abbrev pub accepts : Form → Data → Bool
 accepts (identifier most) d = passes (is_identifier most) (as_str d)
 accepts description d = passes is_description (as_str d)
 accepts (number least most) d = passes (is_within least most) (as_integer d)
+accepts (power most) d = passes (is_power most) (as_integer d)
 accepts (word words) d = passes (is_among words) (as_str d)
 accepts (optional form) d = accepts form d
 
@@ -72,6 +80,7 @@ abbrev pub missing_refusal : Form → Option BayFault
 missing_refusal (identifier most) = Some MissingKey
 missing_refusal description = Some MissingKey
 missing_refusal (number least most) = Some MissingKey
+missing_refusal (power most) = Some MissingKey
 missing_refusal (word words) = Some MissingKey
 missing_refusal (optional form) = None
 

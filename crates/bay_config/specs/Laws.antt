@@ -1,5 +1,5 @@
 -- The properties of every bay that is read, whatever its file holds.
-use Rattle.std.specs.Prelude.{◌≡◌, ◌≢◌, ℕ, ◌+◌, ◌≤◌, ◌++◌, pos, false, true, codes, Some, None, List, [], length, slice_get, All, AllPairs, Contains}
+use Rattle.std.specs.Prelude.{◌≡◌, ◌≢◌, ℕ, ◌+◌, ◌<◌, ◌≤◌, ◌++◌, pos, false, true, codes, Some, None, List, [], length, slice_get, All, AllPairs, Contains}
 use Rattle.bay_tree.specs.declared.row.Row.{Row}
 use Rattle.bay_tree.specs.declared.leaf.Leaf.{Leaf}
 use Rattle.bay_tree.specs.declared.leaf.Leaf.TheVariants.{Truth, Dbpos, Quality, Int8, Int32, Unsigned8, Octets, Reference, Utc}
@@ -13,10 +13,13 @@ use Rattle.bay_base.specs.declared.point.Source.TheVariants as sources
 use Rattle.bay_base.specs.declared.point.Point.{Point}
 use Rattle.bay_base.specs.declared.switch.Control.{Control}
 use Rattle.bay_base.specs.declared.switch.Control.TheVariants.{Status, Direct, Sbo, SboEnhanced}
+use Rattle.bay_nodes.specs.declared.meter.Meter.{Meter}
 use Rattle.bay_nodes.specs.declared.switch.Switch.{Switch}
 use Rattle.bay_nodes.specs.declared.nameplate.Nameplate.{Nameplate}
-use Rattle.bay_nodes.specs.Node.{Node, row, node_rows, node_name, class_of, node_number, position_parts, control_parts, interlocking_parts, meter_parts, bay_rows}
-use Rattle.bay_nodes.specs.Names.{StatusNames, position_names, operation_names, opening_names, closing_names, ControlNames, control_names_of, MeterNames, meter_names_of}
+use Rattle.bay_nodes.specs.declared.profile.Profile.{Profile}
+use Rattle.bay_nodes.specs.declared.profile.Profile.TheVariants.{One, Two}
+use Rattle.bay_nodes.specs.Node.{Node, row, node_rows, node_name, class_of, is_breaker, node_number, has_key, key_quality, position_parts, control_parts, interlocking_parts, meter_parts, bay_rows}
+use Rattle.bay_nodes.specs.Names.{StatusNames, position_names, operation_names, health_names, physical_health_names, local_names, indication_names, opening_names, closing_names, ControlNames, control_names_of, MeterNames, meter_names_of}
 use Rattle.bay_config.specs.Point.{points_of, input_point, meter_points, bay_points}
 use Rattle.bay_config.specs.Remote.{are_inputs}
 
@@ -33,19 +36,19 @@ pub record OwnsInput (inputs : List (List ℕ)) (index : ℕ) (point : Point) : 
   pub is : point ≡ input_point index name
 
 -- the point is one of those of the meter at this index
-pub record OwnsField (meters : List (List ℕ)) (index : ℕ) (point : Point) : Type 0 where
-  pub id : List ℕ
-  pub here : slice_get meters index ≡ Some id
-  pub has : Contains (meter_points index id) point
+pub record OwnsField (meters : List Meter) (index : ℕ) (point : Point) : Type 0 where
+  pub meter : Meter
+  pub here : slice_get meters index ≡ Some meter
+  pub has : Contains (meter_points index meter.id) point
 
 -- the point is one of the switch, the input or the meter that the source names
-abbrev pub IsOwnedAt : List Switch → List (List ℕ) → List (List ℕ) → Point → Source → Type 0
+abbrev pub IsOwnedAt : List Switch → List (List ℕ) → List Meter → Point → Source → Type 0
 IsOwnedAt switches inputs meters point (sources.Switch index which) = Owns switches index point
 IsOwnedAt switches inputs meters point (sources.Input index) = OwnsInput inputs index point
 IsOwnedAt switches inputs meters point (sources.Meter index field) = OwnsField meters index point
 
 -- the point is one of the switch, the input or the meter that its own source names
-abbrev pub IsOwned : List Switch → List (List ℕ) → List (List ℕ) → Point → Type 0
+abbrev pub IsOwned : List Switch → List (List ℕ) → List Meter → Point → Type 0
 IsOwned switches inputs meters point = IsOwnedAt switches inputs meters point point.source
 
 -- the nameplate of a bay, as its section `bay` gave it
@@ -57,6 +60,7 @@ nameplate_of bay =
       model = bay.model;
       revision = bay.revision;
       scan_max_age_ms = bay.scan_max_age_ms;
+      profile = bay.profile;
     }
 
 -- the properties of each bay that a file describes
@@ -68,7 +72,7 @@ pub record IsBay (bay : Bay) : Type 0 where
   pub few_meters : length bay.meters ≤ 8
   -- the points and the rows are derived from the nameplate, the switches, the inputs and the meters
   pub points : bay.points ≡ bay_points bay.switches bay.inputs bay.meters
-  pub rows : bay.rows ≡ bay_rows (nameplate_of bay) bay.switches bay.meters
+  pub rows : bay.rows ≡ bay_rows (nameplate_of bay) bay.switches bay.inputs bay.meters
   -- no two points have the same name, and each is one of the object that its source names
   pub names : AllPairs (λ p q. p.name ≢ q.name) bay.points
   pub owners : All (IsOwned bay.switches bay.inputs bay.meters) bay.points
@@ -151,13 +155,39 @@ pub record HasMeter (rows : List Row) (names : MeterNames) : Type 0 where
   pub phase_b : HasMeasured rows names.phase_b
   pub phase_c : HasMeasured rows names.phase_c
 
+-- the rows have the switch's Loc below a node XCBR or XSWI: a switch with a key is local until the
+-- key is reported (IEC 61850-7-4, Loc); in profile 1 there is none
+abbrev pub HasLocal : Profile → List Row → List ℕ → Switch → Type 0
+HasLocal One rows node switch = Unit
+HasLocal Two rows node switch =
+    HasValue rows (local_names node) (Truth (has_key switch)) (key_quality (has_key switch))
+
+-- the rows have the health of the device and of the physical device; in profile 1 it never changes
+pub record HasHealth (rows : List Row) : Type 0 where
+  pub device : HasValue rows health_names (Int8 (pos 1)) Good
+  pub physical : HasValue rows physical_health_names (Int8 (pos 1)) Good
+
+-- the rows have a value of each of the first `count` inputs (IEC 61850-7-4, Ind)
+abbrev pub HaveIndications : List Row → ℕ → Type 0
+HaveIndications rows count =
+    (k : ℕ) → k < count → HasValue rows (indication_names (k + 1)) (Truth false) Invalid
+
+-- in profile 2 the rows have the value of each input; in profile 1 there are none
+abbrev pub HasInputs : Profile → List Row → ℕ → Type 0
+HasInputs One rows count = Unit
+HasInputs Two rows count = HaveIndications rows count
+
 -- the name is that of the node XCBR or XSWI of the switch at this index
 pub record NamesPosition (bay : Bay) (index : ℕ) (name : List ℕ) : Type 0 where
   pub switch : Switch
   pub here : slice_get bay.switches index ≡ Some switch
   pub named : name ≡ node_name (class_of switch.kind) (node_number bay.switches switch index)
-  pub node : IsBay bay → HasNode bay (record { name = name; parts = position_parts switch.kind })
+  pub node : IsBay bay → HasNode bay (record {
+    name = name;
+    parts = position_parts bay.profile (is_breaker switch.kind) (nameplate_of bay) switch;
+  })
   pub rows : IsBay bay → HasPosition bay.rows name
+  pub local : IsBay bay → HasLocal bay.profile bay.rows name switch
 
 -- the name is that of the node CSWI of the switch at this index
 pub record NamesControl (bay : Bay) (index : ℕ) (name : List ℕ) : Type 0 where
@@ -165,19 +195,25 @@ pub record NamesControl (bay : Bay) (index : ℕ) (name : List ℕ) : Type 0 whe
   pub here : slice_get bay.switches index ≡ Some switch
   pub named : name ≡ node_name (codes "CSWI") (index + 1)
   pub node : IsBay bay → HasNode bay
-      (record { name = name; parts = control_parts switch.control switch.sbo_timeout_ms })
+      (record { name = name; parts = control_parts bay.profile (nameplate_of bay) switch })
   pub rows : IsBay bay → HasControl bay.rows name
   pub commands : IsBay bay → HasCommands bay.rows (control_names_of name) switch.control
 
 -- the name is that of the node CILO of the switch at this index
 pub record NamesInterlocking (bay : Bay) (index : ℕ) (name : List ℕ) : Type 0 where
+  pub switch : Switch
+  pub here : slice_get bay.switches index ≡ Some switch
   pub named : name ≡ node_name (codes "CILO") (index + 1)
-  pub node : IsBay bay → HasNode bay (record { name = name; parts = interlocking_parts })
+  pub node : IsBay bay → HasNode bay
+      (record { name = name; parts = interlocking_parts bay.profile (nameplate_of bay) switch })
   pub open_rows : IsBay bay → HasEnable bay.rows (opening_names name)
   pub close_rows : IsBay bay → HasEnable bay.rows (closing_names name)
 
 -- the name is that of the node MMXU of the meter at this index
 pub record NamesMeter (bay : Bay) (index : ℕ) (name : List ℕ) : Type 0 where
+  pub meter : Meter
+  pub here : slice_get bay.meters index ≡ Some meter
   pub named : name ≡ node_name (codes "MMXU") (index + 1)
-  pub node : IsBay bay → HasNode bay (record { name = name; parts = meter_parts })
+  pub node : IsBay bay → HasNode bay
+      (record { name = name; parts = meter_parts bay.profile (nameplate_of bay) meter })
   pub rows : IsBay bay → HasMeter bay.rows (meter_names_of name)

@@ -2,6 +2,7 @@
 use Rattle.std.specs.Prelude.{ℕ, ◌+◌, Bool, true, false, ◌||◌, List, [], ◌∷◌, ◌++◌, map, codes, Option, is_some}
 use Rattle.std.specs.List.{list_any}
 use Rattle.std.specs.Str.{str_to_ascii_uppercase}
+use Rattle.bay_nodes.specs.declared.meter.Meter.{Meter}
 use Rattle.bay_nodes.specs.declared.switch.Switch.{Switch}
 use Rattle.bay_base.specs.declared.point.Point.{Point}
 use Rattle.bay_base.specs.declared.point.Source.TheVariants as sources
@@ -87,12 +88,12 @@ meter_points index id =
     ∷ []
 
 -- the points of a list of meters, the first of which has this index
-abbrev pub meters_from : ℕ → List (List ℕ) → List Point
+abbrev pub meters_from : ℕ → List Meter → List Point
 meters_from index [] = []
-meters_from index (id ∷ ids) = meter_points index id ++ meters_from (index + 1) ids
+meters_from index (meter ∷ meters) = meter_points index meter.id ++ meters_from (index + 1) meters
 
 -- the points of a bay: of its switches, its inputs and its meters
-abbrev pub bay_points : List Switch → List (List ℕ) → List (List ℕ) → List Point
+abbrev pub bay_points : List Switch → List (List ℕ) → List Meter → List Point
 bay_points switches inputs meters =
     points_from 0 switches ++ (inputs_from 0 inputs ++ meters_from 0 meters)
 

@@ -3,6 +3,8 @@ use bay_base::listing::Listing;
 pub use bay_base::point::{MeterField, Point, Source, SwitchPoint};
 pub use bay_base::switch::{Control, SwitchKind};
 use bay_base::text::Text;
+pub use bay_nodes::meter::Meter;
+pub use bay_nodes::profile::Profile;
 pub use bay_nodes::switch::Switch;
 use bay_tree::row::Row;
 
@@ -20,6 +22,8 @@ pub struct Bay {
     pub revision: Text,
     /// The maximum age of a scan when a switch is operated, in milliseconds, 0 to 600,000.
     pub scan_max_age_ms: u32,
+    /// The profile of the model: which rows the nodes have.
+    pub profile: Profile,
     /// The rows of the tree in their order, with their initial values.
     pub rows: Listing<Row>,
     /// The points that the program reads and writes: those of each switch, then the inputs, then
@@ -29,6 +33,6 @@ pub struct Bay {
     pub switches: Listing<Switch>,
     /// The names of the inputs, at most 64, in the order of the file.
     pub inputs: Listing<Text>,
-    /// The ids of the meters, at most 8, in the order of the file.
-    pub meters: Listing<Text>,
+    /// The meters, at most 8, in the order of the file.
+    pub meters: Listing<Meter>,
 }

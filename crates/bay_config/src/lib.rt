@@ -9,7 +9,8 @@
 // - `nameplate`: the section `bay`.
 // - `lists`: the checks of a section that is a list.
 // - `switches`: the section `switch`.
-// - `names`: the sections `input` and `meter`.
+// - `inputs`: the section `input`.
+// - `meters`: the section `meter`.
 // - `points`: the points of switches, inputs and meters, and their names.
 // - `remotes`: the inputs of the switches' keys.
 // - `nodes`: the names of the logical nodes.
@@ -18,10 +19,11 @@
 
 pub mod bay;
 pub mod fault;
+mod inputs;
 mod keys;
 mod lists;
+mod meters;
 mod nameplate;
-mod names;
 pub mod nodes;
 mod points;
 pub mod read;

@@ -1,7 +1,8 @@
 // The names of a bay's logical nodes.
 ghost use Rattle.std.specs.Prelude.{◌≡◌, ◌<◌, ◌≤◌, filter, length, IfOk};
 ghost use Rattle.bay_nodes.specs.Node.{is_in_group};
-ghost use Rattle.bay_config.specs.Laws.{NamesPosition, NamesControl, NamesInterlocking, NamesMeter};
+ghost use Rattle.bay_config.specs.Laws.{IsBay, HasHealth, HasInputs, NamesPosition, NamesControl, NamesInterlocking, NamesMeter};
+ghost use Rattle.bay_config.specs.declared.bay.Bay as declared;
 
 use crate::bay::{Bay, Switch};
 use bay_base::text::Text;
@@ -68,3 +69,10 @@ pub fn meter_name(alloc: Global, bay: &Bay, index: usize) -> Result<Text, AllocE
     let name = names::node_name(alloc, METER, earlier.len() + 1)?;
     Ok(name)
 }
+
+/// The rows of a bay have the health of the device, and in profile 2 the value of each input. Does
+/// nothing; its contract is the law.
+pub fn model_rows_exist()
+    ensures { (bay : declared.Bay) → IsBay bay → HasHealth bay.rows
+        × HasInputs bay.profile bay.rows (length bay.inputs) }
+{}

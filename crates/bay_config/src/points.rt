@@ -7,7 +7,7 @@ ghost use Rattle.bay_config.specs.Point.{position_points, enable_points, points_
 ghost use Rattle.bay_config.specs.Point as spec;
 ghost use Rattle.bay_base.specs.Words.{reserved_of};
 
-use crate::bay::{MeterField, Point, Source, Switch, SwitchPoint};
+use crate::bay::{Meter, MeterField, Point, Source, Switch, SwitchPoint};
 use crate::fault::BayFault;
 use bay_base::listing::Listing;
 use bay_base::text::Text;
@@ -226,11 +226,11 @@ fn push_meter(
 }
 
 // Adds the points of the meters, in their order.
-fn push_meters(alloc: Global, points: &mut Vec<Point>, meters: &[Text]) -> Result<(), AllocError>
+fn push_meters(alloc: Global, points: &mut Vec<Point>, meters: &[Meter]) -> Result<(), AllocError>
     ensures { IfOk result (λ _. points.new.items ≡ points.old.items ++ meters_from 0 meters.now) }
 {
     for meter in 0..meters.len() {
-        push_meter(alloc, points, meter, meters[meter].as_str())?;
+        push_meter(alloc, points, meter, meters[meter].id.as_str())?;
     }
     Ok(())
 }
@@ -241,7 +241,7 @@ pub fn points_of(
     alloc: Global,
     switches: &[Switch],
     inputs: &[Text],
-    meters: &[Text],
+    meters: &[Meter],
 ) -> Result<Listing<Point>, AllocError>
     ensures { IfOk result (λ points. points ≡ bay_points switches.now inputs.now meters.now) }
 {

@@ -2,9 +2,8 @@
 ghost use Rattle.std.specs.Prelude.{◌≡◌, ◌∷◌, [], map, IfOk};
 ghost use Rattle.std.specs.Option.{ok_or};
 ghost use Rattle.toml.specs.View.{table_view};
-ghost use Rattle.bay_config.specs.Bay.{bay_table, bay_of_table, bay_of, document_of, nameplate_in, names_in, sections, switches_in};
+ghost use Rattle.bay_config.specs.Bay.{bay_table, bay_of_table, bay_of, document_of, inputs_in, meters_in, nameplate_in, profile_in, sections, switches_in};
 ghost use Rattle.bay_config.specs.declared.fault.BayFault.TheVariants.{BadToml, OutOfMemory};
-ghost use Rattle.bay_config.specs.declared.names.NameSection.TheVariants.{Input, Meter};
 ghost use Rattle.bay_base.specs.Exact.{ExactOr, unless_refused};
 ghost use Rattle.bay_config.specs.Key.{first_fault, unknown_refusal};
 ghost use Rattle.bay_config.specs.Laws.{IsBay};
@@ -13,11 +12,12 @@ ghost use Rattle.bay_config.specs.Point.{names_refusal, bay_points};
 ghost use Rattle.bay_config.specs.Remote.{remotes_refusal};
 ghost use Rattle.bay_config.specs.Section.{section_refusal};
 
-use crate::bay::{Bay, Point, Switch};
+use crate::bay::{Bay, Meter, Point, Switch};
 use crate::fault::BayFault;
+use crate::inputs::read_input_section;
 use crate::keys::check_keys;
+use crate::meters::read_meter_section;
 use crate::nameplate::read_nameplate;
-use crate::names::{NameSection, read_name_section};
 use crate::points::{check_names, points_of};
 use crate::remotes::check_remotes;
 use crate::switches::read_switch_section;
@@ -35,27 +35,28 @@ struct Sections {
     nameplate: Nameplate,
     switches: Listing<Switch>,
     inputs: Listing<Text>,
-    meters: Listing<Text>,
+    meters: Listing<Meter>,
 }
 
 // Reads the sections of a file, in their order.
 fn read_sections(alloc: Global, file: &Table) -> Result<Sections, BayFault>
     ensures { let f = table_view file.now in
         ExactOr OutOfMemory (λ x. x) result
-        (unless_refused (first_fault (unknown_refusal (map (λ s. s.name) sections) f
-        ∷ map (section_refusal f) sections))
+        (unless_refused
+        (first_fault (unknown_refusal (map (λ s. s.name) (sections (profile_in f))) f
+        ∷ map (section_refusal f) (sections (profile_in f))))
         (record {
           nameplate = nameplate_in (bay_table f);
           switches = switches_in f;
-          inputs = names_in f Input;
-          meters = names_in f Meter;
+          inputs = inputs_in f;
+          meters = meters_in f;
         })) }
 {
     check_keys(file, &["bay", "switch", "input", "meter"])?;
     let nameplate = read_nameplate(alloc, file)?;
     let switches = read_switch_section(alloc, file)?;
-    let inputs = read_name_section(alloc, file, NameSection::Input)?;
-    let meters = read_name_section(alloc, file, NameSection::Meter)?;
+    let inputs = read_input_section(alloc, file)?;
+    let meters = read_meter_section(alloc, file, nameplate.profile)?;
     Ok(Sections {
         nameplate,
         switches,
@@ -78,7 +79,7 @@ fn derive_lists(alloc: Global, sections: &Sections) -> Result<Lists, BayFault>
         ExactOr OutOfMemory (λ x. x) result
         (unless_refused
         (first_fault (names_refusal points ∷ remotes_refusal s.inputs s.switches ∷ []))
-        (record { points = points; rows = bay_rows s.nameplate s.switches s.meters })) }
+        (record { points = points; rows = bay_rows s.nameplate s.switches s.inputs s.meters })) }
 {
     let switches = sections.switches.as_slice();
     let meters = sections.meters.as_slice();
@@ -86,7 +87,7 @@ fn derive_lists(alloc: Global, sections: &Sections) -> Result<Lists, BayFault>
     let points = points_of(alloc, switches, inputs, meters)?;
     check_names(points.as_slice())?;
     check_remotes(inputs, switches)?;
-    let rows = rows_of(alloc, &sections.nameplate, switches, meters)?;
+    let rows = rows_of(alloc, &sections.nameplate, switches, inputs, meters)?;
     Ok(Lists { points, rows })
 }
 
@@ -98,6 +99,7 @@ fn bay_with(sections: Sections, lists: Lists) -> Bay
       model = n.model;
       revision = n.revision;
       scan_max_age_ms = n.scan_max_age_ms;
+      profile = n.profile;
       rows = lists.rows;
       points = lists.points;
       switches = sections.switches;
@@ -117,6 +119,7 @@ fn bay_with(sections: Sections, lists: Lists) -> Bay
         model: nameplate.model,
         revision: nameplate.revision,
         scan_max_age_ms: nameplate.scan_max_age_ms,
+        profile: nameplate.profile,
         rows: lists.rows,
         points: lists.points,
         switches,

@@ -1,52 +1,140 @@
 -- The names of a bay's nodes differ, and so its rows make a tree.
-use Rattle.std.proofs.Common.{◌≡◌, ◌≢◌, ℕ, zero, suc, ◌+◌, ◌<◌, ◌≤◌, ◌^◌, Bool, true, false, not, ◌&&◌, ◌||◌, cond, nat_eq, List, [], ◌∷◌, ◌++◌, length, map, filter, codes, append-nil, refl, sym, ap, subst, ◌∙◌, arith}
-use Rattle.std.proofs.lemmas.Fmt.{decimal_is_IsNumeral, decimal_injective}
+use Rattle.std.proofs.Common.{◌≡◌, ◌≢◌, ℕ, zero, suc, ◌+◌, ◌<◌, ◌≤◌, ◌^◌, Bool, true, false, not, ◌&&◌, ◌||◌, cond, nat_eq, List, [], ◌∷◌, ◌++◌, length, map, filter, codes, append-nil, is_some, refl, sym, ap, subst, ◌∙◌, arith}
+use Rattle.std.proofs.lemmas.Fmt.{decimal_digit, decimal_is_IsNumeral, decimal_injective}
 use Rattle.std.proofs.lemmas.Bool.{and_parts}
 use Rattle.std.proofs.lemmas.List.{append_cancel_left, map-append}
 use Rattle.std.proofs.lemmas.List.Elements.{filter_passes, recursion_from_All}
 use Rattle.std.proofs.lemmas.Bool.Decides.{nat_tests}
+use Rattle.std.proofs.lemmas.Slice.Eq.{bytes_eq-Decides}
 use Rattle.std.specs.Char.{digit_value}
 use Rattle.std.specs.Fmt.{decimal}
 use Rattle.std.specs.List.{AllByRecursion, enumerate_from, flat_map, list_all}
+use Rattle.std.specs.Str.{bytes_eq}
 use Rattle.std.specs.Str.Parse.{AllDigits}
 use Rattle.bay_tree.specs.Rows.{IsTree}
 use Rattle.bay_base.specs.declared.switch.Control.{Control}
 use Rattle.bay_base.specs.declared.switch.Control.TheVariants.{Status, Direct, Sbo, SboEnhanced}
+use Rattle.bay_nodes.specs.declared.meter.Meter.{Meter}
+use Rattle.bay_nodes.specs.declared.profile.Profile.{Profile}
+use Rattle.bay_nodes.specs.declared.profile.Profile.TheVariants.{One, Two}
 use Rattle.bay_nodes.specs.declared.switch.Switch.{Switch}
 use Rattle.bay_base.specs.declared.switch.SwitchKind.{SwitchKind}
 use Rattle.bay_base.specs.declared.switch.SwitchKind.TheVariants.{Breaker, Disconnector, Earthing}
 use Rattle.bay_nodes.specs.declared.nameplate.Nameplate.{Nameplate}
-use Rattle.bay_nodes.specs.Node.{Node, node_name, class_of, is_breaker, is_in_group, device_node, physical_node, position_node, position_nodes, position_parts, control_node, control_nodes, control_parts, interlocking_node, interlocking_nodes, meter_node, meter_nodes, nodes_of, bay_rows}
-use Rattle.bay_nodes.proofs.PathLemmas.{IsPlain, IsGood, IsApart, AllDiffer, stands, paths, weaker, both, nodes-follow}
+use Rattle.bay_nodes.specs.Node.{NodePart, parts_of, Node, node_name, class_of, is_breaker, is_in_group, device_node, device_parts, physical_node, position_node, position_nodes, position_parts, control_node, control_nodes, control_status, control_settings, command_parts, interlocking_node, interlocking_nodes, interlocking_parts, meter_node, meter_nodes, meter_values, meter_settings, indication, input_status, input_description, input_parts, input_nodes, nodes_of, bay_rows}
+use Rattle.bay_nodes.proofs.PathLemmas.{is_among, IsPlain, part_name, part_names, is_good_part, are_good, IsGood, IsApart, AllDiffer, weaker, both, nodes-follow}
 use Rattle.bay_nodes.proofs.TreeLemmas.{IsTree-follow}
 
 not-dollar : (c : ℕ) → digit_value c < 10 → nat_eq c 36 ≡ false
 not-dollar c h = grind (arith, nat_tests)
 
 plain-digits : (ds : List ℕ) → AllDigits 10 ds → IsPlain ds
-plain-digits [] h = tt
-plain-digits (c ∷ cs) h = (not-dollar c h.0, plain-digits cs h.1)
+plain-digits [] h = refl
+plain-digits (c ∷ cs) h = rw (not-dollar c h.0, plain-digits cs h.1) refl
 
 plain-decimal : (n : ℕ) → n < 2 ^ 64 → IsPlain (decimal n)
 plain-decimal n h = plain-digits (decimal n) (decimal_is_IsNumeral n h).0.1
 
 plain-name : (kind : SwitchKind) (n : ℕ) → n < 2 ^ 64 → IsPlain (node_name (class_of kind) n)
-plain-name Breaker n h = (refl, (refl, (refl, (refl, plain-decimal n h))))
-plain-name Disconnector n h = (refl, (refl, (refl, (refl, plain-decimal n h))))
-plain-name Earthing n h = (refl, (refl, (refl, (refl, plain-decimal n h))))
+plain-name Breaker n h = plain-decimal n h
+plain-name Disconnector n h = plain-decimal n h
+plain-name Earthing n h = plain-decimal n h
 
-standing-position : (name : List ℕ) (kind : SwitchKind)
-    → stands [] (paths (record { name = name; parts = position_parts kind })) ≡ true
-standing-position name Breaker = refl
-standing-position name Disconnector = refl
-standing-position name Earthing = refl
+-- ---- the parts of each node are good
 
-standing-control : (name : List ℕ) (control : Control) (timeout : ℕ)
-    → stands [] (paths (record { name = name; parts = control_parts control timeout })) ≡ true
-standing-control name Status timeout = refl
-standing-control name Direct timeout = refl
-standing-control name Sbo timeout = refl
-standing-control name SboEnhanced timeout = refl
+good-device-parts : (profile : Profile) (n : Nameplate) → are_good (device_parts profile n) ≡ true
+good-device-parts One n = refl
+good-device-parts Two n = refl
+
+good-position-parts : (profile : Profile) (breaker : Bool) (n : Nameplate) (s : Switch)
+    → are_good (position_parts profile breaker n s) ≡ true
+good-position-parts One true n s = refl
+good-position-parts One false n s = refl
+good-position-parts Two true n s = refl
+good-position-parts Two false n s = refl
+
+good-control-parts : (profile : Profile) (control : Control) (n : Nameplate) (s : Switch)
+    → are_good (parts_of (control_status profile ∷ command_parts control
+    ++ control_settings profile n s)) ≡ true
+good-control-parts One Status n s = refl
+good-control-parts One Direct n s = refl
+good-control-parts One Sbo n s = refl
+good-control-parts One SboEnhanced n s = refl
+good-control-parts Two Status n s = refl
+good-control-parts Two Direct n s = refl
+good-control-parts Two Sbo n s = refl
+good-control-parts Two SboEnhanced n s = refl
+
+good-interlocking-parts : (profile : Profile) (n : Nameplate) (s : Switch)
+    → are_good (interlocking_parts profile n s) ≡ true
+good-interlocking-parts One n s = refl
+good-interlocking-parts Two n s = refl
+
+good-meter-parts : (profile : Profile) (scaled : Bool) (n : Nameplate) (m : Meter)
+    → are_good (parts_of (meter_values profile ++ meter_settings profile scaled n m)) ≡ true
+good-meter-parts One true n m = refl
+good-meter-parts One false n m = refl
+good-meter-parts Two true n m = refl
+good-meter-parts Two false n m = refl
+
+-- parts that are named after their numbers: none has the name of another part
+no-number : {T : Type 0} (make : ℕ × T → NodePart)
+    → ((k : ℕ) (t : T) → part_name (make (k, t)) ≡ indication k) → (word : List ℕ) (n : ℕ)
+    (ts : List T)
+    → ((k : ℕ) → n ≤ k → k < n + length ts → bytes_eq word (indication k) ≡ false)
+    → is_among (part_names (parts_of (map make (enumerate_from n ts)))) word ≡ false
+no-number make named word n [] other = refl
+no-number make named word n (t ∷ ts) other =
+    rw (named n t, other n (omega arith) (omega arith))
+    (no-number make named word (n + 1) ts (λ k low high. other k (omega arith) (omega arith)))
+
+not-both : (b : Bool) → (b ≡ true → ⊥) → b ≡ false
+not-both true h = absurd (h refl)
+not-both false h = refl
+
+other-number : (n k : ℕ) → n < k → k < 2 ^ 64 → bytes_eq (indication n) (indication k) ≡ false
+other-number n k lt few =
+    not-both (bytes_eq (indication n) (indication k)) (λ h.
+    let same : indication n ≡ indication k =
+    (bytes_eq-Decides (indication n) (indication k)).0 h in
+    let equal =
+    decimal_injective n k (omega arith) (omega arith)
+    (append_cancel_left (codes "Ind") (decimal n) (decimal k) same) in
+    omega arith)
+
+-- such parts are good, if each of them is
+good-indications : {T : Type 0} (make : ℕ × T → NodePart)
+    → ((k : ℕ) (t : T) → part_name (make (k, t)) ≡ indication k)
+    → ((k : ℕ) (t : T) → k < 2 ^ 64 → is_good_part (make (k, t)) ≡ true) → (n : ℕ) (ts : List T)
+    → n + length ts < 2 ^ 64 → are_good (parts_of (map make (enumerate_from n ts))) ≡ true
+good-indications make named good n [] few = refl
+good-indications make named good n (t ∷ ts) few =
+    rw (
+      good n t (omega arith),
+      named n t,
+      no-number make named (indication n) (n + 1) ts
+          (λ k low high. other-number n k (omega arith) (omega arith)),
+      good-indications make named good (n + 1) ts (omega arith),
+    ) refl
+
+good-status : (k : ℕ) (name : List ℕ) → k < 2 ^ 64 → is_good_part (input_status (k, name)) ≡ true
+good-status k name few = rw (plain-decimal k few) refl
+
+good-description : (k : ℕ) (name : List ℕ) → k < 2 ^ 64
+    → is_good_part (input_description (k, name)) ≡ true
+good-description k name few = rw (plain-decimal k few) refl
+
+good-input-parts : (n : Nameplate) (inputs : List (List ℕ)) → length inputs < 2 ^ 32
+    → are_good (input_parts n inputs) ≡ true
+good-input-parts n inputs few =
+    rw (
+      no-number input_status (λ k t. refl) (codes "Beh") 1 inputs (λ k low high. refl),
+      good-indications input_status (λ k t. refl) good-status 1 inputs (omega arith),
+      no-number input_description (λ k t. refl) (codes "NamPlt") 1 inputs (λ k low high. refl),
+      good-indications input_description (λ k t. refl) good-description 1 inputs (omega arith),
+    ) refl
+
+-- ---- the nodes are good
 
 -- nodes that are numbered one after the other are good where each of them is
 good-numbered : {T : Type 0} (make : ℕ × T → Node)
@@ -56,33 +144,37 @@ good-numbered make good n [] h = tt
 good-numbered make good n (t ∷ ts) h =
     (good n t (omega arith), good-numbered make good (n + 1) ts (omega arith))
 
-good-position : (n : ℕ) (s : Switch) → n < 2 ^ 64 → IsGood (position_node (n, s))
-good-position n s h =
-    record {
-      plain = plain-name s.kind n h;
-      standing = standing-position (node_name (class_of s.kind) n) s.kind;
-    }
+good-position : (p : Nameplate) (n : ℕ) (s : Switch) → n < 2 ^ 64 → IsGood (position_node p (n, s))
+good-position p n s h = record {
+  plain = plain-name s.kind n h;
+  good = good-position-parts p.profile (is_breaker s.kind) p s;
+}
 
-good-control : (n : ℕ) (s : Switch) → n < 2 ^ 64 → IsGood (control_node (n, s))
-good-control n s h =
-    record {
-      plain = (refl, (refl, (refl, (refl, plain-decimal n h))));
-      standing = standing-control (node_name (codes "CSWI") n) s.control s.sbo_timeout_ms;
-    }
+good-control : (p : Nameplate) (n : ℕ) (s : Switch) → n < 2 ^ 64 → IsGood (control_node p (n, s))
+good-control p n s h =
+    record { plain = plain-decimal n h; good = good-control-parts p.profile s.control p s }
 
-good-interlocking : (n : ℕ) (s : Switch) → n < 2 ^ 64 → IsGood (interlocking_node (n, s))
-good-interlocking n s h =
-    record { plain = (refl, (refl, (refl, (refl, plain-decimal n h)))); standing = refl }
+good-interlocking : (p : Nameplate) (n : ℕ) (s : Switch) → n < 2 ^ 64
+    → IsGood (interlocking_node p (n, s))
+good-interlocking p n s h =
+    record { plain = plain-decimal n h; good = good-interlocking-parts p.profile p s }
 
-good-meter : (n : ℕ) (id : List ℕ) → n < 2 ^ 64 → IsGood (meter_node (n, id))
-good-meter n id h =
-    record { plain = (refl, (refl, (refl, (refl, plain-decimal n h)))); standing = refl }
+good-meter : (p : Nameplate) (n : ℕ) (m : Meter) → n < 2 ^ 64 → IsGood (meter_node p (n, m))
+good-meter p n m h =
+    record { plain = plain-decimal n h; good = good-meter-parts p.profile (is_some m.scale) p m }
 
 good-device : (n : Nameplate) → IsGood (device_node n)
-good-device n = record { plain = (refl, (refl, (refl, (refl, tt)))); standing = refl }
+good-device n = record { plain = refl; good = good-device-parts n.profile n }
 
 good-physical : (n : Nameplate) → IsGood (physical_node n)
-good-physical n = record { plain = (refl, (refl, (refl, (refl, (refl, tt))))); standing = refl }
+good-physical n = record { plain = refl; good = refl }
+
+good-inputs : (profile : Profile) (n : Nameplate) (inputs : List (List ℕ))
+    → length inputs < 2 ^ 32 → AllByRecursion IsGood (input_nodes profile n inputs)
+good-inputs One n inputs few = tt
+good-inputs Two n [] few = tt
+good-inputs Two n (name ∷ names) few =
+    (record { plain = refl; good = good-input-parts n (name ∷ names) few }, tt)
 
 -- the names of a class that are numbered from n
 abbrev numbered : List ℕ → ℕ → ℕ → List (List ℕ)
@@ -92,12 +184,12 @@ numbered class n (suc k) = node_name class n ∷ numbered class (n + 1) k
 abbrev names_of : List Node → List (List ℕ)
 names_of nodes = map (λ node. node.name) nodes
 
-names-positions : (class : List ℕ) (n : ℕ) (ss : List Switch)
+names-positions : (p : Nameplate) (class : List ℕ) (n : ℕ) (ss : List Switch)
     → AllByRecursion (λ s. class_of s.kind ≡ class) ss
-    → names_of (map position_node (enumerate_from n ss)) ≡ numbered class n (length ss)
-names-positions class n [] h = refl
-names-positions class n (s ∷ ss) h =
-    rw h.0 (ap (λ names. node_name class n ∷ names) (names-positions class (n + 1) ss h.1))
+    → names_of (map (position_node p) (enumerate_from n ss)) ≡ numbered class n (length ss)
+names-positions p class n [] h = refl
+names-positions p class n (s ∷ ss) h =
+    rw h.0 (ap (λ names. node_name class n ∷ names) (names-positions p class (n + 1) ss h.1))
 
 -- the names of nodes that are numbered one after the other
 names-numbered : {T : Type 0} (class : List ℕ) (make : ℕ × T → Node)
@@ -259,78 +351,104 @@ apart-single name (g ∷ gs) h =
     (apart-single name gs parts.1)
 
 -- the classes of a bay's nodes that are numbered
-abbrev families_of : List Switch → List (List ℕ) → List Family
-families_of ss ms =
+abbrev families_of : Profile → Nameplate → List Switch → List (List ℕ) → List Meter → List Family
+families_of profile n ss ins ms =
     record { class = codes "XCBR"; first = 1; count = length (filter (is_in_group true) ss) }
     ∷ record { class = codes "XSWI"; first = 1; count = length (filter (is_in_group false) ss) }
     ∷ record { class = codes "CSWI"; first = 1; count = length ss }
     ∷ record { class = codes "CILO"; first = 1; count = length ss }
     ∷ record { class = codes "MMXU"; first = 1; count = length ms }
+    ∷ record { class = codes "GGIO"; first = 1; count = length (input_nodes profile n ins) }
     ∷ []
 
-nodes-good : (n : Nameplate) (ss : List Switch) (ms : List (List ℕ)) → length ss < 2 ^ 32
-    → length ms < 2 ^ 32 → AllByRecursion IsGood (nodes_of n ss ms)
-nodes-good n ss ms few fewer =
+one-input-node : (profile : Profile) (n : Nameplate) (ins : List (List ℕ))
+    → length (input_nodes profile n ins) ≤ 1
+one-input-node One n ins = omega arith
+one-input-node Two n [] = omega arith
+one-input-node Two n (name ∷ names) = omega arith
+
+names-inputs : (profile : Profile) (n : Nameplate) (ins : List (List ℕ))
+    → names_of (input_nodes profile n ins)
+    ≡ numbered (codes "GGIO") 1 (length (input_nodes profile n ins))
+names-inputs One n ins = refl
+names-inputs Two n [] = refl
+names-inputs Two n (name ∷ names) =
+    ap (λ digits. (codes "GGIO" ++ digits) ∷ []) (sym (decimal_digit 1 (omega arith)))
+
+nodes-good : (n : Nameplate) (ss : List Switch) (ins : List (List ℕ)) (ms : List Meter)
+    → length ss < 2 ^ 32 → length ins < 2 ^ 32 → length ms < 2 ^ 32
+    → AllByRecursion IsGood (nodes_of n ss ins ms)
+nodes-good n ss ins ms few some fewer =
     let one = length-filter-le (is_in_group true) ss in
     let two = length-filter-le (is_in_group false) ss in
-    let meters = good-numbered meter_node good-meter 1 ms (omega arith) in
+    let inputs = input_nodes n.profile n ins in
+    let meters =
+    both IsGood (meter_nodes n ms) inputs
+    (good-numbered (meter_node n) (good-meter n) 1 ms (omega arith))
+    (good-inputs n.profile n ins some) in
     let interlockings =
-    both IsGood (interlocking_nodes ss) (meter_nodes ms)
-    (good-numbered interlocking_node good-interlocking 1 ss (omega arith)) meters in
+    both IsGood (interlocking_nodes n ss) (meter_nodes n ms ++ inputs)
+    (good-numbered (interlocking_node n) (good-interlocking n) 1 ss (omega arith)) meters in
     let controls =
-    both IsGood (control_nodes ss) (interlocking_nodes ss ++ meter_nodes ms)
-    (good-numbered control_node good-control 1 ss (omega arith)) interlockings in
+    both IsGood (control_nodes n ss) (interlocking_nodes n ss ++ (meter_nodes n ms ++ inputs))
+    (good-numbered (control_node n) (good-control n) 1 ss (omega arith)) interlockings in
     let others =
-    both IsGood (position_nodes false ss)
-    (control_nodes ss ++ (interlocking_nodes ss ++ meter_nodes ms))
-    (good-numbered position_node good-position 1 (filter (is_in_group false) ss) (omega arith))
-    controls in
-    let positions =
-    both IsGood (position_nodes true ss)
-    (position_nodes false ss ++ (control_nodes ss ++ (interlocking_nodes ss ++ meter_nodes ms)))
-    (good-numbered position_node good-position 1 (filter (is_in_group true) ss) (omega arith))
-    others
-    in
-    (good-device n, (good-physical n, positions))
-
-names-nodes : (n : Nameplate) (ss : List Switch) (ms : List (List ℕ))
-    → names_of (nodes_of n ss ms)
-    ≡ codes "LLN0" ∷ codes "LPHD1" ∷ flat_map family_names (families_of ss ms)
-names-nodes n ss ms =
-    let name : Node → List ℕ = λ node. node.name in
+    both IsGood (position_nodes n false ss)
+    (control_nodes n ss ++ (interlocking_nodes n ss ++ (meter_nodes n ms ++ inputs)))
+    (good-numbered (position_node n) (good-position n) 1 (filter (is_in_group false) ss)
+    (omega arith)) controls in
     let breakers =
-    names-positions (codes "XCBR") 1 (filter (is_in_group true) ss) (breakers-class ss) in
+    both IsGood (position_nodes n true ss)
+    (position_nodes n false ss
+    ++ (control_nodes n ss ++ (interlocking_nodes n ss ++ (meter_nodes n ms ++ inputs))))
+    (good-numbered (position_node n) (good-position n) 1 (filter (is_in_group true) ss)
+    (omega arith)) others
+    in
+    (good-device n, (good-physical n, breakers))
+
+names-nodes : (n : Nameplate) (ss : List Switch) (ins : List (List ℕ)) (ms : List Meter)
+    → names_of (nodes_of n ss ins ms)
+    ≡ codes "LLN0" ∷ codes "LPHD1" ∷ flat_map family_names (families_of n.profile n ss ins ms)
+names-nodes n ss ins ms =
+    let name : Node → List ℕ = λ node. node.name in
+    let inputs = input_nodes n.profile n ins in
+    let breakers =
+    names-positions n (codes "XCBR") 1 (filter (is_in_group true) ss) (breakers-class ss) in
     let others =
-    names-positions (codes "XSWI") 1 (filter (is_in_group false) ss) (others-class ss) in
-    let controls = names-numbered (codes "CSWI") control_node (λ n t. refl) 1 ss in
-    let interlockings = names-numbered (codes "CILO") interlocking_node (λ n t. refl) 1 ss in
-    let meters = names-numbered (codes "MMXU") meter_node (λ n t. refl) 1 ms in
+    names-positions n (codes "XSWI") 1 (filter (is_in_group false) ss) (others-class ss) in
+    let controls = names-numbered (codes "CSWI") (control_node n) (λ k t. refl) 1 ss in
+    let interlockings = names-numbered (codes "CILO") (interlocking_node n) (λ k t. refl) 1 ss in
+    let meters = names-numbered (codes "MMXU") (meter_node n) (λ k t. refl) 1 ms in
     rw (
-      map-append name (position_nodes true ss)
-          (position_nodes false ss
-          ++ (control_nodes ss ++ (interlocking_nodes ss ++ meter_nodes ms))),
-      map-append name (position_nodes false ss)
-          (control_nodes ss ++ (interlocking_nodes ss ++ meter_nodes ms)),
-      map-append name (control_nodes ss) (interlocking_nodes ss ++ meter_nodes ms),
-      map-append name (interlocking_nodes ss) (meter_nodes ms),
+      map-append name (position_nodes n true ss)
+          (position_nodes n false ss
+          ++ (control_nodes n ss ++ (interlocking_nodes n ss ++ (meter_nodes n ms ++ inputs)))),
+      map-append name (position_nodes n false ss)
+          (control_nodes n ss ++ (interlocking_nodes n ss ++ (meter_nodes n ms ++ inputs))),
+      map-append name (control_nodes n ss)
+          (interlocking_nodes n ss ++ (meter_nodes n ms ++ inputs)),
+      map-append name (interlocking_nodes n ss) (meter_nodes n ms ++ inputs),
+      map-append name (meter_nodes n ms) inputs,
       breakers,
       others,
       controls,
       interlockings,
       meters,
+      names-inputs n.profile n ins,
       append-nil,
     )
 
-nodes-differ : (n : Nameplate) (ss : List Switch) (ms : List (List ℕ)) → length ss < 2 ^ 32
-    → length ms < 2 ^ 32 → AllDiffer (names_of (nodes_of n ss ms))
-nodes-differ n ss ms few fewer =
+nodes-differ : (n : Nameplate) (ss : List Switch) (ins : List (List ℕ)) (ms : List Meter)
+    → length ss < 2 ^ 32 → length ms < 2 ^ 32 → AllDiffer (names_of (nodes_of n ss ins ms))
+nodes-differ n ss ins ms few fewer =
     let one = length-filter-le (is_in_group true) ss in
     let two = length-filter-le (is_in_group false) ss in
-    let fs = families_of ss ms in
+    let three = one-input-node n.profile n ins in
+    let fs = families_of n.profile n ss ins ms in
     let rest : AllDiffer (flat_map family_names fs) =
     families-differ fs refl
-    (omega arith, (omega arith, (omega arith, (omega arith, (omega arith, tt))))) in
-    subst AllDiffer (sym (names-nodes n ss ms)) (
+    (omega arith, (omega arith, (omega arith, (omega arith, (omega arith, (omega arith, tt)))))) in
+    subst AllDiffer (sym (names-nodes n ss ins ms)) (
       (differ-apart (codes "LLN0") (codes "LPHD1") refl [] [], apart-single (codes "LLN0") fs refl),
       (apart-single (codes "LPHD1") fs refl, rest),
     )
@@ -340,9 +458,10 @@ all-apart [] = tt
 all-apart (node ∷ nodes) = (tt, all-apart nodes)
 
 -- the rows of a bay make a tree
-pub rows-make-tree : (n : Nameplate) (ss : List Switch) (ms : List (List ℕ)) → length ss < 2 ^ 32
-    → length ms < 2 ^ 32 → IsTree (bay_rows n ss ms)
-rows-make-tree n ss ms few fewer =
-    IsTree-follow (bay_rows n ss ms)
-    (nodes-follow [] (nodes_of n ss ms) (nodes-good n ss ms few fewer)
-    (all-apart (nodes_of n ss ms)) (nodes-differ n ss ms few fewer))
+pub rows-make-tree : (n : Nameplate) (ss : List Switch) (ins : List (List ℕ)) (ms : List Meter)
+    → length ss < 2 ^ 32 → length ins < 2 ^ 32 → length ms < 2 ^ 32
+    → IsTree (bay_rows n ss ins ms)
+rows-make-tree n ss ins ms few some fewer =
+    IsTree-follow (bay_rows n ss ins ms)
+    (nodes-follow [] (nodes_of n ss ins ms) (nodes-good n ss ins ms few some fewer)
+    (all-apart (nodes_of n ss ins ms)) (nodes-differ n ss ins ms few fewer))

@@ -1,32 +1,36 @@
--- The rows of one node follow the rows of others: a node's name is a word, and its rows' names are
--- that word and a path.
-use Rattle.std.proofs.Common.{◌≡◌, ◌≢◌, ℕ, suc, ◌+◌, ◌<◌, Bool, true, false, not, ◌&&◌, ◌||◌, cond, nat_eq, List, [], ◌∷◌, ◌++◌, length, map, get_or, Option, None, Some, is_none, IfSome, Any, append_assoc, append-nil, refl, sym, ap, subst, ◌∙◌, ◌⊎◌, inl, inr, arith, length-append}
+-- The rows of one node follow the rows of others: a node's name is a word, and the names of its
+-- rows are that word and a path, whose words are the names of parts that differ from their
+-- siblings.
+use Rattle.std.proofs.Common.{◌≡◌, ◌≢◌, ℕ, ◌+◌, Bool, true, false, not, ◌&&◌, cond, nat_eq, List, [], ◌∷◌, ◌++◌, length, map, codes, Option, None, Some, Any, append_assoc, append-nil, refl, sym, ap, subst, ◌∙◌, arith, length-append}
+use Rattle.std.proofs.Math.ListN.{get_or-append}
+use Rattle.std.proofs.Math.Seq.{get_or-append_seam}
 use Rattle.std.proofs.lemmas.Bool.{and_parts, or_parts, not-true}
-use Rattle.std.proofs.lemmas.List.{append_cancel_left, get_or-append-add, get_or-map, length-map, map-append}
-use Rattle.std.proofs.lemmas.List.Elements.{All-append, All-from_recursion}
+use Rattle.std.proofs.lemmas.List.{append_cancel_left, map-append}
+use Rattle.std.proofs.lemmas.List.Elements.{All-from_recursion}
 use Rattle.std.proofs.lemmas.Slice.Eq.{bytes_eq-Decides}
-use Rattle.std.specs.List.{AllByRecursion, flat_map, list_any}
+use Rattle.std.specs.List.{AllByRecursion, flat_map, list_all, list_any}
 use Rattle.std.specs.Str.{bytes_eq}
 use Rattle.bay_tree.specs.declared.leaf.Leaf.{Leaf}
 use Rattle.bay_tree.specs.declared.row.Row.{Row}
 use Rattle.bay_tree.specs.Names.{parent_of}
 use Rattle.bay_tree.specs.Rows.{IsStructureNamed}
-use Rattle.bay_nodes.specs.Node.{Node, row, node_rows, rows_of_parts}
+use Rattle.bay_nodes.specs.Node.{NodePart, value, structure, Parts, end, part, Node, row, node_rows, rows_of, rows_of_parts}
 use Rattle.bay_nodes.specs.NodeRows.{row_of_node}
 use Rattle.bay_nodes.proofs.TreeLemmas.{CanFollow, Follow, Follow-append}
 
+-- ---- words and paths
+
 -- the text is one of these
-abbrev is_among : List (List ℕ) → List ℕ → Bool
+abbrev pub is_among : List (List ℕ) → List ℕ → Bool
 is_among texts s = list_any (λ t. bytes_eq s t) texts
 
--- there is a text, and it passes the test
-abbrev passes : (List ℕ → Bool) → Option (List ℕ) → Bool
-passes test None = false
-passes test (Some x) = test x
-
 -- a word has no `$`
+abbrev pub is_plain : List ℕ → Bool
+is_plain word = list_all (λ c. not (nat_eq c 36)) word
+
+-- the same as a fact
 abbrev pub IsPlain : List ℕ → Type 0
-IsPlain word = AllByRecursion (λ c. nat_eq c 36 ≡ false) word
+IsPlain word = is_plain word ≡ true
 
 -- what stands before the first `$`
 abbrev pub head_of : List ℕ → List ℕ
@@ -44,102 +48,80 @@ head-path (c ∷ cs) h = rw h
 
 head-word : (w s : List ℕ) → IsPlain w → is_path s ≡ true → head_of (w ++ s) ≡ w
 head-word [] s plain h = head-path s h
-head-word (c ∷ w) s plain h = rw (plain.0, head-word w s plain.1 h)
+head-word (c ∷ w) s plain h =
+    let parts = and_parts (not (nat_eq c 36)) (is_plain w) plain in
+    rw (not-true _ parts.0, head-word w s parts.1 h)
 
 parent-word : (w : List ℕ) → IsPlain w → parent_of w ≡ None
 parent-word [] plain = refl
-parent-word (c ∷ w) plain = rw (parent-word w plain.1, plain.0)
+parent-word (c ∷ w) plain =
+    let parts = and_parts (not (nat_eq c 36)) (is_plain w) plain in
+    rw (parent-word w parts.1, not-true _ parts.0)
 
 parent-join : (w s p : List ℕ) → parent_of s ≡ Some p → parent_of (w ++ s) ≡ Some (w ++ p)
 parent-join [] s p h = h
 parent-join (c ∷ w) s p h = rw (parent-join w s p h)
 
--- a row's path is empty, or its parent is a structure among the rows before it
-abbrev parent_stands : List Row → List ℕ → Bool
-parent_stands done [] = true
-parent_stands done (c ∷ cs) =
-    nat_eq c 36 && passes (λ p. list_any (λ q. bytes_eq q.name p && is_none q.leaf) done)
-    (parent_of (c ∷ cs))
+-- the path of a part
+abbrev pub below : List ℕ → List ℕ → List ℕ
+below path word = path ++ codes "$" ++ word
 
--- each row has a name of its own, and its parent stands before it
-abbrev pub stands : List Row → List Row → Bool
-stands done [] = true
-stands done (r ∷ rs) =
-    (not (is_among (map (λ q. q.name) done) r.name) && parent_stands done r.name)
-    && stands (done ++ r ∷ []) rs
+-- a path below a node's name
+name-shifted : (node path name : List ℕ) → node ++ below path name ≡ below (node ++ path) name
+name-shifted node path name =
+    sym (append_assoc node (path ++ codes "$") name)
+    ∙ ap (λ q. q ++ name) (sym (append_assoc node path (codes "$")))
 
-path-stands : (done : List Row) (s : List ℕ) → parent_stands done s ≡ true → is_path s ≡ true
-path-stands done [] h = refl
-path-stands done (c ∷ cs) h = (and_parts (nat_eq c 36) _ h).0
+-- the parent of a part is the structure that it is in
+parent-below : (path word : List ℕ) → IsPlain word → parent_of (below path word) ≡ Some path
+parent-below path word plain =
+    let own : parent_of (codes "$" ++ word) ≡ Some [] = rw (parent-word word plain) refl in
+    ap parent_of (append_assoc path (codes "$") word)
+    ∙ parent-join path (codes "$" ++ word) [] own
+    ∙ ap Some (append-nil path)
 
-none-from : (o : Option Leaf) → is_none o ≡ true → o ≡ None
-none-from None h = refl
-none-from (Some x) h = cc
+-- a name is a path, or begins with it and `$`
+pub record IsUnder (path name : List ℕ) : Type 0 where
+  pub rest : List ℕ
+  pub goes_on : is_path rest ≡ true
+  pub joined : name ≡ path ++ rest
 
-or-cases : (a b : Bool) → (a || b) ≡ true → (a ≡ true) ⊎ (b ≡ true)
-or-cases true b h = inl refl
-or-cases false b h = inr h
+own-under : (path : List ℕ) → IsUnder path path
+own-under path = record { rest = []; goes_on = refl; joined = sym (append-nil path) }
 
--- a structure that is found
-found : (done : List Row) (p : List ℕ)
-    → list_any (λ q. bytes_eq q.name p && is_none q.leaf) done ≡ true
-    → (k : ℕ) × (q : Row) × (k < length done) × (get_or done k q ≡ q) × IsStructureNamed p q
-found [] p h = absurd (cc)
-found (q ∷ qs) p h =
-    elim (or-cases (bytes_eq q.name p && is_none q.leaf)
-    (list_any (λ x. bytes_eq x.name p && is_none x.leaf) qs) h) [
-      | inl here ↦
-          let parts = and_parts (bytes_eq q.name p) (is_none q.leaf) here in (
-            0,
-            q,
-            omega arith,
-            refl,
-            record {
-              named = (bytes_eq-Decides q.name p).0 parts.0;
-              structure = none-from q.leaf parts.1;
-            },
-          )
-      | inr there ↦
-          let w = found qs p there in
-          (suc w.0, w.1, omega (arith, w.2), w.3, w.4)
-    ]
+-- what is under a part is under the structure that the part is in
+up-under : (path word name : List ℕ) → IsUnder (below path word) name → IsUnder path name
+up-under path word name u = record {
+  rest = codes "$" ++ (word ++ u.rest);
+  goes_on = refl;
+  joined =
+      u.joined ∙ append_assoc (path ++ codes "$") word u.rest
+      ∙ append_assoc path (codes "$") (word ++ u.rest);
+}
 
--- it is found behind other rows, under the node's name
-found-under : (node : List ℕ) (earlier done : List Row) (p : List ℕ)
-    → list_any (λ q. bytes_eq q.name p && is_none q.leaf) done ≡ true
-    → Any (IsStructureNamed (node ++ p)) (earlier ++ map (row_of_node node) done)
-found-under node earlier done p h =
-    let w = found done p h in
-    let long : length (earlier ++ map (row_of_node node) done)
-    ≡ length earlier + length (map (row_of_node node) done) =
-    length-append earlier (map (row_of_node node) done) in
-    let same : length (map (row_of_node node) done) ≡ length done =
-    length-map done (row_of_node node) in (
-      length earlier + w.0,
-      row_of_node node w.1,
-      omega (arith, w.2),
-      get_or-append-add earlier (map (row_of_node node) done) w.0 (row_of_node node w.1)
-          ∙ get_or-map (row_of_node node) done w.0 w.1 (row_of_node node w.1) w.2
-          ∙ ap (row_of_node node) w.3,
-      record { named = ap (λ n. node ++ n) w.4.named; structure = w.4.structure },
-    )
+-- nothing is under two parts of one structure
+two-words : (path a b name : List ℕ) → IsPlain a → IsPlain b → IsUnder (below path a) name
+    → IsUnder (below path b) name → a ≡ b
+two-words path a b name plain-a plain-b u v =
+    let whole : (path ++ codes "$") ++ (a ++ u.rest) ≡ (path ++ codes "$") ++ (b ++ v.rest) =
+    sym (append_assoc (path ++ codes "$") a u.rest) ∙ sym u.joined ∙ v.joined
+    ∙ append_assoc (path ++ codes "$") b v.rest in
+    let tails : a ++ u.rest ≡ b ++ v.rest =
+    append_cancel_left (path ++ codes "$") (a ++ u.rest) (b ++ v.rest) whole in
+    sym (head-word a u.rest plain-a u.goes_on) ∙ ap head_of tails
+    ∙ head-word b v.rest plain-b v.goes_on
 
-parent-found : (node : List ℕ) (earlier done : List Row) (s : List ℕ) (o : Option (List ℕ))
-    → parent_of s ≡ o → passes (λ p. list_any (λ q. bytes_eq q.name p && is_none q.leaf) done) o
-    ≡ true → IfSome (parent_of (node ++ s))
-    (λ p. Any (IsStructureNamed p) (earlier ++ map (row_of_node node) done))
-parent-found node earlier done s None e h = absurd (cc)
-parent-found node earlier done s (Some p) e h =
-    rw (parent-join node s p e) (found-under node earlier done p h)
+-- a structure is not under a part of it
+not-own : (path word : List ℕ) → IsUnder (below path word) path → ⊥
+not-own path word u =
+    let joined : path ≡ path ++ (codes "$" ++ (word ++ u.rest)) =
+    u.joined ∙ append_assoc (path ++ codes "$") word u.rest
+    ∙ append_assoc path (codes "$") (word ++ u.rest) in
+    let tails : [] ≡ codes "$" ++ (word ++ u.rest) =
+    append_cancel_left path [] (codes "$" ++ (word ++ u.rest)) (append-nil path ∙ joined) in
+    absurd (cc)
 
-parent-follows : (node : List ℕ) (earlier done : List Row) (s : List ℕ) → IsPlain node
-    → parent_stands done s ≡ true
-    → IfSome (parent_of (node ++ s))
-    (λ p. Any (IsStructureNamed p) (earlier ++ map (row_of_node node) done))
-parent-follows node earlier done [] plain h = rw (append-nil, parent-word node plain) tt
-parent-follows node earlier done (c ∷ cs) plain h =
-    parent-found node earlier done (c ∷ cs) (parent_of (c ∷ cs)) refl
-    (and_parts (nat_eq c 36) _ h).1
+-- ---- properties of lists
 
 -- what follows from a property holds of each element, where the property does
 pub weaker : {X : Type 0} (P Q : X → Type 0) (xs : List X) → ((x : X) → P x → Q x)
@@ -147,106 +129,239 @@ pub weaker : {X : Type 0} (P Q : X → Type 0) (xs : List X) → ((x : X) → P 
 weaker P Q [] f h = tt
 weaker P Q (x ∷ xs) f h = (f x h.0, weaker P Q xs f h.1)
 
-new-name : (node : List ℕ) (done : List Row) (s : List ℕ)
-    → is_among (map (λ q. q.name) done) s ≡ false
-    → AllByRecursion (λ o. o.name ≢ node ++ s) (map (row_of_node node) done)
-new-name node [] s h = tt
-new-name node (q ∷ qs) s h =
-    let parts = or_parts (bytes_eq s q.name) (is_among (map (λ x. x.name) qs) s) h in (
-      λ same.
-          let equal : bytes_eq s q.name ≡ true =
-          (bytes_eq-Decides s q.name).1 (sym (append_cancel_left node q.name s same)) in
-          cc,
-      new-name node qs s parts.1,
-    )
-
--- no row before has this node's name at its head
-abbrev pub IsApart : List Row → List ℕ → Type 0
-IsApart earlier node = AllByRecursion (λ o. head_of o.name ≢ node) earlier
-
-row-follows : (node : List ℕ) (earlier done : List Row) (r : Row) → IsPlain node
-    → IsApart earlier node → is_among (map (λ q. q.name) done) r.name ≡ false
-    → parent_stands done r.name ≡ true
-    → CanFollow (earlier ++ map (row_of_node node) done) (row_of_node node r)
-row-follows node earlier done r plain apart new parent =
-    let head : head_of (node ++ r.name) ≡ node =
-    head-word node r.name plain (path-stands done r.name parent) in
-    record {
-      distinct =
-          All-append (λ (o : Row). o.name ≢ node ++ r.name) earlier (map (row_of_node node) done)
-          (All-from_recursion (λ (o : Row). o.name ≢ node ++ r.name) earlier
-          (weaker (λ (o : Row). head_of o.name ≢ node) (λ (o : Row). o.name ≢ node ++ r.name)
-          earlier (λ o other same. other (ap head_of same ∙ head)) apart))
-          (All-from_recursion (λ (o : Row). o.name ≢ node ++ r.name) (map (row_of_node node) done)
-          (new-name node done r.name new));
-      parent = parent-follows node earlier done r.name plain parent;
-    }
-
-rows-follow : (node : List ℕ) (earlier done rest : List Row) → IsPlain node → IsApart earlier node
-    → stands done rest ≡ true
-    → Follow (earlier ++ map (row_of_node node) done) (map (row_of_node node) rest)
-rows-follow node earlier done [] plain apart h = tt
-rows-follow node earlier done (r ∷ rs) plain apart h =
-    let parts =
-    and_parts (not (is_among (map (λ q. q.name) done) r.name) && parent_stands done r.name)
-    (stands (done ++ r ∷ []) rs) h in
-    let here =
-    and_parts (not (is_among (map (λ q. q.name) done) r.name)) (parent_stands done r.name)
-    parts.0 in
-    let grown : earlier ++ map (row_of_node node) (done ++ r ∷ [])
-    ≡ (earlier ++ map (row_of_node node) done) ++ row_of_node node r ∷ [] =
-    ap (λ rows. earlier ++ rows) (map-append (row_of_node node) done (r ∷ []))
-    ∙ sym (append_assoc earlier (map (row_of_node node) done) (row_of_node node r ∷ [])) in (
-      row-follows node earlier done r plain apart (not-true _ here.0) here.1,
-      subst (λ e. Follow e (map (row_of_node node) rs)) grown
-          (rows-follow node earlier (done ++ r ∷ []) rs plain apart parts.1),
-    )
-
--- the rows of a node, by their paths
-abbrev pub paths : Node → List Row
-paths node = row [] None ∷ rows_of_parts [] node.parts
-
-pub record IsGood (node : Node) : Type 0 where
-  pub plain : IsPlain node.name
-  pub standing : stands [] (paths node) ≡ true
-
-rows-under : (node : Node) → map (row_of_node node.name) (paths node) ≡ node_rows node
-rows-under node =
-    ap (λ n. row n None ∷ map (row_of_node node.name) (rows_of_parts [] node.parts))
-    (append-nil node.name)
-
-node-follows : (node : Node) (earlier : List Row) → IsGood node → IsApart earlier node.name
-    → Follow earlier (node_rows node)
-node-follows node earlier good apart =
-    subst (Follow earlier) (rows-under node)
-    (subst (λ e. Follow e (map (row_of_node node.name) (paths node))) (append-nil earlier)
-    (rows-follow node.name earlier [] (paths node) good.plain apart good.standing))
-
-heads : (node : List ℕ) (done rest : List Row) → IsPlain node → stands done rest ≡ true
-    → AllByRecursion (λ o. head_of o.name ≡ node) (map (row_of_node node) rest)
-heads node done [] plain h = tt
-heads node done (r ∷ rs) plain h =
-    let parts =
-    and_parts (not (is_among (map (λ q. q.name) done) r.name) && parent_stands done r.name)
-    (stands (done ++ r ∷ []) rs) h in
-    let here =
-    and_parts (not (is_among (map (λ q. q.name) done) r.name)) (parent_stands done r.name)
-    parts.0 in (
-      head-word node r.name plain (path-stands done r.name here.1),
-      heads node (done ++ r ∷ []) rs plain parts.1,
-    )
-
-node-heads : (node : Node) → IsGood node
-    → AllByRecursion (λ o. head_of o.name ≡ node.name) (node_rows node)
-node-heads node good =
-    subst (AllByRecursion (λ o. head_of o.name ≡ node.name)) (rows-under node)
-    (heads node.name [] (paths node) good.plain good.standing)
-
 -- a property of the elements of two lists is one of those of both together
 pub both : {X : Type 0} (P : X → Type 0) (xs ys : List X) → AllByRecursion P xs
     → AllByRecursion P ys → AllByRecursion P (xs ++ ys)
 both P [] ys f g = g
 both P (x ∷ xs) ys f g = (f.0, both P xs ys f.1 g)
+
+-- what is found in a list is found in a longer one
+any-longer : (P : Row → Type 0) (xs ys : List Row) → Any P xs → Any P (xs ++ ys)
+any-longer P xs ys w =
+    let long : length (xs ++ ys) ≡ length xs + length ys = length-append xs ys in (
+      w.0,
+      w.1,
+      omega (arith, w.2),
+      get_or-append xs ys w.1 w.0 w.2 ∙ w.3,
+      w.4,
+    )
+
+any-last : (P : Row → Type 0) (xs : List Row) (r : Row) → P r → Any P (xs ++ r ∷ [])
+any-last P xs r p =
+    let long : length (xs ++ r ∷ []) ≡ length xs + 1 = length-append xs (r ∷ []) in
+    (length xs, r, omega arith, get_or-append_seam xs r [] r, p)
+
+-- ---- the parts of a node
+
+abbrev pub part_name : NodePart → List ℕ
+part_name (value name leaf) = name
+part_name (structure name parts) = name
+
+abbrev pub part_names : Parts → List (List ℕ)
+part_names end = []
+part_names (part p ps) = part_name p ∷ part_names ps
+
+-- the name of each part is a word, and differs from those of its siblings
+abbrev mutual
+  pub is_good_part : NodePart → Bool
+  is_good_part (value name leaf) = is_plain name
+  is_good_part (structure name parts) = is_plain name && are_good parts
+
+  pub are_good : Parts → Bool
+  are_good end = true
+  are_good (part p ps) =
+      (is_good_part p && not (is_among (part_names ps) (part_name p))) && are_good ps
+
+plain-part : (p : NodePart) → is_good_part p ≡ true → IsPlain (part_name p)
+plain-part (value name leaf) h = h
+plain-part (structure name parts) h = (and_parts (is_plain name) (are_good parts) h).0
+
+plain-parts : (ps : Parts) → are_good ps ≡ true → AllByRecursion IsPlain (part_names ps)
+plain-parts end h = tt
+plain-parts (part p ps) h =
+    let parts =
+    and_parts (is_good_part p && not (is_among (part_names ps) (part_name p))) (are_good ps) h in
+    let here = and_parts (is_good_part p) (not (is_among (part_names ps) (part_name p))) parts.0 in
+    (plain-part p here.0, plain-parts ps parts.1)
+
+-- the rows of a part are under its path
+mutual
+  rows-under : (path : List ℕ) (p : NodePart)
+      → AllByRecursion (λ (o : Row). IsUnder (below path (part_name p)) o.name) (rows_of path p)
+  rows-under path (value name leaf) = (own-under (below path name), tt)
+  rows-under path (structure name parts) =
+      (own-under (below path name), parts-under (below path name) parts)
+
+  parts-under : (path : List ℕ) (ps : Parts)
+      → AllByRecursion (λ (o : Row). IsUnder path o.name) (rows_of_parts path ps)
+  parts-under path end = tt
+  parts-under path (part p ps) =
+      both (λ (o : Row). IsUnder path o.name) (rows_of path p) (rows_of_parts path ps)
+      (weaker (λ (o : Row). IsUnder (below path (part_name p)) o.name)
+      (λ (o : Row). IsUnder path o.name) (rows_of path p)
+      (λ o u. up-under path (part_name p) o.name u) (rows-under path p))
+      (parts-under path ps)
+
+-- no row is under a path
+abbrev AreFree : List ℕ → List Row → Type 0
+AreFree path rows = AllByRecursion (λ (o : Row). IsUnder path o.name → ⊥) rows
+
+-- no row is under one of these parts
+abbrev AreAllFree : List ℕ → List (List ℕ) → List Row → Type 0
+AreAllFree path words rows = AllByRecursion (λ word. AreFree (below path word) rows) words
+
+-- what is free of a structure is free of its parts
+free-below : (path word : List ℕ) (rows : List Row) → AreFree path rows
+    → AreFree (below path word) rows
+free-below path word rows free =
+    weaker (λ (o : Row). IsUnder path o.name → ⊥)
+    (λ (o : Row). IsUnder (below path word) o.name → ⊥)
+    rows (λ o no u. no (up-under path word o.name u)) free
+
+free-parts : (path : List ℕ) (words : List (List ℕ)) (earlier : List Row) → AreFree path earlier
+    → AreAllFree path words (earlier ++ row path None ∷ [])
+free-parts path [] earlier free = tt
+free-parts path (word ∷ words) earlier free = (
+  both (λ (o : Row). IsUnder (below path word) o.name → ⊥) earlier (row path None ∷ [])
+      (free-below path word earlier free) (λ u. not-own path word u, tt),
+  free-parts path words earlier free,
+)
+
+-- the siblings of a part are free of its rows
+free-siblings : (path : List ℕ) (p : NodePart) (words : List (List ℕ)) (earlier : List Row)
+    → IsPlain (part_name p) → AllByRecursion IsPlain words → is_among words (part_name p) ≡ false
+    → AreAllFree path words earlier → AreAllFree path words (earlier ++ rows_of path p)
+free-siblings path p [] earlier plain plains other free = tt
+free-siblings path p (word ∷ words) earlier plain plains other free =
+    let parts = or_parts (bytes_eq (part_name p) word) (is_among words (part_name p)) other in (
+      both (λ (o : Row). IsUnder (below path word) o.name → ⊥) earlier (rows_of path p) free.0
+          (weaker (λ (o : Row). IsUnder (below path (part_name p)) o.name)
+          (λ (o : Row). IsUnder (below path word) o.name → ⊥) (rows_of path p)
+          (λ o u v. let same : bytes_eq (part_name p) word ≡ true =
+          (bytes_eq-Decides (part_name p) word).1
+          (two-words path (part_name p) word o.name plain plains.0 u v) in absurd (cc))
+          (rows-under path p)),
+      free-siblings path p words earlier plain plains.1 parts.1 free.1,
+    )
+
+-- a row can follow rows that have its parent, and none under its path
+row-follows : (path word : List ℕ) (leaf : Option Leaf) (earlier : List Row) → IsPlain word
+    → Any (IsStructureNamed path) earlier → AreFree (below path word) earlier
+    → CanFollow earlier (row (below path word) leaf)
+row-follows path word leaf earlier plain parent free = record {
+  distinct =
+      All-from_recursion (λ (o : Row). o.name ≢ below path word) earlier
+      (weaker (λ (o : Row). IsUnder (below path word) o.name → ⊥)
+      (λ (o : Row). o.name ≢ below path word) earlier
+      (λ o no same. no (subst (IsUnder (below path word)) (sym same) (own-under (below path word))))
+      free);
+  parent = rw (parent-below path word plain) parent;
+}
+
+-- the rows of a part, and of the parts of a structure, can follow such rows
+mutual
+  part-follows : (path : List ℕ) (p : NodePart) (earlier : List Row) → is_good_part p ≡ true
+      → Any (IsStructureNamed path) earlier → AreFree (below path (part_name p)) earlier
+      → Follow earlier (rows_of path p)
+  part-follows path (value name leaf) earlier good parent free =
+      (row-follows path name (Some leaf) earlier good parent free, tt)
+  part-follows path (structure name parts) earlier good parent free =
+      let goods = and_parts (is_plain name) (are_good parts) good in
+      let own = row (below path name) None in (
+        row-follows path name None earlier goods.0 parent free,
+        parts-follow (below path name) parts (earlier ++ own ∷ []) goods.1
+            (any-last (IsStructureNamed (below path name)) earlier own
+            (record { named = refl; structure = refl }))
+            (free-parts (below path name) (part_names parts) earlier free),
+      )
+
+  parts-follow : (path : List ℕ) (ps : Parts) (earlier : List Row) → are_good ps ≡ true
+      → Any (IsStructureNamed path) earlier → AreAllFree path (part_names ps) earlier
+      → Follow earlier (rows_of_parts path ps)
+  parts-follow path end earlier good parent free = tt
+  parts-follow path (part p ps) earlier good parent free =
+      let goods =
+      and_parts (is_good_part p && not (is_among (part_names ps) (part_name p))) (are_good ps) good
+      in
+      let here = and_parts (is_good_part p) (not (is_among (part_names ps) (part_name p))) goods.0
+      in
+      Follow-append earlier (rows_of path p) (rows_of_parts path ps)
+      (part-follows path p earlier here.0 parent free.0)
+      (parts-follow path ps (earlier ++ rows_of path p) goods.1
+      (any-longer (IsStructureNamed path) earlier (rows_of path p) parent)
+      (free-siblings path p (part_names ps) earlier (plain-part p here.0) (plain-parts ps goods.1)
+      (not-true _ here.1) free.1))
+
+-- ---- nodes
+
+-- the rows of parts below a node's name
+mutual
+  pub part-shifted : (node path : List ℕ) (p : NodePart)
+      → map (row_of_node node) (rows_of path p) ≡ rows_of (node ++ path) p
+  part-shifted node path (value name leaf) = rw (name-shifted node path name) refl
+  part-shifted node path (structure name parts) =
+      rw (name-shifted node path name)
+      (ap (λ rs. row (below (node ++ path) name) None ∷ rs)
+      (parts-shifted node (below path name) parts
+      ∙ ap (λ q. rows_of_parts q parts) (name-shifted node path name)))
+
+  pub parts-shifted : (node path : List ℕ) (ps : Parts)
+      → map (row_of_node node) (rows_of_parts path ps) ≡ rows_of_parts (node ++ path) ps
+  parts-shifted node path end = refl
+  parts-shifted node path (part p ps) =
+      map-append (row_of_node node) (rows_of path p) (rows_of_parts path ps)
+      ∙ ap (λ rs. rs ++ map (row_of_node node) (rows_of_parts path ps)) (part-shifted node path p)
+      ∙ ap (λ rs. rows_of (node ++ path) p ++ rs) (parts-shifted node path ps)
+
+-- the name of a node is a word, and its parts are good
+pub record IsGood (node : Node) : Type 0 where
+  pub plain : IsPlain node.name
+  pub good : are_good node.parts ≡ true
+
+rows-below : (node : Node) → row node.name None ∷ rows_of_parts node.name node.parts
+    ≡ node_rows node
+rows-below node =
+    ap (λ rs. row node.name None ∷ rs)
+    (sym (parts-shifted node.name [] node.parts
+    ∙ ap (λ q. rows_of_parts q node.parts) (append-nil node.name)))
+
+-- no row before has this node's name at its head
+abbrev pub IsApart : List Row → List ℕ → Type 0
+IsApart earlier node = AllByRecursion (λ o. head_of o.name ≢ node) earlier
+
+under-head : (node name : List ℕ) → IsPlain node → IsUnder node name → head_of name ≡ node
+under-head node name plain u = ap head_of u.joined ∙ head-word node u.rest plain u.goes_on
+
+node-follows : (node : Node) (earlier : List Row) → IsGood node → IsApart earlier node.name
+    → Follow earlier (node_rows node)
+node-follows node earlier good apart =
+    let own = row node.name None in
+    let free : AreFree node.name earlier =
+    weaker (λ (o : Row). head_of o.name ≢ node.name) (λ (o : Row). IsUnder node.name o.name → ⊥)
+    earlier (λ o other u. other (under-head node.name o.name good.plain u)) apart in
+    subst (Follow earlier) (rows-below node) (
+      record {
+        distinct =
+            All-from_recursion (λ (o : Row). o.name ≢ node.name) earlier
+            (weaker (λ (o : Row). IsUnder node.name o.name → ⊥) (λ (o : Row). o.name ≢ node.name)
+            earlier (λ o no same. no (subst (IsUnder node.name) (sym same) (own-under node.name)))
+            free);
+        parent = rw (parent-word node.name good.plain) tt;
+      },
+      parts-follow node.name node.parts (earlier ++ own ∷ []) good.good
+          (any-last (IsStructureNamed node.name) earlier own
+          (record { named = refl; structure = refl }))
+          (free-parts node.name (part_names node.parts) earlier free),
+    )
+
+node-heads : (node : Node) → IsGood node
+    → AllByRecursion (λ o. head_of o.name ≡ node.name) (node_rows node)
+node-heads node good =
+    subst (AllByRecursion (λ o. head_of o.name ≡ node.name)) (rows-below node)
+    (weaker (λ (o : Row). IsUnder node.name o.name) (λ (o : Row). head_of o.name ≡ node.name)
+    (row node.name None ∷ rows_of_parts node.name node.parts)
+    (λ o u. under-head node.name o.name good.plain u)
+    (own-under node.name, parts-under node.name node.parts))
 
 -- the names differ, each from each later one
 abbrev pub AllDiffer : List (List ℕ) → Type 0

@@ -1,6 +1,6 @@
--- The names by which rows are found (IEC 61850-7-4: XCBR, XSWI, CSWI, CILO and MMXU; IEC 61850-8-1:
--- names of variables).
-use Rattle.std.specs.Prelude.{ℕ, ◌+◌, List, ◌++◌, codes}
+-- The names by which rows are found (IEC 61850-7-4: LLN0, LPHD, XCBR, XSWI, CSWI, CILO, MMXU and
+-- GGIO; IEC 61850-8-1: names of variables).
+use Rattle.std.specs.Prelude.{ℕ, ◌+◌, List, [], ◌++◌, codes}
 use Rattle.bay_nodes.specs.declared.paths.StatusPaths.{StatusPaths}
 use Rattle.bay_nodes.specs.declared.switch.Switch.{Switch}
 use Rattle.bay_nodes.specs.Node.{class_of, node_name, node_number}
@@ -41,6 +41,26 @@ position_names node = status_names node (codes "$ST$Pos")
 -- the names of a switch's operation count, below XCBR or XSWI (IEC 61850-7-4, OpCnt)
 abbrev pub operation_names : List ℕ → StatusNames
 operation_names node = status_names node (codes "$ST$OpCnt")
+
+-- ---- IEC 61850-7-4 LLN0, LPHD, XCBR, XSWI, GGIO: names of the values that profile 2 adds
+
+-- the names of the health of the device, below LLN0 (IEC 61850-7-4, Health)
+abbrev pub health_names : StatusNames
+health_names = status_names (codes "LLN0") (codes "$ST$Health")
+
+-- the names of the health of the physical device, below LPHD1 (IEC 61850-7-4, PhyHealth)
+abbrev pub physical_health_names : StatusNames
+physical_health_names = status_names (codes "LPHD1") (codes "$ST$PhyHealth")
+
+-- the names of whether a switch accepts local commands only, below XCBR or XSWI (IEC 61850-7-4,
+-- Loc)
+abbrev pub local_names : List ℕ → StatusNames
+local_names node = status_names node (codes "$ST$Loc")
+
+-- the names of the value of the input with a number; its data object is below GGIO1 (IEC 61850-7-4,
+-- Ind)
+abbrev pub indication_names : ℕ → StatusNames
+indication_names number = status_names (node_name (codes "GGIO1$ST$Ind") number) []
 
 -- ---- IEC 61850-7-4 CILO: names of interlocking values
 

@@ -1,82 +1,58 @@
 -- The rows of the logical nodes as the tables of the code hold them: the initial value of a line,
 -- and the groups of rows that the code appends one after the other.
-use Rattle.std.specs.Prelude.{ℕ, zero, suc, ◌+◌, pos, false, List, [], ◌∷◌, ◌++◌, map, codes, Option, None, Some}
+use Rattle.std.specs.Prelude.{ℕ, pos, false, List, [], ◌∷◌, ◌++◌, map, codes, Option, None, Some}
 use Rattle.std.specs.Borrow.{Bor}
+use Rattle.std.specs.List.{flat_map, enumerate_from}
 use Rattle.bay_tree.specs.declared.row.Row.{Row}
 use Rattle.bay_tree.specs.declared.leaf.Leaf.{Leaf}
 use Rattle.bay_tree.specs.declared.leaf.Leaf.TheVariants as leaf
 use Rattle.bay_base.specs.declared.position.Dbpos.TheVariants as position
 use Rattle.bay_tree.specs.declared.leaf.Quality.TheVariants as validity
 use Rattle.bay_base.specs.declared.switch.Control.{Control}
-use Rattle.bay_base.specs.declared.switch.SwitchKind.{SwitchKind}
 use Rattle.bay_nodes.specs.declared.nameplate.Nameplate.{Nameplate}
-use Rattle.bay_nodes.specs.declared.tables.InitialValue.{InitialValue}
-use Rattle.bay_nodes.specs.declared.tables.InitialValue.TheVariants.{Structure, False, Intermediate, Good, Invalid, Int8, Int32, Unsigned8, Octets, Reference, Moment, Vendor, Model, Revision}
-use Rattle.bay_nodes.specs.Node.{node_name, row, rows_of, rows_of_parts, parts_of, inside, status, status_only, stamp, value, switch_type, command_parts, control_model_number}
+use Rattle.bay_nodes.specs.declared.subject.Subject.{Subject}
+use Rattle.bay_nodes.specs.declared.initial.InitialValue.{InitialValue}
+use Rattle.bay_nodes.specs.declared.initial.InitialValue.TheVariants.{Structure, False, Intermediate, Good, Invalid, Int8, Int32, Unsigned8, Octets, Reference, Moment, Vendor, Revision, NameSpace, Description, Local, LocalQuality, SwitchType, ControlModel, SelectTimeout, Multiplier}
+use Rattle.bay_nodes.specs.Node.{node_name, row, rows_of_parts, parts_of, value, stamp, command_parts, key_quality}
+use Rattle.bay_nodes.specs.Subjects as subject
 
 -- ---- own: the same rows line by line
 
--- the initial value of a row, with the texts of the nameplate
-abbrev pub initial_leaf : Nameplate → InitialValue → Option Leaf
-initial_leaf n Structure = None
-initial_leaf n False = Some (leaf.Truth false)
-initial_leaf n Intermediate = Some (leaf.Dbpos position.Intermediate)
-initial_leaf n Good = Some (leaf.Quality validity.Good)
-initial_leaf n Invalid = Some (leaf.Quality validity.Invalid)
-initial_leaf n (Int8 i) = Some (leaf.Int8 i)
-initial_leaf n Int32 = Some (leaf.Int32 (pos 0))
-initial_leaf n Unsigned8 = Some (leaf.Unsigned8 0)
-initial_leaf n Octets = Some (leaf.Octets [])
-initial_leaf n Reference = Some (leaf.Reference [])
-initial_leaf n Moment = Some (leaf.Utc 0)
-initial_leaf n Vendor = Some (leaf.Text n.vendor)
-initial_leaf n Model = Some (leaf.Text n.model)
-initial_leaf n Revision = Some (leaf.Text n.revision)
+-- the initial value of a row, with the texts of the nameplate and the values of the subject
+abbrev pub initial_leaf : Nameplate → Subject → InitialValue → Option Leaf
+initial_leaf n s Structure = None
+initial_leaf n s False = Some (leaf.Truth false)
+initial_leaf n s Intermediate = Some (leaf.Dbpos position.Intermediate)
+initial_leaf n s Good = Some (leaf.Quality validity.Good)
+initial_leaf n s Invalid = Some (leaf.Quality validity.Invalid)
+initial_leaf n s (Int8 i) = Some (leaf.Int8 i)
+initial_leaf n s Int32 = Some (leaf.Int32 (pos 0))
+initial_leaf n s Unsigned8 = Some (leaf.Unsigned8 0)
+initial_leaf n s Octets = Some (leaf.Octets [])
+initial_leaf n s Reference = Some (leaf.Reference [])
+initial_leaf n s Moment = Some (leaf.Utc 0)
+initial_leaf n s Vendor = Some (leaf.Text n.vendor)
+initial_leaf n s Revision = Some (leaf.Text n.revision)
+initial_leaf n s NameSpace = Some (leaf.Text (codes "IEC 61850-7-4:2007B"))
+initial_leaf n s Description = Some (leaf.Text (subject.description n s))
+initial_leaf n s Local = Some (leaf.Truth (subject.is_keyed s))
+initial_leaf n s LocalQuality = Some (leaf.Quality (key_quality (subject.is_keyed s)))
+initial_leaf n s SwitchType = Some (leaf.Int8 (subject.switch_type s))
+initial_leaf n s ControlModel = Some (leaf.Int8 (subject.control_model s))
+initial_leaf n s SelectTimeout = Some (leaf.Unsigned32 (subject.select_timeout s))
+initial_leaf n s Multiplier = Some (leaf.Int8 (subject.multiplier s))
 
 -- the row of a line, within its node
-abbrev pub line_row : Nameplate → Bor (List ℕ) × InitialValue → Row
-line_row n line = row line.0.now (initial_leaf n line.1)
+abbrev pub line_row : Nameplate → Subject → Bor (List ℕ) × InitialValue → Row
+line_row n s line = row line.0.now (initial_leaf n s line.1)
 
 -- a row of a node, from its path within the node
 abbrev pub row_of_node : List ℕ → Row → Row
 row_of_node node r = row (node ++ r.name) r.leaf
 
 -- the rows of a node, from its table
-abbrev pub table_rows : Nameplate → List ℕ → List (Bor (List ℕ) × InitialValue) → List Row
-table_rows n node table = map (row_of_node node) (map (line_row n) table)
-
--- the rows of `k` nodes of a class, each with the rows of a table, numbered from `n`
-abbrev pub tabled_nodes : Nameplate → List ℕ → List (Bor (List ℕ) × InitialValue) → ℕ → ℕ → List Row
-tabled_nodes p class table n zero = []
-tabled_nodes p class table n (suc k) =
-    (row (node_name class n) None ∷ table_rows p (node_name class n) table)
-    ++ tabled_nodes p class table (n + 1) k
-
--- the groups of XCBR and XSWI (IEC 61850-7-4, XCBR, XSWI)
-abbrev pub status_group : List Row
-status_group =
-    rows_of []
-    (inside (codes "ST")
-    (status (codes "Pos") (leaf.Dbpos position.Intermediate) validity.Invalid
-    ∷ status (codes "BlkOpn") (leaf.Truth false) validity.Good
-    ∷ status (codes "BlkCls") (leaf.Truth false) validity.Good
-    ∷ status (codes "OpCnt") (leaf.Int32 (pos 0)) validity.Good
-    ∷ []))
-
--- the type of a switch; a breaker has none (IEC 61850-7-4, SwTyp)
-abbrev pub type_rows : SwitchKind → List Row
-type_rows kind = rows_of_parts (codes "$ST") (parts_of (switch_type kind))
-
--- the control model below XCBR and XSWI: status only (IEC 61850-7-3, ctlModel)
-abbrev pub position_model : List Row
-position_model = rows_of [] (inside (codes "CF") (status_only (codes "Pos") ∷ []))
-
--- the groups of CSWI (IEC 61850-7-4, CSWI)
-abbrev pub control_group : List Row
-control_group =
-    rows_of [] (inside (codes "ST")
-    (inside (codes "Pos") (value (codes "stVal") (leaf.Dbpos position.Intermediate)
-    ∷ stamp validity.Invalid ++ value (codes "stSeld") (leaf.Truth false) ∷ []) ∷ []))
+abbrev pub table_rows : Nameplate → Subject → List ℕ → List (Bor (List ℕ) × InitialValue) → List Row
+table_rows n s node table = map (row_of_node node) (map (line_row n s) table)
 
 -- the two rows above the control rows (IEC 61850-7-2, CO)
 abbrev pub group_rows : List Row
@@ -91,8 +67,20 @@ select_row = row (codes "$CO$Pos$SBO") (Some (leaf.Reference [])) ∷ []
 abbrev pub command_rows : Control → List Row
 command_rows control = rows_of_parts [] (parts_of (command_parts control))
 
--- the control model of a switch (IEC 61850-7-3, ctlModel)
-abbrev pub control_model : Control → List Row
-control_model control =
-    row (codes "$CF") None ∷ row (codes "$CF$Pos") None
-    ∷ row (codes "$CF$Pos$ctlModel") (Some (leaf.Int8 (pos (control_model_number control)))) ∷ []
+-- the rows of an input in the group ST, by their paths below its data object (IEC 61850-7-4, Ind)
+abbrev pub input_rows : List Row
+input_rows =
+    row [] None
+    ∷ rows_of_parts [] (parts_of
+    (value (codes "stVal") (leaf.Truth false) ∷ stamp validity.Invalid))
+
+-- the rows of an input in the group DC, by their paths below its data object (IEC 61850-7-3, d)
+abbrev pub input_description_rows : List ℕ → List Row
+input_description_rows name =
+    row [] None ∷ rows_of_parts [] (parts_of (value (codes "d") (leaf.Text name) ∷ []))
+
+-- the rows of objects with these names, numbered from `n`; the names of the objects begin with
+-- `object`, and `table` has the rows below each
+abbrev pub object_rows : List ℕ → (List ℕ → List Row) → ℕ → List (List ℕ) → List Row
+object_rows object table n names =
+    flat_map (λ i. map (row_of_node (node_name object i.0)) (table i.1)) (enumerate_from n names)

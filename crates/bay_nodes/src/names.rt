@@ -16,6 +16,15 @@ pub const INTERLOCKING: &str = "CILO";
 /// The class of a meter.
 pub const METER: &str = "MMXU";
 
+/// The node of the device.
+pub const DEVICE: &str = "LLN0";
+
+/// The node of the physical device.
+pub const PHYSICAL_DEVICE: &str = "LPHD1";
+
+/// The name of the data object of an input's value, before the number of the input.
+pub const INDICATION: &str = "GGIO1$ST$Ind";
+
 /// Returns whether a switch of this kind is a circuit breaker.
 pub fn is_breaker(kind: SwitchKind) -> bool
     ensures { result ≡ spec.is_breaker kind }

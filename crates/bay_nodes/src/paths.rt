@@ -43,6 +43,38 @@ pub const CLOSING: StatusPaths = StatusPaths {
     time: "$ST$EnaCls$t",
 };
 
+/// The health of the device, below LLN0.
+pub const HEALTH: StatusPaths = StatusPaths {
+    object: "$ST$Health",
+    value: "$ST$Health$stVal",
+    quality: "$ST$Health$q",
+    time: "$ST$Health$t",
+};
+
+/// The health of the physical device, below LPHD1.
+pub const PHYSICAL_HEALTH: StatusPaths = StatusPaths {
+    object: "$ST$PhyHealth",
+    value: "$ST$PhyHealth$stVal",
+    quality: "$ST$PhyHealth$q",
+    time: "$ST$PhyHealth$t",
+};
+
+/// Whether a switch accepts local commands only.
+pub const LOCAL: StatusPaths = StatusPaths {
+    object: "$ST$Loc",
+    value: "$ST$Loc$stVal",
+    quality: "$ST$Loc$q",
+    time: "$ST$Loc$t",
+};
+
+/// The value of an input, below its data object.
+pub const INPUT: StatusPaths = StatusPaths {
+    object: "",
+    value: "$stVal",
+    quality: "$q",
+    time: "$t",
+};
+
 /// The total active power of all phases.
 pub const ACTIVE_POWER: StatusPaths = StatusPaths {
     object: "$MX$TotW",

@@ -1,51 +1,30 @@
 // The rows of a bay's logical nodes, with their initial values.
-ghost use Rattle.std.specs.Prelude.{◌≡◌, ◌<◌, ◌^◌, length, ◌++◌, ◌∷◌, [], codes, map, None, IfOk};
+ghost use Rattle.std.specs.Borrow.{Bor};
+ghost use Rattle.std.specs.Prelude.{◌≡◌, ℕ, ◌<◌, ◌^◌, List, length, ◌++◌, ◌∷◌, [], codes, map, None, IfOk};
 ghost use Rattle.std.specs.List.{flat_map};
 ghost use Rattle.bay_tree.specs.Rows.{IsTree};
-ghost use Rattle.bay_nodes.specs.Node.{row, node_rows, operate_part, cancel_part, position_parts, control_parts, class_of, device_node, physical_node, position_node, position_nodes, control_node, control_nodes, bay_rows};
+ghost use Rattle.bay_tree.specs.declared.row.Row as declared;
+ghost use Rattle.bay_nodes.specs.Node.{row, node_rows, operate_part, cancel_part, device_node, physical_node, position_node, position_nodes, control_node, control_nodes, interlocking_node, interlocking_nodes, meter_node, meter_nodes, input_nodes, bay_rows};
 ghost use Rattle.bay_nodes.specs.Node as spec;
-ghost use Rattle.bay_nodes.specs.NodeRows.{line_row, row_of_node, table_rows, tabled_nodes, group_rows, command_rows};
-ghost use Rattle.bay_nodes.specs.NodeRows as spec_node_rows;
+ghost use Rattle.bay_nodes.specs.NodeRows.{line_row, row_of_node, table_rows, group_rows, command_rows, object_rows};
+ghost use Rattle.bay_nodes.specs.declared.subject.Subject.TheVariants as subjects;
 
+use crate::initial::{InitialValue, initial_leaf};
+use crate::meter::Meter;
 use crate::nameplate::Nameplate;
-use crate::names::{CONTROL, INTERLOCKING, METER, class_of, is_in_group, node_name, row_name};
+use crate::names::{
+    CONTROL, INTERLOCKING, METER, class_of, is_breaker, is_in_group, node_name, row_name,
+};
+use crate::profile::Profile;
+use crate::subject::Subject;
 use crate::switch::Switch;
 use crate::tables as tables;
-use crate::tables::InitialValue;
 use bay_base::listing::Listing;
-use bay_base::position::Dbpos;
-use bay_base::switch::{Control, SwitchKind};
+use bay_base::switch::Control;
 use bay_base::text::Text;
-use bay_tree::leaf::{Leaf, Quality};
+use bay_tree::leaf::Leaf;
 use bay_tree::row::Row;
 use std::alloc::{AllocError, Global};
-
-// Returns the initial value of a row; `None` for a structure.
-fn initial_leaf(
-    alloc: Global,
-    nameplate: &Nameplate,
-    start: InitialValue,
-) -> Result<Option<Leaf>, AllocError>
-    ensures { IfOk result (λ leaf. leaf ≡ spec_node_rows.initial_leaf nameplate.now start) }
-{
-    let leaf = match start {
-        InitialValue::Structure => return Ok(None),
-        InitialValue::False => Leaf::Truth(false),
-        InitialValue::Intermediate => Leaf::Dbpos(Dbpos::Intermediate),
-        InitialValue::Good => Leaf::Quality(Quality::Good),
-        InitialValue::Invalid => Leaf::Quality(Quality::Invalid),
-        InitialValue::Int8(number) => Leaf::Int8(number),
-        InitialValue::Int32 => Leaf::Int32(0),
-        InitialValue::Unsigned8 => Leaf::Unsigned8(0),
-        InitialValue::Octets => Leaf::Octets(Listing::new(Vec::new(alloc))),
-        InitialValue::Reference => Leaf::Reference(Text::new(String::new(alloc))),
-        InitialValue::Moment => Leaf::Utc(0),
-        InitialValue::Vendor => Leaf::Text(Text::from_str(alloc, nameplate.vendor.as_str())?),
-        InitialValue::Model => Leaf::Text(Text::from_str(alloc, nameplate.model.as_str())?),
-        InitialValue::Revision => Leaf::Text(Text::from_str(alloc, nameplate.revision.as_str())?),
-    };
-    Ok(Some(leaf))
-}
 
 // Adds a row of a node. Its name is the node's name followed by the path of the row within the
 // node.
@@ -69,14 +48,15 @@ fn push_table(
     alloc: Global,
     rows: &mut Vec<Row>,
     nameplate: &Nameplate,
+    subject: Subject,
     node: &str,
     table: &[(&str, InitialValue)],
 ) -> Result<(), AllocError>
     ensures { IfOk result (λ _. rows.new.items
-        ≡ rows.old.items ++ table_rows nameplate.now node.now table.now) }
+        ≡ rows.old.items ++ table_rows nameplate.now subject.entry node.now table.now) }
 {
     for (path, start) in table {
-        let leaf = initial_leaf(alloc, nameplate, *start)?;
+        let leaf = initial_leaf(alloc, nameplate, subject, *start)?;
         push_row(alloc, rows, node, path, leaf)?;
     }
     Ok(())
@@ -87,14 +67,15 @@ fn push_node(
     alloc: Global,
     rows: &mut Vec<Row>,
     nameplate: &Nameplate,
+    subject: Subject,
     node: &str,
     table: &[(&str, InitialValue)],
 ) -> Result<(), AllocError>
-    ensures { IfOk result (λ _. rows.new.items
-        ≡ rows.old.items ++ row node.now None ∷ table_rows nameplate.now node.now table.now) }
+    ensures { IfOk result (λ _. rows.new.items ≡ rows.old.items
+        ++ row node.now None ∷ table_rows nameplate.now subject.entry node.now table.now) }
 {
     push_row(alloc, rows, node, "", None)?;
-    push_table(alloc, rows, nameplate, node, table)?;
+    push_table(alloc, rows, nameplate, subject, node, table)?;
     Ok(())
 }
 
@@ -104,26 +85,10 @@ fn push_device(alloc: Global, rows: &mut Vec<Row>, nameplate: &Nameplate) -> Res
         ≡ rows.old.items ++ flat_map node_rows
         (device_node nameplate.now ∷ physical_node nameplate.now ∷ [])) }
 {
-    push_node(alloc, rows, nameplate, "LLN0", tables::device_table())?;
-    push_node(alloc, rows, nameplate, "LPHD1", tables::physical_table())?;
-    Ok(())
-}
-
-// Adds the node of a breaker or another switch (IEC 61850-7-4, XCBR and XSWI).
-fn push_position_node(
-    alloc: Global,
-    rows: &mut Vec<Row>,
-    nameplate: &Nameplate,
-    node: &str,
-    kind: SwitchKind,
-) -> Result<(), AllocError>
-    ensures { IfOk result (λ _. rows.new.items
-        ≡ rows.old.items ++ node_rows (record { name = node.now; parts = position_parts kind })) }
-{
-    push_row(alloc, rows, node, "", None)?;
-    push_table(alloc, rows, nameplate, node, tables::position_table())?;
-    push_table(alloc, rows, nameplate, node, tables::type_table(kind))?;
-    push_table(alloc, rows, nameplate, node, tables::position_model_table())?;
+    let device = tables::device_table(nameplate.profile);
+    let physical = tables::physical_table();
+    push_node(alloc, rows, nameplate, Subject::Device, "LLN0", device)?;
+    push_node(alloc, rows, nameplate, Subject::Device, "LPHD1", physical)?;
     Ok(())
 }
 
@@ -132,6 +97,7 @@ fn push_selection(
     alloc: Global,
     rows: &mut Vec<Row>,
     nameplate: &Nameplate,
+    subject: Subject,
     node: &str,
     select: &[(&str, InitialValue)],
 ) -> Result<(), AllocError>
@@ -139,12 +105,27 @@ fn push_selection(
         let cancel = spec.rows_of (codes "$CO$Pos") cancel_part in
         IfOk result (λ _. rows.new.items
         ≡ rows.old.items ++ map (row_of_node node.now)
-        (group_rows ++ (map (line_row nameplate.now) select.now ++ (operate ++ cancel)))) }
+        (group_rows
+        ++ (map (line_row nameplate.now subject.entry) select.now ++ (operate ++ cancel)))) }
 {
-    push_table(alloc, rows, nameplate, node, tables::group_table())?;
-    push_table(alloc, rows, nameplate, node, select)?;
-    push_table(alloc, rows, nameplate, node, tables::operate_table())?;
-    push_table(alloc, rows, nameplate, node, tables::cancel_table())?;
+    push_table(alloc, rows, nameplate, subject, node, tables::group_table())?;
+    push_table(alloc, rows, nameplate, subject, node, select)?;
+    push_table(
+        alloc,
+        rows,
+        nameplate,
+        subject,
+        node,
+        tables::operate_table(),
+    )?;
+    push_table(
+        alloc,
+        rows,
+        nameplate,
+        subject,
+        node,
+        tables::cancel_table(),
+    )?;
     Ok(())
 }
 
@@ -153,63 +134,39 @@ fn push_commands(
     alloc: Global,
     rows: &mut Vec<Row>,
     nameplate: &Nameplate,
+    subject: Subject,
     node: &str,
     control: Control,
 ) -> Result<(), AllocError>
     ensures { IfOk result (λ _. rows.new.items
         ≡ rows.old.items ++ map (row_of_node node.now) (command_rows control)) }
 {
+    let group = tables::group_table();
+    let operate = tables::operate_table();
     match control {
         Control::Status => Ok(()),
         Control::Direct => {
-            push_table(alloc, rows, nameplate, node, tables::group_table())?;
-            push_table(alloc, rows, nameplate, node, tables::operate_table())?;
+            push_table(alloc, rows, nameplate, subject, node, group)?;
+            push_table(alloc, rows, nameplate, subject, node, operate)?;
             Ok(())
         }
-        Control::Sbo => push_selection(alloc, rows, nameplate, node, tables::select_table()),
+        Control::Sbo => push_selection(
+            alloc,
+            rows,
+            nameplate,
+            subject,
+            node,
+            tables::select_table(),
+        ),
         Control::SboEnhanced => push_selection(
             alloc,
             rows,
             nameplate,
+            subject,
             node,
             tables::select_with_value_table(),
         ),
     }
-}
-
-// Adds the node of the control of a switch (IEC 61850-7-4, CSWI).
-fn push_control_node(
-    alloc: Global,
-    rows: &mut Vec<Row>,
-    nameplate: &Nameplate,
-    node: &str,
-    switch: &Switch,
-) -> Result<(), AllocError>
-    ensures { IfOk result (λ _. rows.new.items ≡ rows.old.items
-        ++ node_rows
-        (record {
-          name = node.now;
-          parts = control_parts switch.now.control switch.now.sbo_timeout_ms;
-        })) }
-{
-    push_row(alloc, rows, node, "", None)?;
-    push_table(alloc, rows, nameplate, node, tables::control_table())?;
-    push_commands(alloc, rows, nameplate, node, switch.control)?;
-    push_table(
-        alloc,
-        rows,
-        nameplate,
-        node,
-        tables::control_model_table(switch.control),
-    )?;
-    push_row(
-        alloc,
-        rows,
-        node,
-        "$CF$Pos$sboTimeout",
-        Some(Leaf::Unsigned32(switch.sbo_timeout_ms)),
-    )?;
-    Ok(())
 }
 
 // Adds the node of the switch with this number.
@@ -220,15 +177,23 @@ fn push_position(
     number: usize,
     switch: &Switch,
 ) -> Result<(), AllocError>
-    ensures { IfOk result (λ _. rows.new.items
-        ≡ rows.old.items ++ node_rows (position_node (number, switch.now))) }
+    ensures { IfOk result (λ _. rows.new.items ≡ rows.old.items
+        ++ node_rows (position_node nameplate.now (number, switch.now))) }
 {
     let node = node_name(alloc, class_of(switch.kind), number)?;
-    push_position_node(alloc, rows, nameplate, node.as_str(), switch.kind)?;
+    let table = tables::position_table(nameplate.profile, is_breaker(switch.kind));
+    push_node(
+        alloc,
+        rows,
+        nameplate,
+        Subject::Switch(switch),
+        node.as_str(),
+        table,
+    )?;
     Ok(())
 }
 
-// Adds the node of the control with this number.
+// Adds the node of the control with this number (IEC 61850-7-4, CSWI).
 fn push_control(
     alloc: Global,
     rows: &mut Vec<Row>,
@@ -236,30 +201,62 @@ fn push_control(
     number: usize,
     switch: &Switch,
 ) -> Result<(), AllocError>
-    ensures { IfOk result (λ _. rows.new.items
-        ≡ rows.old.items ++ node_rows (control_node (number, switch.now))) }
+    ensures { IfOk result (λ _. rows.new.items ≡ rows.old.items
+        ++ node_rows (control_node nameplate.now (number, switch.now))) }
 {
-    let node = node_name(alloc, CONTROL, number)?;
-    push_control_node(alloc, rows, nameplate, node.as_str(), switch)?;
+    let name = node_name(alloc, CONTROL, number)?;
+    let node = name.as_str();
+    let subject = Subject::Switch(switch);
+    let first = tables::control_table(nameplate.profile);
+    let last = tables::control_settings_table(nameplate.profile);
+    push_node(alloc, rows, nameplate, subject, node, first)?;
+    push_commands(alloc, rows, nameplate, subject, node, switch.control)?;
+    push_table(alloc, rows, nameplate, subject, node, last)?;
     Ok(())
 }
 
-// Adds `count` nodes of a class, each with the rows of a table, numbered from 1.
-fn push_nodes(
+// Adds the node of the interlocking with this number (IEC 61850-7-4, CILO).
+fn push_interlocking(
     alloc: Global,
     rows: &mut Vec<Row>,
     nameplate: &Nameplate,
-    class: &str,
-    table: &[(&str, InitialValue)],
-    count: usize,
+    number: usize,
+    switch: &Switch,
 ) -> Result<(), AllocError>
-    ensures { IfOk result (λ _. rows.new.items
-        ≡ rows.old.items ++ tabled_nodes nameplate.now class.now table.now 1 count) }
+    ensures { IfOk result (λ _. rows.new.items ≡ rows.old.items
+        ++ node_rows (interlocking_node nameplate.now (number, switch.now))) }
 {
-    for i in 0..count {
-        let node = node_name(alloc, class, i + 1)?;
-        push_node(alloc, rows, nameplate, node.as_str(), table)?;
-    }
+    let node = node_name(alloc, INTERLOCKING, number)?;
+    let table = tables::interlocking_table(nameplate.profile);
+    push_node(
+        alloc,
+        rows,
+        nameplate,
+        Subject::Switch(switch),
+        node.as_str(),
+        table,
+    )?;
+    Ok(())
+}
+
+// Adds the node of the meter with this number (IEC 61850-7-4, MMXU).
+fn push_meter(
+    alloc: Global,
+    rows: &mut Vec<Row>,
+    nameplate: &Nameplate,
+    number: usize,
+    meter: &Meter,
+) -> Result<(), AllocError>
+    ensures { IfOk result (λ _. rows.new.items ≡ rows.old.items
+        ++ node_rows (meter_node nameplate.now (number, meter.now))) }
+{
+    let name = node_name(alloc, METER, number)?;
+    let node = name.as_str();
+    let subject = Subject::Meter(meter);
+    let first = tables::meter_table(nameplate.profile);
+    let last = tables::meter_settings_table(nameplate.profile, meter.scale.is_some());
+    push_node(alloc, rows, nameplate, subject, node, first)?;
+    push_table(alloc, rows, nameplate, subject, node, last)?;
     Ok(())
 }
 
@@ -271,8 +268,8 @@ fn push_positions(
     switches: &[Switch],
     breakers: bool,
 ) -> Result<(), AllocError>
-    ensures { IfOk result (λ _. rows.new.items
-        ≡ rows.old.items ++ flat_map node_rows (position_nodes breakers switches.now)) }
+    ensures { IfOk result (λ _. rows.new.items ≡ rows.old.items
+        ++ flat_map node_rows (position_nodes nameplate.now breakers switches.now)) }
 {
     let mut number = 1usize;
     for switch in switches {
@@ -291,13 +288,110 @@ fn push_controls(
     nameplate: &Nameplate,
     switches: &[Switch],
 ) -> Result<(), AllocError>
-    ensures { IfOk result (λ _. rows.new.items
-        ≡ rows.old.items ++ flat_map node_rows (control_nodes switches.now)) }
+    ensures { IfOk result (λ _. rows.new.items ≡ rows.old.items
+        ++ flat_map node_rows (control_nodes nameplate.now switches.now)) }
 {
     for i in 0..switches.len() {
         push_control(alloc, rows, nameplate, i + 1, &switches[i])?;
     }
     Ok(())
+}
+
+// Adds the nodes of the interlocking, numbered from 1.
+fn push_interlockings(
+    alloc: Global,
+    rows: &mut Vec<Row>,
+    nameplate: &Nameplate,
+    switches: &[Switch],
+) -> Result<(), AllocError>
+    ensures { IfOk result (λ _. rows.new.items ≡ rows.old.items
+        ++ flat_map node_rows (interlocking_nodes nameplate.now switches.now)) }
+{
+    for i in 0..switches.len() {
+        push_interlocking(alloc, rows, nameplate, i + 1, &switches[i])?;
+    }
+    Ok(())
+}
+
+// Adds the nodes of the meters, numbered from 1.
+fn push_meters(
+    alloc: Global,
+    rows: &mut Vec<Row>,
+    nameplate: &Nameplate,
+    meters: &[Meter],
+) -> Result<(), AllocError>
+    ensures { IfOk result (λ _. rows.new.items ≡ rows.old.items
+        ++ flat_map node_rows (meter_nodes nameplate.now meters.now)) }
+{
+    for i in 0..meters.len() {
+        push_meter(alloc, rows, nameplate, i + 1, &meters[i])?;
+    }
+    Ok(())
+}
+
+// Adds the data objects of the inputs in one group of the node of the inputs, numbered from 1. The
+// names of the objects begin with `object`.
+fn push_input_objects(
+    alloc: Global,
+    rows: &mut Vec<Row>,
+    nameplate: &Nameplate,
+    inputs: &[Text],
+    object: &str,
+    table: &[(&str, InitialValue)],
+) -> Result<(), AllocError>
+    ensures { (object_table : List ℕ → List declared.Row)
+        → ((name : Bor (List ℕ)) → map (line_row nameplate.now (subjects.Input name)) table.now
+        ≡ object_table name.now)
+        → IfOk result (λ _. rows.new.items
+        ≡ rows.old.items ++ object_rows object.now object_table 1 inputs.now) }
+{
+    for i in 0..inputs.len() {
+        let name = node_name(alloc, object, i + 1)?;
+        let subject = Subject::Input(inputs[i].as_str());
+        push_table(alloc, rows, nameplate, subject, name.as_str(), table)?;
+    }
+    Ok(())
+}
+
+// Adds the node of the inputs (IEC 61850-7-4, GGIO).
+fn push_inputs(
+    alloc: Global,
+    rows: &mut Vec<Row>,
+    nameplate: &Nameplate,
+    inputs: &[Text],
+) -> Result<(), AllocError>
+    ensures { IfOk result (λ _. rows.new.items
+        ≡ rows.old.items ++ node_rows (spec.input_node nameplate.now inputs.now)) }
+{
+    let device = Subject::Device;
+    let first = tables::inputs_table();
+    let value = tables::input_table();
+    let plate = tables::inputs_plate_table();
+    let text = tables::input_description_table();
+    push_node(alloc, rows, nameplate, device, "GGIO1", first)?;
+    push_input_objects(alloc, rows, nameplate, inputs, "GGIO1$ST$Ind", value)?;
+    push_table(alloc, rows, nameplate, device, "GGIO1", plate)?;
+    push_input_objects(alloc, rows, nameplate, inputs, "GGIO1$DC$Ind", text)?;
+    Ok(())
+}
+
+// Adds the node of the inputs: in profile 2, if there are inputs.
+fn push_input_node(
+    alloc: Global,
+    rows: &mut Vec<Row>,
+    nameplate: &Nameplate,
+    inputs: &[Text],
+) -> Result<(), AllocError>
+    ensures { IfOk result (λ _. rows.new.items ≡ rows.old.items
+        ++ flat_map node_rows (input_nodes nameplate.now.profile nameplate.now inputs.now)) }
+{
+    match nameplate.profile {
+        Profile::One => Ok(()),
+        Profile::Two => match inputs {
+            [] => Ok(()),
+            _ => push_inputs(alloc, rows, nameplate, inputs),
+        },
+    }
 }
 
 // The approximate number of rows of a switch, and of a meter: a hint for the capacity.
@@ -306,18 +400,21 @@ const ROWS_OF_SWITCH: usize = 64;
 const ROWS_OF_METER: usize = 40;
 
 /// Returns the rows of a bay's nodes with their initial values: those of the device, the breakers,
-/// the other switches, the controls, the interlocking, and the meters. Fails only if an allocation
-/// fails.
+/// the other switches, the controls, the interlocking, and the meters; in profile 2 also that of
+/// the inputs, if there are inputs. Fails only if an allocation fails.
 pub fn rows_of(
     alloc: Global,
     nameplate: &Nameplate,
     switches: &[Switch],
-    meters: &[Text],
+    inputs: &[Text],
+    meters: &[Meter],
 ) -> Result<Listing<Row>, AllocError>
-    ensures rows { IfOk result (λ rows. rows ≡ bay_rows nameplate.now switches.now meters.now) }
+    ensures rows { IfOk result (λ rows. rows
+        ≡ bay_rows nameplate.now switches.now inputs.now meters.now) }
 
     // Their names are distinct, and each row's parent is a structure before it.
-    ensures tree { length switches.now < 2 ^ 32 → length meters.now < 2 ^ 32 → IfOk result IsTree }
+    ensures tree { length switches.now < 2 ^ 32 → length inputs.now < 2 ^ 32
+        → length meters.now < 2 ^ 32 → IfOk result IsTree }
 {
     let of_switches = switches.len().saturating_mul(ROWS_OF_SWITCH);
     let of_meters = meters.len().saturating_mul(ROWS_OF_METER);
@@ -326,16 +423,8 @@ pub fn rows_of(
     push_positions(alloc, &mut rows, nameplate, switches, true)?;
     push_positions(alloc, &mut rows, nameplate, switches, false)?;
     push_controls(alloc, &mut rows, nameplate, switches)?;
-    let interlocking = tables::interlocking_table();
-    push_nodes(
-        alloc,
-        &mut rows,
-        nameplate,
-        INTERLOCKING,
-        interlocking,
-        switches.len(),
-    )?;
-    let meter = tables::meter_table();
-    push_nodes(alloc, &mut rows, nameplate, METER, meter, meters.len())?;
+    push_interlockings(alloc, &mut rows, nameplate, switches)?;
+    push_meters(alloc, &mut rows, nameplate, meters)?;
+    push_input_node(alloc, &mut rows, nameplate, inputs)?;
     Ok(Listing::new(rows))
 }

@@ -1,82 +1,86 @@
 // The rows of each logical node, in the order of the tree: the path from the node to the row, and
 // the row's initial value (IEC 61850-7-4; IEC 61850-8-1, names of variables).
-ghost use Rattle.std.specs.Prelude.{◌≡◌, map, codes, ◌∷◌, []};
+ghost use Rattle.std.specs.Borrow.{Bor};
+ghost use Rattle.std.specs.Prelude.{◌≡◌, map, codes, ◌∷◌, [], ℕ, List};
 ghost use Rattle.bay_nodes.specs.Node as node;
-ghost use Rattle.bay_nodes.specs.NodeRows.{line_row, status_group, type_rows, position_model, group_rows, select_row, control_group, control_model};
+ghost use Rattle.bay_nodes.specs.NodeRows.{line_row, group_rows, select_row, input_rows, input_description_rows};
+ghost use Rattle.bay_nodes.specs.declared.meter.Meter.{Meter};
 ghost use Rattle.bay_nodes.specs.declared.nameplate.Nameplate.{Nameplate};
+ghost use Rattle.bay_nodes.specs.declared.subject.Subject.{Subject};
+ghost use Rattle.bay_nodes.specs.declared.subject.Subject.TheVariants as subject;
+ghost use Rattle.bay_nodes.specs.declared.switch.Switch.{Switch};
 
-use crate::paths as paths;
-use bay_base::switch::{Control, SwitchKind};
-
-/// The initial value of a row.
-#[derive(Clone, Copy)]
-pub enum InitialValue {
-    /// No value: the row is a structure.
-    Structure,
-    /// FALSE.
-    False,
-    /// The intermediate position, or no checks set.
-    Intermediate,
-    Good,
-    Invalid,
-    Int8(i8),
-    /// A count or a measured value of 0.
-    Int32,
-    /// The number of a control, 0.
-    Unsigned8,
-    /// No octets.
-    Octets,
-    /// The empty reference.
-    Reference,
-    /// Time 0.
-    Moment,
-    /// The maker from the nameplate.
-    Vendor,
-    /// The model from the nameplate.
-    Model,
-    /// The software revision from the nameplate.
-    Revision,
-}
-
-use InitialValue::{
-    False, Good, Int8, Int32, Intermediate, Invalid, Model, Moment, Octets, Reference, Revision,
-    Structure, Unsigned8, Vendor,
+use crate::initial::InitialValue;
+use crate::initial::InitialValue::{
+    ControlModel, Description, False, Good, Int8, Int32, Intermediate, Invalid, Local,
+    LocalQuality, Moment, Multiplier, NameSpace, Octets, Reference, Revision, SelectTimeout,
+    Structure, SwitchType, Unsigned8, Vendor,
 };
+use crate::paths as paths;
+use crate::profile::Profile;
 
 /// Returns the rows below LLN0.
-pub fn device_table() -> &'static [(&'static str, InitialValue)]
-    ensures { (n : Nameplate)
-        → map (line_row n) result.now ≡ node.rows_of_parts [] (node.device_parts n) }
+pub fn device_table(profile: Profile) -> &'static [(&'static str, InitialValue)]
+    ensures { (n : Nameplate) → map (line_row n subject.Device) result.now
+        ≡ node.rows_of_parts [] (node.device_parts profile n) }
 {
-    &[
-        ("$ST", Structure),
-        ("$ST$Mod", Structure),
-        ("$ST$Mod$stVal", Int8(1)),
-        ("$ST$Mod$q", Good),
-        ("$ST$Mod$t", Moment),
-        ("$ST$Beh", Structure),
-        ("$ST$Beh$stVal", Int8(1)),
-        ("$ST$Beh$q", Good),
-        ("$ST$Beh$t", Moment),
-        ("$ST$Health", Structure),
-        ("$ST$Health$stVal", Int8(1)),
-        ("$ST$Health$q", Good),
-        ("$ST$Health$t", Moment),
-        ("$CF", Structure),
-        ("$CF$Mod", Structure),
-        ("$CF$Mod$ctlModel", Int8(0)),
-        ("$DC", Structure),
-        ("$DC$NamPlt", Structure),
-        ("$DC$NamPlt$vendor", Vendor),
-        ("$DC$NamPlt$swRev", Revision),
-        ("$DC$NamPlt$d", Model),
-    ]
+    match profile {
+        Profile::One => &[
+            ("$ST", Structure),
+            ("$ST$Mod", Structure),
+            ("$ST$Mod$stVal", Int8(1)),
+            ("$ST$Mod$q", Good),
+            ("$ST$Mod$t", Moment),
+            ("$ST$Beh", Structure),
+            ("$ST$Beh$stVal", Int8(1)),
+            ("$ST$Beh$q", Good),
+            ("$ST$Beh$t", Moment),
+            ("$ST$Health", Structure),
+            ("$ST$Health$stVal", Int8(1)),
+            ("$ST$Health$q", Good),
+            ("$ST$Health$t", Moment),
+            ("$CF", Structure),
+            ("$CF$Mod", Structure),
+            ("$CF$Mod$ctlModel", Int8(0)),
+            ("$DC", Structure),
+            ("$DC$NamPlt", Structure),
+            ("$DC$NamPlt$vendor", Vendor),
+            ("$DC$NamPlt$swRev", Revision),
+            ("$DC$NamPlt$d", Description),
+        ],
+        Profile::Two => &[
+            ("$ST", Structure),
+            ("$ST$Mod", Structure),
+            ("$ST$Mod$stVal", Int8(1)),
+            ("$ST$Mod$q", Good),
+            ("$ST$Mod$t", Moment),
+            ("$ST$Beh", Structure),
+            ("$ST$Beh$stVal", Int8(1)),
+            ("$ST$Beh$q", Good),
+            ("$ST$Beh$t", Moment),
+            ("$ST$Health", Structure),
+            ("$ST$Health$stVal", Int8(1)),
+            ("$ST$Health$q", Good),
+            ("$ST$Health$t", Moment),
+            ("$CF", Structure),
+            ("$CF$Mod", Structure),
+            ("$CF$Mod$ctlModel", Int8(0)),
+            ("$DC", Structure),
+            ("$DC$NamPlt", Structure),
+            ("$DC$NamPlt$vendor", Vendor),
+            ("$DC$NamPlt$swRev", Revision),
+            ("$DC$NamPlt$d", Description),
+            ("$DC$NamPlt$configRev", Revision),
+            ("$DC$NamPlt$ldNs", NameSpace),
+        ],
+    }
 }
 
 /// Returns the rows below LPHD1.
 pub fn physical_table() -> &'static [(&'static str, InitialValue)]
     ensures { (n : Nameplate)
-        → map (line_row n) result.now ≡ node.rows_of_parts [] (node.physical_parts n) }
+        → map (line_row n subject.Device) result.now
+        ≡ node.rows_of_parts [] (node.physical_parts n) }
 {
     &[
         ("$ST", Structure),
@@ -94,95 +98,192 @@ pub fn physical_table() -> &'static [(&'static str, InitialValue)]
     ]
 }
 
-/// Returns the first rows below XCBR and XSWI, up to the type of the switch.
-pub fn position_table() -> &'static [(&'static str, InitialValue)]
-    ensures { (n : Nameplate) → map (line_row n) result.now ≡ status_group }
+/// Returns the rows below XCBR, or below XSWI if `breaker` is false.
+pub fn position_table(profile: Profile, breaker: bool) -> &'static [(&'static str, InitialValue)]
+    ensures { (n : Nameplate) (s : Bor Switch) → map (line_row n (subject.Switch s)) result.now
+        ≡ node.rows_of_parts [] (node.position_parts profile breaker n s.now) }
 {
-    &[
-        ("$ST", Structure),
-        (paths::POSITION.object, Structure),
-        (paths::POSITION.value, Intermediate),
-        (paths::POSITION.quality, Invalid),
-        (paths::POSITION.time, Moment),
-        ("$ST$BlkOpn", Structure),
-        ("$ST$BlkOpn$stVal", False),
-        ("$ST$BlkOpn$q", Good),
-        ("$ST$BlkOpn$t", Moment),
-        ("$ST$BlkCls", Structure),
-        ("$ST$BlkCls$stVal", False),
-        ("$ST$BlkCls$q", Good),
-        ("$ST$BlkCls$t", Moment),
-        (paths::OPERATIONS.object, Structure),
-        (paths::OPERATIONS.value, Int32),
-        (paths::OPERATIONS.quality, Good),
-        (paths::OPERATIONS.time, Moment),
-    ]
-}
-
-/// Returns the rows with the type of a switch; a breaker has none.
-pub fn type_table(kind: SwitchKind) -> &'static [(&'static str, InitialValue)]
-    ensures { (n : Nameplate) → map (line_row n) result.now ≡ type_rows kind }
-{
-    match kind {
-        SwitchKind::Breaker => &[],
-        SwitchKind::Disconnector => &[
-            ("$ST$SwTyp", Structure),
-            ("$ST$SwTyp$stVal", Int8(2)),
-            ("$ST$SwTyp$q", Good),
-            ("$ST$SwTyp$t", Moment),
+    match (profile, breaker) {
+        (Profile::One, true) => &[
+            ("$ST", Structure),
+            (paths::POSITION.object, Structure),
+            (paths::POSITION.value, Intermediate),
+            (paths::POSITION.quality, Invalid),
+            (paths::POSITION.time, Moment),
+            ("$ST$BlkOpn", Structure),
+            ("$ST$BlkOpn$stVal", False),
+            ("$ST$BlkOpn$q", Good),
+            ("$ST$BlkOpn$t", Moment),
+            ("$ST$BlkCls", Structure),
+            ("$ST$BlkCls$stVal", False),
+            ("$ST$BlkCls$q", Good),
+            ("$ST$BlkCls$t", Moment),
+            (paths::OPERATIONS.object, Structure),
+            (paths::OPERATIONS.value, Int32),
+            (paths::OPERATIONS.quality, Good),
+            (paths::OPERATIONS.time, Moment),
+            ("$CF", Structure),
+            ("$CF$Pos", Structure),
+            ("$CF$Pos$ctlModel", Int8(0)),
         ],
-        SwitchKind::Earthing => &[
+        (Profile::One, false) => &[
+            ("$ST", Structure),
+            (paths::POSITION.object, Structure),
+            (paths::POSITION.value, Intermediate),
+            (paths::POSITION.quality, Invalid),
+            (paths::POSITION.time, Moment),
+            ("$ST$BlkOpn", Structure),
+            ("$ST$BlkOpn$stVal", False),
+            ("$ST$BlkOpn$q", Good),
+            ("$ST$BlkOpn$t", Moment),
+            ("$ST$BlkCls", Structure),
+            ("$ST$BlkCls$stVal", False),
+            ("$ST$BlkCls$q", Good),
+            ("$ST$BlkCls$t", Moment),
+            (paths::OPERATIONS.object, Structure),
+            (paths::OPERATIONS.value, Int32),
+            (paths::OPERATIONS.quality, Good),
+            (paths::OPERATIONS.time, Moment),
             ("$ST$SwTyp", Structure),
-            ("$ST$SwTyp$stVal", Int8(3)),
+            ("$ST$SwTyp$stVal", SwitchType),
             ("$ST$SwTyp$q", Good),
             ("$ST$SwTyp$t", Moment),
+            ("$CF", Structure),
+            ("$CF$Pos", Structure),
+            ("$CF$Pos$ctlModel", Int8(0)),
+        ],
+        (Profile::Two, true) => &[
+            ("$ST", Structure),
+            ("$ST$Beh", Structure),
+            ("$ST$Beh$stVal", Int8(1)),
+            ("$ST$Beh$q", Good),
+            ("$ST$Beh$t", Moment),
+            (paths::LOCAL.object, Structure),
+            (paths::LOCAL.value, Local),
+            (paths::LOCAL.quality, LocalQuality),
+            (paths::LOCAL.time, Moment),
+            (paths::OPERATIONS.object, Structure),
+            (paths::OPERATIONS.value, Int32),
+            (paths::OPERATIONS.quality, Good),
+            (paths::OPERATIONS.time, Moment),
+            ("$ST$CBOpCap", Structure),
+            ("$ST$CBOpCap$stVal", Int8(2)),
+            ("$ST$CBOpCap$q", Good),
+            ("$ST$CBOpCap$t", Moment),
+            (paths::POSITION.object, Structure),
+            (paths::POSITION.value, Intermediate),
+            (paths::POSITION.quality, Invalid),
+            (paths::POSITION.time, Moment),
+            ("$ST$BlkOpn", Structure),
+            ("$ST$BlkOpn$stVal", False),
+            ("$ST$BlkOpn$q", Good),
+            ("$ST$BlkOpn$t", Moment),
+            ("$ST$BlkCls", Structure),
+            ("$ST$BlkCls$stVal", False),
+            ("$ST$BlkCls$q", Good),
+            ("$ST$BlkCls$t", Moment),
+            ("$CF", Structure),
+            ("$CF$Pos", Structure),
+            ("$CF$Pos$ctlModel", Int8(0)),
+            ("$DC", Structure),
+            ("$DC$NamPlt", Structure),
+            ("$DC$NamPlt$vendor", Vendor),
+            ("$DC$NamPlt$swRev", Revision),
+            ("$DC$NamPlt$d", Description),
+        ],
+        (Profile::Two, false) => &[
+            ("$ST", Structure),
+            ("$ST$Beh", Structure),
+            ("$ST$Beh$stVal", Int8(1)),
+            ("$ST$Beh$q", Good),
+            ("$ST$Beh$t", Moment),
+            (paths::LOCAL.object, Structure),
+            (paths::LOCAL.value, Local),
+            (paths::LOCAL.quality, LocalQuality),
+            (paths::LOCAL.time, Moment),
+            (paths::OPERATIONS.object, Structure),
+            (paths::OPERATIONS.value, Int32),
+            (paths::OPERATIONS.quality, Good),
+            (paths::OPERATIONS.time, Moment),
+            ("$ST$SwTyp", Structure),
+            ("$ST$SwTyp$stVal", SwitchType),
+            ("$ST$SwTyp$q", Good),
+            ("$ST$SwTyp$t", Moment),
+            ("$ST$SwOpCap", Structure),
+            ("$ST$SwOpCap$stVal", Int8(2)),
+            ("$ST$SwOpCap$q", Good),
+            ("$ST$SwOpCap$t", Moment),
+            (paths::POSITION.object, Structure),
+            (paths::POSITION.value, Intermediate),
+            (paths::POSITION.quality, Invalid),
+            (paths::POSITION.time, Moment),
+            ("$ST$BlkOpn", Structure),
+            ("$ST$BlkOpn$stVal", False),
+            ("$ST$BlkOpn$q", Good),
+            ("$ST$BlkOpn$t", Moment),
+            ("$ST$BlkCls", Structure),
+            ("$ST$BlkCls$stVal", False),
+            ("$ST$BlkCls$q", Good),
+            ("$ST$BlkCls$t", Moment),
+            ("$CF", Structure),
+            ("$CF$Pos", Structure),
+            ("$CF$Pos$ctlModel", Int8(0)),
+            ("$DC", Structure),
+            ("$DC$NamPlt", Structure),
+            ("$DC$NamPlt$vendor", Vendor),
+            ("$DC$NamPlt$swRev", Revision),
+            ("$DC$NamPlt$d", Description),
         ],
     }
 }
 
-/// Returns the last rows below XCBR and XSWI.
-pub fn position_model_table() -> &'static [(&'static str, InitialValue)]
-    ensures { (n : Nameplate) → map (line_row n) result.now ≡ position_model }
-{
-    &[
-        ("$CF", Structure),
-        ("$CF$Pos", Structure),
-        ("$CF$Pos$ctlModel", Int8(0)),
-    ]
-}
-
 /// Returns the first rows below CSWI: the position of its switch, and whether it is selected.
-pub fn control_table() -> &'static [(&'static str, InitialValue)]
-    ensures { (n : Nameplate) → map (line_row n) result.now ≡ control_group }
+pub fn control_table(profile: Profile) -> &'static [(&'static str, InitialValue)]
+    ensures { (n : Nameplate) (s : Subject)
+        → map (line_row n s) result.now ≡ node.rows_of [] (node.control_status profile) }
 {
-    &[
-        ("$ST", Structure),
-        (paths::POSITION.object, Structure),
-        (paths::POSITION.value, Intermediate),
-        (paths::POSITION.quality, Invalid),
-        (paths::POSITION.time, Moment),
-        (paths::SELECTED, False),
-    ]
+    match profile {
+        Profile::One => &[
+            ("$ST", Structure),
+            (paths::POSITION.object, Structure),
+            (paths::POSITION.value, Intermediate),
+            (paths::POSITION.quality, Invalid),
+            (paths::POSITION.time, Moment),
+            (paths::SELECTED, False),
+        ],
+        Profile::Two => &[
+            ("$ST", Structure),
+            ("$ST$Beh", Structure),
+            ("$ST$Beh$stVal", Int8(1)),
+            ("$ST$Beh$q", Good),
+            ("$ST$Beh$t", Moment),
+            (paths::POSITION.object, Structure),
+            (paths::POSITION.value, Intermediate),
+            (paths::POSITION.quality, Invalid),
+            (paths::POSITION.time, Moment),
+            (paths::SELECTED, False),
+        ],
+    }
 }
 
 /// Returns the rows that group the control rows.
 pub fn group_table() -> &'static [(&'static str, InitialValue)]
-    ensures { (n : Nameplate) → map (line_row n) result.now ≡ group_rows }
+    ensures { (n : Nameplate) (s : Subject) → map (line_row n s) result.now ≡ group_rows }
 {
     &[("$CO", Structure), ("$CO$Pos", Structure)]
 }
 
 /// Returns the row by which a switch is selected.
 pub fn select_table() -> &'static [(&'static str, InitialValue)]
-    ensures { (n : Nameplate) → map (line_row n) result.now ≡ select_row }
+    ensures { (n : Nameplate) (s : Subject) → map (line_row n s) result.now ≡ select_row }
 {
     &[(paths::SELECT, Reference)]
 }
 
 /// Returns the rows by which a switch is selected with value.
 pub fn select_with_value_table() -> &'static [(&'static str, InitialValue)]
-    ensures { (n : Nameplate)
-        → map (line_row n) result.now
+    ensures { (n : Nameplate) (s : Subject)
+        → map (line_row n s) result.now
         ≡ node.rows_of (codes "$CO$Pos") (node.operate_part (codes "SBOw")) }
 {
     &[
@@ -200,8 +301,8 @@ pub fn select_with_value_table() -> &'static [(&'static str, InitialValue)]
 
 /// Returns the rows by which a switch is operated.
 pub fn operate_table() -> &'static [(&'static str, InitialValue)]
-    ensures { (n : Nameplate)
-        → map (line_row n) result.now
+    ensures { (n : Nameplate) (s : Subject)
+        → map (line_row n s) result.now
         ≡ node.rows_of (codes "$CO$Pos") (node.operate_part (codes "Oper")) }
 {
     &[
@@ -219,8 +320,8 @@ pub fn operate_table() -> &'static [(&'static str, InitialValue)]
 
 /// Returns the rows by which a selection is cancelled.
 pub fn cancel_table() -> &'static [(&'static str, InitialValue)]
-    ensures { (n : Nameplate)
-        → map (line_row n) result.now ≡ node.rows_of (codes "$CO$Pos") node.cancel_part }
+    ensures { (n : Nameplate) (s : Subject)
+        → map (line_row n s) result.now ≡ node.rows_of (codes "$CO$Pos") node.cancel_part }
 {
     &[
         (paths::CANCEL, Structure),
@@ -234,92 +335,261 @@ pub fn cancel_table() -> &'static [(&'static str, InitialValue)]
     ]
 }
 
-/// Returns the rows with the control model (IEC 61850-7-3, ctlModel).
-pub fn control_model_table(control: Control) -> &'static [(&'static str, InitialValue)]
-    ensures { (n : Nameplate) → map (line_row n) result.now ≡ control_model control }
+/// Returns the last rows below CSWI: the settings of the control (IEC 61850-7-3, ctlModel and
+/// sboTimeout), and the name plate.
+pub fn control_settings_table(profile: Profile) -> &'static [(&'static str, InitialValue)]
+    ensures { (n : Nameplate) (s : Bor Switch) → map (line_row n (subject.Switch s)) result.now
+        ≡ node.rows_of_parts [] (node.parts_of (node.control_settings profile n s.now)) }
 {
-    match control {
-        Control::Status => &[
+    match profile {
+        Profile::One => &[
             ("$CF", Structure),
             ("$CF$Pos", Structure),
-            ("$CF$Pos$ctlModel", Int8(0)),
+            ("$CF$Pos$ctlModel", ControlModel),
+            ("$CF$Pos$sboTimeout", SelectTimeout),
         ],
-        Control::Direct => &[
+        Profile::Two => &[
             ("$CF", Structure),
             ("$CF$Pos", Structure),
-            ("$CF$Pos$ctlModel", Int8(1)),
-        ],
-        Control::Sbo => &[
-            ("$CF", Structure),
-            ("$CF$Pos", Structure),
-            ("$CF$Pos$ctlModel", Int8(2)),
-        ],
-        Control::SboEnhanced => &[
-            ("$CF", Structure),
-            ("$CF$Pos", Structure),
-            ("$CF$Pos$ctlModel", Int8(4)),
+            ("$CF$Pos$ctlModel", ControlModel),
+            ("$CF$Pos$sboTimeout", SelectTimeout),
+            ("$DC", Structure),
+            ("$DC$NamPlt", Structure),
+            ("$DC$NamPlt$vendor", Vendor),
+            ("$DC$NamPlt$swRev", Revision),
+            ("$DC$NamPlt$d", Description),
         ],
     }
 }
 
 /// Returns the rows below CILO.
-pub fn interlocking_table() -> &'static [(&'static str, InitialValue)]
-    ensures { (n : Nameplate)
-        → map (line_row n) result.now ≡ node.rows_of_parts [] node.interlocking_parts }
+pub fn interlocking_table(profile: Profile) -> &'static [(&'static str, InitialValue)]
+    ensures { (n : Nameplate) (s : Bor Switch) → map (line_row n (subject.Switch s)) result.now
+        ≡ node.rows_of_parts [] (node.interlocking_parts profile n s.now) }
+{
+    match profile {
+        Profile::One => &[
+            ("$ST", Structure),
+            (paths::OPENING.object, Structure),
+            (paths::OPENING.value, False),
+            (paths::OPENING.quality, Invalid),
+            (paths::OPENING.time, Moment),
+            (paths::CLOSING.object, Structure),
+            (paths::CLOSING.value, False),
+            (paths::CLOSING.quality, Invalid),
+            (paths::CLOSING.time, Moment),
+        ],
+        Profile::Two => &[
+            ("$ST", Structure),
+            ("$ST$Beh", Structure),
+            ("$ST$Beh$stVal", Int8(1)),
+            ("$ST$Beh$q", Good),
+            ("$ST$Beh$t", Moment),
+            (paths::OPENING.object, Structure),
+            (paths::OPENING.value, False),
+            (paths::OPENING.quality, Invalid),
+            (paths::OPENING.time, Moment),
+            (paths::CLOSING.object, Structure),
+            (paths::CLOSING.value, False),
+            (paths::CLOSING.quality, Invalid),
+            (paths::CLOSING.time, Moment),
+            ("$DC", Structure),
+            ("$DC$NamPlt", Structure),
+            ("$DC$NamPlt$vendor", Vendor),
+            ("$DC$NamPlt$swRev", Revision),
+            ("$DC$NamPlt$d", Description),
+        ],
+    }
+}
+
+/// Returns the first rows below MMXU: the measured values.
+pub fn meter_table(profile: Profile) -> &'static [(&'static str, InitialValue)]
+    ensures { (n : Nameplate) (s : Subject) → map (line_row n s) result.now
+        ≡ node.rows_of_parts [] (node.parts_of (node.meter_values profile)) }
+{
+    match profile {
+        Profile::One => &[
+            ("$MX", Structure),
+            (paths::ACTIVE_POWER.object, Structure),
+            ("$MX$TotW$mag", Structure),
+            (paths::ACTIVE_POWER.value, Int32),
+            (paths::ACTIVE_POWER.quality, Invalid),
+            (paths::ACTIVE_POWER.time, Moment),
+            (paths::REACTIVE_POWER.object, Structure),
+            ("$MX$TotVAr$mag", Structure),
+            (paths::REACTIVE_POWER.value, Int32),
+            (paths::REACTIVE_POWER.quality, Invalid),
+            (paths::REACTIVE_POWER.time, Moment),
+            (paths::FREQUENCY.object, Structure),
+            ("$MX$Hz$mag", Structure),
+            (paths::FREQUENCY.value, Int32),
+            (paths::FREQUENCY.quality, Invalid),
+            (paths::FREQUENCY.time, Moment),
+            ("$MX$A", Structure),
+            (paths::PHASE_A.object, Structure),
+            ("$MX$A$phsA$cVal", Structure),
+            ("$MX$A$phsA$cVal$mag", Structure),
+            (paths::PHASE_A.value, Int32),
+            (paths::PHASE_A.quality, Invalid),
+            (paths::PHASE_A.time, Moment),
+            (paths::PHASE_B.object, Structure),
+            ("$MX$A$phsB$cVal", Structure),
+            ("$MX$A$phsB$cVal$mag", Structure),
+            (paths::PHASE_B.value, Int32),
+            (paths::PHASE_B.quality, Invalid),
+            (paths::PHASE_B.time, Moment),
+            (paths::PHASE_C.object, Structure),
+            ("$MX$A$phsC$cVal", Structure),
+            ("$MX$A$phsC$cVal$mag", Structure),
+            (paths::PHASE_C.value, Int32),
+            (paths::PHASE_C.quality, Invalid),
+            (paths::PHASE_C.time, Moment),
+        ],
+        Profile::Two => &[
+            ("$ST", Structure),
+            ("$ST$Beh", Structure),
+            ("$ST$Beh$stVal", Int8(1)),
+            ("$ST$Beh$q", Good),
+            ("$ST$Beh$t", Moment),
+            ("$MX", Structure),
+            (paths::ACTIVE_POWER.object, Structure),
+            ("$MX$TotW$mag", Structure),
+            (paths::ACTIVE_POWER.value, Int32),
+            (paths::ACTIVE_POWER.quality, Invalid),
+            (paths::ACTIVE_POWER.time, Moment),
+            (paths::REACTIVE_POWER.object, Structure),
+            ("$MX$TotVAr$mag", Structure),
+            (paths::REACTIVE_POWER.value, Int32),
+            (paths::REACTIVE_POWER.quality, Invalid),
+            (paths::REACTIVE_POWER.time, Moment),
+            (paths::FREQUENCY.object, Structure),
+            ("$MX$Hz$mag", Structure),
+            (paths::FREQUENCY.value, Int32),
+            (paths::FREQUENCY.quality, Invalid),
+            (paths::FREQUENCY.time, Moment),
+            ("$MX$A", Structure),
+            (paths::PHASE_A.object, Structure),
+            ("$MX$A$phsA$cVal", Structure),
+            ("$MX$A$phsA$cVal$mag", Structure),
+            (paths::PHASE_A.value, Int32),
+            (paths::PHASE_A.quality, Invalid),
+            (paths::PHASE_A.time, Moment),
+            (paths::PHASE_B.object, Structure),
+            ("$MX$A$phsB$cVal", Structure),
+            ("$MX$A$phsB$cVal$mag", Structure),
+            (paths::PHASE_B.value, Int32),
+            (paths::PHASE_B.quality, Invalid),
+            (paths::PHASE_B.time, Moment),
+            (paths::PHASE_C.object, Structure),
+            ("$MX$A$phsC$cVal", Structure),
+            ("$MX$A$phsC$cVal$mag", Structure),
+            (paths::PHASE_C.value, Int32),
+            (paths::PHASE_C.quality, Invalid),
+            (paths::PHASE_C.time, Moment),
+        ],
+    }
+}
+
+/// Returns the last rows below MMXU: the units of the values (IEC 61850-7-3, SIUnit: 62 is W, 63
+/// VAr, 33 Hz, 5 A) of a meter with a scale, and the name plate.
+pub fn meter_settings_table(
+    profile: Profile,
+    scaled: bool,
+) -> &'static [(&'static str, InitialValue)]
+    ensures { (n : Nameplate) (m : Bor Meter) → map (line_row n (subject.Meter m)) result.now
+        ≡ node.rows_of_parts [] (node.parts_of (node.meter_settings profile scaled n m.now)) }
+{
+    match (profile, scaled) {
+        (Profile::One, _) => &[],
+        (Profile::Two, false) => &[
+            ("$DC", Structure),
+            ("$DC$NamPlt", Structure),
+            ("$DC$NamPlt$vendor", Vendor),
+            ("$DC$NamPlt$swRev", Revision),
+            ("$DC$NamPlt$d", Description),
+        ],
+        (Profile::Two, true) => &[
+            ("$CF", Structure),
+            ("$CF$TotW", Structure),
+            ("$CF$TotW$units", Structure),
+            ("$CF$TotW$units$SIUnit", Int8(62)),
+            ("$CF$TotW$units$multiplier", Multiplier),
+            ("$CF$TotVAr", Structure),
+            ("$CF$TotVAr$units", Structure),
+            ("$CF$TotVAr$units$SIUnit", Int8(63)),
+            ("$CF$TotVAr$units$multiplier", Multiplier),
+            ("$CF$Hz", Structure),
+            ("$CF$Hz$units", Structure),
+            ("$CF$Hz$units$SIUnit", Int8(33)),
+            ("$CF$Hz$units$multiplier", Multiplier),
+            ("$CF$A", Structure),
+            ("$CF$A$phsA", Structure),
+            ("$CF$A$phsA$units", Structure),
+            ("$CF$A$phsA$units$SIUnit", Int8(5)),
+            ("$CF$A$phsA$units$multiplier", Multiplier),
+            ("$CF$A$phsB", Structure),
+            ("$CF$A$phsB$units", Structure),
+            ("$CF$A$phsB$units$SIUnit", Int8(5)),
+            ("$CF$A$phsB$units$multiplier", Multiplier),
+            ("$CF$A$phsC", Structure),
+            ("$CF$A$phsC$units", Structure),
+            ("$CF$A$phsC$units$SIUnit", Int8(5)),
+            ("$CF$A$phsC$units$multiplier", Multiplier),
+            ("$DC", Structure),
+            ("$DC$NamPlt", Structure),
+            ("$DC$NamPlt$vendor", Vendor),
+            ("$DC$NamPlt$swRev", Revision),
+            ("$DC$NamPlt$d", Description),
+        ],
+    }
+}
+
+/// Returns the first rows below GGIO1.
+pub fn inputs_table() -> &'static [(&'static str, InitialValue)]
+    ensures { (n : Nameplate) (s : Subject) → map (line_row n s) result.now
+        ≡ node.rows_of [] (node.inside (codes "ST") (node.behaviour Profile.Two)) }
 {
     &[
         ("$ST", Structure),
-        (paths::OPENING.object, Structure),
-        (paths::OPENING.value, False),
-        (paths::OPENING.quality, Invalid),
-        (paths::OPENING.time, Moment),
-        (paths::CLOSING.object, Structure),
-        (paths::CLOSING.value, False),
-        (paths::CLOSING.quality, Invalid),
-        (paths::CLOSING.time, Moment),
+        ("$ST$Beh", Structure),
+        ("$ST$Beh$stVal", Int8(1)),
+        ("$ST$Beh$q", Good),
+        ("$ST$Beh$t", Moment),
     ]
 }
 
-/// Returns the rows below MMXU.
-pub fn meter_table() -> &'static [(&'static str, InitialValue)]
-    ensures { (n : Nameplate)
-        → map (line_row n) result.now ≡ node.rows_of_parts [] node.meter_parts }
+/// Returns the rows below the data object of an input, in the group ST.
+pub fn input_table() -> &'static [(&'static str, InitialValue)]
+    ensures { (n : Nameplate) (s : Subject) → map (line_row n s) result.now
+        ≡ input_rows }
 {
     &[
-        ("$MX", Structure),
-        (paths::ACTIVE_POWER.object, Structure),
-        ("$MX$TotW$mag", Structure),
-        (paths::ACTIVE_POWER.value, Int32),
-        (paths::ACTIVE_POWER.quality, Invalid),
-        (paths::ACTIVE_POWER.time, Moment),
-        (paths::REACTIVE_POWER.object, Structure),
-        ("$MX$TotVAr$mag", Structure),
-        (paths::REACTIVE_POWER.value, Int32),
-        (paths::REACTIVE_POWER.quality, Invalid),
-        (paths::REACTIVE_POWER.time, Moment),
-        (paths::FREQUENCY.object, Structure),
-        ("$MX$Hz$mag", Structure),
-        (paths::FREQUENCY.value, Int32),
-        (paths::FREQUENCY.quality, Invalid),
-        (paths::FREQUENCY.time, Moment),
-        ("$MX$A", Structure),
-        (paths::PHASE_A.object, Structure),
-        ("$MX$A$phsA$cVal", Structure),
-        ("$MX$A$phsA$cVal$mag", Structure),
-        (paths::PHASE_A.value, Int32),
-        (paths::PHASE_A.quality, Invalid),
-        (paths::PHASE_A.time, Moment),
-        (paths::PHASE_B.object, Structure),
-        ("$MX$A$phsB$cVal", Structure),
-        ("$MX$A$phsB$cVal$mag", Structure),
-        (paths::PHASE_B.value, Int32),
-        (paths::PHASE_B.quality, Invalid),
-        (paths::PHASE_B.time, Moment),
-        (paths::PHASE_C.object, Structure),
-        ("$MX$A$phsC$cVal", Structure),
-        ("$MX$A$phsC$cVal$mag", Structure),
-        (paths::PHASE_C.value, Int32),
-        (paths::PHASE_C.quality, Invalid),
-        (paths::PHASE_C.time, Moment),
+        (paths::INPUT.object, Structure),
+        (paths::INPUT.value, False),
+        (paths::INPUT.quality, Invalid),
+        (paths::INPUT.time, Moment),
     ]
+}
+
+/// Returns the rows of the group DC of GGIO1, up to the descriptions of the inputs.
+pub fn inputs_plate_table() -> &'static [(&'static str, InitialValue)]
+    ensures { (n : Nameplate) → map (line_row n subject.Device) result.now
+        ≡ node.rows_of_parts [] (node.parts_of (node.description_group Profile.Two n n.model)) }
+{
+    &[
+        ("$DC", Structure),
+        ("$DC$NamPlt", Structure),
+        ("$DC$NamPlt$vendor", Vendor),
+        ("$DC$NamPlt$swRev", Revision),
+        ("$DC$NamPlt$d", Description),
+    ]
+}
+
+/// Returns the rows below the data object of an input, in the group DC.
+pub fn input_description_table() -> &'static [(&'static str, InitialValue)]
+    ensures { (n : Nameplate) (name : Bor (List ℕ))
+        → map (line_row n (subject.Input name)) result.now
+        ≡ input_description_rows name.now }
+{
+    &[("", Structure), ("$d", Description)]
 }

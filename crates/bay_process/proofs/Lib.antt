@@ -1,7 +1,10 @@
 pub mod BoundLemmas
+pub mod BoundModelLemmas
 pub mod FieldLemmas
+pub mod HandleLemmas
 pub mod KeptLemmas
 pub mod ListLemmas
+pub mod ModelLemmas
 pub mod NodeLemmas
 pub mod ReadLemmas
 pub mod ReleaseLemmas

@@ -43,7 +43,7 @@ has-leaf : (rows : List Row) (name : List ℕ) (value : Leaf) → IsTree rows
 has-leaf rows name value tree w =
     ap (option_map leaf_type_of) (contains-leaf rows name value tree w)
 
-has-value : (rows : List Row) (names : StatusNames) (value : Leaf) (quality : Validity)
+pub has-value : (rows : List Row) (names : StatusNames) (value : Leaf) (quality : Validity)
     → IsTree rows → HasValue rows names value quality → HasStatus rows names (leaf_type_of value)
 has-value rows names value quality tree h = record {
   value_leaf = has-leaf rows names.value value tree h.value_there;
@@ -157,7 +157,7 @@ found-leaf_type : (rows : List Row) (name : List ℕ) (leaf_type : LeafType) (ha
 found-leaf_type rows name leaf_type handle h f =
     leaf_type_at-in rows handle ∙ ap (option_map leaf_type_of) f.value ∙ h
 
-found-leaf_types : (rows : List Row) (names : StatusNames) (leaf_type : LeafType)
+pub found-leaf_types : (rows : List Row) (names : StatusNames) (leaf_type : LeafType)
     (handles : StatusRows) → HasStatus rows names leaf_type → AreHandlesOf rows names handles
     → AreStatusRows (layout_of rows) leaf_type handles
 found-leaf_types rows names leaf_type handles h f = record {
@@ -167,7 +167,7 @@ found-leaf_types rows names leaf_type handles h f = record {
   time_type = found-leaf_type rows names.time _ handles.time h.time_leaf f.time_found;
 }
 
-found-names : (rows : List Row) (names : StatusNames) (handles : StatusRows)
+pub found-names : (rows : List Row) (names : StatusNames) (handles : StatusRows)
     → AreHandlesOf rows names handles → status_names_in (layout_of rows) handles ≡ names
 found-names rows names handles f =
     let value : row_name_in (layout_of rows) handles.value ≡ names.value =

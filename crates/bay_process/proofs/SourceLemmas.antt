@@ -8,6 +8,7 @@ use Rattle.bay_base.specs.declared.types.ElementaryType.{ElementaryType}
 use Rattle.bay_config.specs.Point.{inputs_from, meters_from, points_from, bay_points}
 use Rattle.bay_base.specs.declared.point.Source.{Source}
 use Rattle.bay_base.specs.declared.point.Point.{Point}
+use Rattle.bay_nodes.specs.declared.meter.Meter.{Meter}
 use Rattle.bay_nodes.specs.declared.switch.Switch.{Switch}
 use Rattle.il_image.specs.Images.{Each}
 use Rattle.il_image.specs.declared.image.ImagePoint.{ImagePoint}
@@ -35,13 +36,13 @@ inputs-typed : (index : ℕ) (names : List (List ℕ)) → Each IsTyped (inputs_
 inputs-typed index [] = tt
 inputs-typed index (n ∷ names) = (refl, inputs-typed (index + 1) names)
 
-meters-typed : (index : ℕ) (ids : List (List ℕ)) → Each IsTyped (meters_from index ids)
+meters-typed : (index : ℕ) (meters : List Meter) → Each IsTyped (meters_from index meters)
 meters-typed index [] = tt
-meters-typed index (m ∷ ids) =
-    (refl, (refl, (refl, (refl, (refl, (refl, meters-typed (index + 1) ids))))))
+meters-typed index (m ∷ meters) =
+    (refl, (refl, (refl, (refl, (refl, (refl, meters-typed (index + 1) meters))))))
 
 -- each point of a bay does
-pub bay-typed : (switches : List Switch) (inputs meters : List (List ℕ))
+pub bay-typed : (switches : List Switch) (inputs : List (List ℕ)) (meters : List Meter)
     → Each IsTyped (bay_points switches inputs meters)
 bay-typed switches inputs meters =
     both (points_from 0 switches) _ (switches-typed 0 switches)

@@ -13,6 +13,7 @@
 -- `Nodes` and `Controls`: the handles of the rows of switches and controls in a tree. `Scans`: what
 -- a scan reads and writes, by handle. `Releases`: the text of the interlocking values.
 -- `ReportedRows`: the stored text has the values of the rows, which have good quality after a scan.
+-- `Model`: what events do to the rows that profile 2 adds, by name; `ModelRows` the same by handle.
 -- `Parts`: the parts of a device's state.
 
 -- The definitions of lower crates that public clauses cite.
@@ -22,6 +23,8 @@ pub use Rattle.bay_tree.specs.Rows
 -- Its own definitions.
 pub mod Controls
 pub mod Layout
+pub mod Model
+pub mod ModelRows
 pub mod Names
 pub mod Nodes
 pub mod Parts

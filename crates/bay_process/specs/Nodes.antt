@@ -1,6 +1,6 @@
 -- The rows of a bay's switches by the names of their nodes, and the handles that a tree returns for
 -- them.
-use Rattle.std.specs.Prelude.{◌≡◌, ◌≢◌, ℕ, ◌+◌, codes, List, Some, None, option_map, slice_get}
+use Rattle.std.specs.Prelude.{◌≡◌, ◌≢◌, ℕ, ◌+◌, ◌<◌, codes, length, List, Some, None, option_map, slice_get}
 use Rattle.bay_tree.specs.LeafTypes.{leaf_type_of}
 use Rattle.bay_tree.specs.Rows.{name_at, leaf_at, leaf_named}
 use Rattle.bay_tree.specs.declared.row.Row.{Row}
@@ -8,9 +8,15 @@ use Rattle.bay_tree.specs.declared.leaf.LeafType.{LeafType}
 use Rattle.bay_tree.specs.declared.leaf.LeafType.TheVariants as leaf_type
 use Rattle.bay_config.specs.declared.bay.Bay.{Bay}
 use Rattle.bay_nodes.specs.Node.{node_name}
-use Rattle.bay_config.specs.Laws.{NamesPosition, NamesControl, NamesInterlocking, NamesMeter}
+use Rattle.bay_config.specs.Laws.{IsBay, NamesPosition, NamesControl, NamesInterlocking, NamesMeter}
 use Rattle.bay_process.specs.Layout.{Layout, switch_names_in, AreSwitchRows, meter_names_in, AreMeterRows}
-use Rattle.bay_nodes.specs.Names.{StatusNames, SwitchNames, names_by_nodes, MeterNames, meter_names_of}
+use Rattle.bay_control.specs.Decisions.{controls_of}
+use Rattle.bay_control.specs.Requests.{control_of}
+use Rattle.bay_control.specs.declared.control.SwitchControl.{SwitchControl}
+use Rattle.bay_nodes.specs.declared.profile.Profile.{Profile}
+use Rattle.bay_nodes.specs.Names.{StatusNames, SwitchNames, names_by_nodes, local_names, indication_names, MeterNames, meter_names_of}
+use Rattle.bay_process.specs.ModelRows.{IsTruthBound}
+use Rattle.bay_process.specs.declared.model.LocalRows.{LocalRows}
 use Rattle.bay_process.specs.declared.meter.MeterRows.{MeterRows}
 use Rattle.bay_process.specs.declared.nodes.SwitchNodes.{SwitchNodes}
 use Rattle.bay_process.specs.declared.rows.StatusRows.{StatusRows}
@@ -111,3 +117,40 @@ HaveMeters rows nodes = (k : ℕ) (n : List ℕ) → slice_get nodes k ≡ Some 
 pub record AreMeterRowsOf (layout : Layout) (names : MeterNames) (rows : MeterRows) : Type 0 where
   pub named : meter_names_in layout rows ≡ names
   pub leaf_typed : AreMeterRows layout rows
+
+-- ---- the rows of profile 2 that events change
+
+-- the rows have Loc of each of these nodes
+abbrev pub HasLocalLeaves : List Row → List SwitchNodes → Type 0
+HasLocalLeaves rows nodes = (k : ℕ) (n : SwitchNodes) → slice_get nodes k ≡ Some n
+    → HasStatus rows (local_names n.position) leaf_type.Truth
+
+-- the rows have the value of each of the first `count` inputs
+abbrev pub HasInputLeaves : List Row → ℕ → Type 0
+HasInputLeaves rows count =
+    (k : ℕ) → k < count → HasStatus rows (indication_names (k + 1)) leaf_type.Truth
+
+-- the handles of Loc below a node, and the input of the key of the switch at index k
+pub record IsLocalRowsOf (layout : Layout) (controls : List SwitchControl) (k : ℕ)
+    (nodes : SwitchNodes) (local : LocalRows) : Type 0 where
+  pub bound : IsTruthBound layout (local_names nodes.position) local.rows
+  pub key : local.key ≡ (control_of controls k).key
+
+-- the handles of Loc below each of these nodes
+abbrev pub AreLocalRowsOf : Layout → List SwitchNodes → List SwitchControl → List LocalRows
+    → Type 0
+AreLocalRowsOf layout nodes controls locals =
+    (k : ℕ) (n : SwitchNodes) (local : LocalRows) → slice_get nodes k ≡ Some n
+    → slice_get locals k ≡ Some local → IsLocalRowsOf layout controls k n local
+
+-- the profile, the rows, the nodes, the inputs and the controls are those of a bay
+pub record IsModelSource (bay : Bay) (profile : Profile) (rows : List Row)
+    (nodes : List SwitchNodes) (inputs : List (List ℕ)) (controls : List SwitchControl)
+    : Type 0 where
+  pub sound : IsBay bay
+  pub profile_is : bay.profile ≡ profile
+  pub rows_are : bay.rows ≡ rows
+  pub nodes_sized : length nodes ≡ length bay.switches
+  pub nodes_named : AreSwitchNodes bay nodes
+  pub inputs_are : bay.inputs ≡ inputs
+  pub controls_are : controls ≡ controls_of bay.inputs bay.switches

@@ -1,7 +1,8 @@
 -- The parts of the state of a device.
-use Rattle.std.specs.Prelude.{◌≡◌, true, false, ℕ, List, length}
+use Rattle.std.specs.Prelude.{◌≡◌, true, false, List, length, map}
 use Rattle.bay_base.specs.declared.point.Source.{Source}
 use Rattle.bay_base.specs.declared.point.Point.{Point}
+use Rattle.bay_nodes.specs.declared.meter.Meter.{Meter}
 use Rattle.bay_nodes.specs.declared.switch.Switch.{Switch}
 use Rattle.bay_tree.specs.declared.row.Row.{Row}
 use Rattle.il_image.specs.Images.{Image}
@@ -30,10 +31,10 @@ pub record AreBoundSwitches (layout : Layout) (writes : List Source) (switches :
   pub is : bound ≡ bound_from writes 0 switches rows
 
 -- a tree of these rows, and the switches and the meters with the rows below their nodes
-pub record AreBoundRows (rows : List Row) (switches : List Switch) (meters : List (List ℕ))
+pub record AreBoundRows (rows : List Row) (switches : List Switch) (meters : List Meter)
     (nodes : List SwitchNodes) (writes : List Source) (bound : BoundRows) : Type 0 where
   pub tree : bound.tree ≡ rows
   pub of_switches : AreBoundSwitches (layout_of bound.tree) writes switches nodes
       bound.switches.items
-  pub ids : meters_of bound.meters.items ≡ meters
+  pub ids : meters_of bound.meters.items ≡ map (λ m. m.id) meters
   pub of_meters : AreMetersBound (layout_of bound.tree) bound.meters.items

@@ -1,13 +1,13 @@
 // The rows of a bay's meters in its tree.
 ghost use Rattle.std.specs.Prelude.{◌≡◌, length, map, IfOk};
-ghost use Rattle.bay_process.specs.Layout.{layout_of, AreMetersBound};
+ghost use Rattle.bay_process.specs.Layout.{layout_of, meters_of, AreMetersBound};
 ghost use Rattle.bay_nodes.specs.Names.{meter_names_of};
 ghost use Rattle.bay_process.specs.Nodes.{AreMeterNodes, AreMeterRowsOf, HasMeterLeaves, HaveMeters};
 
 use crate::meter::{BoundMeter, MeterRows};
 use crate::nodes::find_status_rows;
 use bay_base::text::Text;
-use bay_config::bay::Bay;
+use bay_config::bay::{Bay, Meter};
 use bay_config::nodes::meter_name;
 use bay_nodes::paths::{ACTIVE_POWER, FREQUENCY, PHASE_A, PHASE_B, PHASE_C, REACTIVE_POWER};
 use bay_tree::tree::Tree;
@@ -52,18 +52,18 @@ fn find_meter_rows(alloc: Global, tree: &Tree, node: &str) -> Result<MeterRows, 
 pub fn bind_meters(
     alloc: Global,
     tree: &Tree,
-    meters: &[Text],
+    meters: &[Meter],
     nodes: &[Text],
 ) -> Result<Vec<BoundMeter>, AllocError>
     requires sized { length nodes.now ≡ length meters.now }
     requires there { HaveMeters tree.now nodes.now }
-    ensures ids { IfOk result (λ bound. map (λ m. m.id) bound.items ≡ meters.now) }
+    ensures ids { IfOk result (λ bound. meters_of bound.items ≡ map (λ m. m.id) meters.now) }
     ensures bound { IfOk result (λ bound. AreMetersBound (layout_of tree.now) bound.items) }
 {
     let mut bound = Vec::new(alloc);
     for i in 0..meters.len() {
         let rows = find_meter_rows(alloc, tree, nodes[i].as_str())?;
-        let id = Text::from_str(alloc, meters[i].as_str())?;
+        let id = Text::from_str(alloc, meters[i].id.as_str())?;
         bound.push(BoundMeter { id, rows })?;
     }
     Ok(bound)

@@ -12,7 +12,7 @@ use crate::meters::{all_meter_nodes, bind_meters};
 use crate::nodes::{SwitchNodes, all_nodes, all_switch_rows};
 use crate::switch::BoundSwitch;
 use bay_base::text::Text;
-use bay_config::bay::{Bay, Point, Source, Switch};
+use bay_config::bay::{Bay, Meter, Point, Source, Switch};
 use bay_tree::row::Row;
 use bay_tree::tree::Tree;
 use il_scan::machine::Machine;
@@ -112,7 +112,7 @@ pub fn bind_rows(
     alloc: Global,
     rows: Vec<Row>,
     switches: Vec<Switch>,
-    meters: &[Text],
+    meters: &[Meter],
     nodes: &NodeNames,
     writes: &[Source],
 ) -> Result<BoundRows, AllocError>

@@ -21,5 +21,8 @@ returns-in_err-revision c = rw (by_keys (table_view c.args.table.now)) (search r
 pub returns-in_err-scan_max_age_ms : goal.returns-in_err-scan_max_age_ms
 returns-in_err-scan_max_age_ms c = rw (by_keys (table_view c.args.table.now)) (search rules)
 
+pub returns-in_err-profile : goal.returns-in_err-profile
+returns-in_err-profile c = rw (by_keys (table_view c.args.table.now)) (search rules)
+
 pub returns : goal.returns
 returns c = rw (by_keys (table_view c.args.table.now)) (search rules)

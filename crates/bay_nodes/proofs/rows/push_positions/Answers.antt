@@ -15,14 +15,16 @@ loop-switch-preserved c =
         omega arith,
         rw (w.rows-is, w.number-is, w.in_ok-push_position.ensures)
             (c.loop-switch.invariant.1
-            ∙ position-turn c.args.breakers ss i n s done (omega arith) c.switch-item.is
+            ∙ position-turn c.args.nameplate.now c.args.breakers ss i n s done (omega arith)
+            c.switch-item.is
             (sym c.is_in_group.ensures ∙ w.if-is_in_group.true)),
       )
       | else-is_in_group w ↦ (
         omega arith,
         rw (w.rows-is, w.number-is)
             (c.loop-switch.invariant.1
-            ∙ position-passed c.args.breakers ss i n s done (omega arith) c.switch-item.is
+            ∙ position-passed c.args.nameplate.now c.args.breakers ss i n s done (omega arith)
+            c.switch-item.is
             (sym c.is_in_group.ensures ∙ w.if-is_in_group.false)),
       )
     ]

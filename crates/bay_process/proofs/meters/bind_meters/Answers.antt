@@ -1,6 +1,7 @@
-use Rattle.std.proofs.Common.{◌≡◌, ◌<◌, ◌∷◌, ◌++◌, [], ◌∙◌, Some, length, slice_get, get_or, take, refl, ap, sym, arith}
+use Rattle.std.proofs.Common.{◌≡◌, ◌<◌, ◌∷◌, ◌++◌, [], ◌∙◌, Some, length, map, slice_get, get_or, take, refl, ap, sym, arith}
 use Rattle.std.proofs.lemmas.List.{map-append, take_more}
 use Rattle.std.proofs.lemmas.Option.{slice_get_read}
+use Rattle.bay_nodes.specs.declared.meter.Meter.{Meter}
 use Rattle.bay_process.specs.Layout.{IsMeterBound, layout_of}
 use Rattle.bay_process.specs.declared.meter.BoundMeter.{BoundMeter}
 use Rattle.bay_process.proofs.ListLemmas.{each-snoc, length-snoc}
@@ -26,15 +27,16 @@ loop-i-preserved c =
     let here : slice_get nodes i ≡ Some n =
     slice_get_read nodes (length nodes) i n refl (omega arith) c.index-nodes-i.is in
     let lt : i < length meters = omega arith in
-    let id : c.in_ok-id.id ≡ get_or meters i d =
-    c.in_ok-id.ensures ∙ c.as_str-in-loop-i.ensures ∙ c.index-meters-i.is in
+    let id : c.in_ok-id.id ≡ (get_or meters i d).id =
+    c.in_ok-id.ensures ∙ c.as_str-in-loop-i.ensures in
     rw c.in_ok-push.ensures.items record {
       sized = length-snoc items _ i c.loop-i.invariant.sized;
       ids =
           map-append (λ (m : BoundMeter). m.id) items _
           ∙ ap (λ xs. xs ++ c.in_ok-id.id ∷ []) c.loop-i.invariant.ids
-          ∙ ap (λ x. take i meters ++ x ∷ []) id
-          ∙ sym (take_more meters i d lt);
+          ∙ ap (λ x. map (λ (m : Meter). m.id) (take i meters) ++ x ∷ []) id
+          ∙ sym (map-append (λ (m : Meter). m.id) (take i meters) (get_or meters i d ∷ []))
+          ∙ ap (map (λ (m : Meter). m.id)) (sym (take_more meters i d lt));
       bound = each-snoc (λ k (m : BoundMeter). IsMeterBound (layout_of c.args.tree.now) k m.rows)
           items _ c.loop-i.invariant.bound
           (rw c.loop-i.invariant.sized

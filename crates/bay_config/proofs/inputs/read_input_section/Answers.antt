@@ -1,0 +1,14 @@
+use Rattle.std.proofs.Common.{◌≡◌, ◌∙◌, Some, codes, ap, sym}
+use Rattle.toml.specs.Data.{get_member, as_array}
+use Rattle.toml.specs.View.{view, table_view, items_view}
+use Rattle.bay_config.proofs.inputs.read_input_section.Goals as goal
+
+pub returns-in-Some-as_array-clause-names : goal.returns-in-Some-as_array-clause-names
+returns-in-Some-as_array-clause-names c =
+    let f = table_view c.args.file.now in
+    let at : get_member (codes "input") f ≡ Some (view c.in-Some.value.now) =
+    sym c.in-Some.ensures in
+    let list : as_array (view c.in-Some.value.now) ≡ Some (items_view c.as_slice.result.now) =
+    sym c.in-Some-as_array.ensures
+    ∙ ap (λ vs. Some (items_view vs)) (sym c.as_slice.ensures.value) in
+    rw (at, list) c.read_input_list.ensures

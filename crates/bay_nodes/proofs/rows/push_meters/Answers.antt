@@ -1,0 +1,13 @@
+use Rattle.std.proofs.Common.{◌+◌, ◌++◌, drop, arith, ap, sym, ◌∙◌}
+use Rattle.bay_nodes.specs.Node.{meter_node}
+use Rattle.bay_nodes.proofs.NodeLemmas.{numbered_from, numbered-turn}
+use Rattle.bay_nodes.proofs.rows.push_meters.Goals as goal
+
+pub loop-i-preserved : goal.loop-i-preserved
+loop-i-preserved c =
+    let make = meter_node c.args.nameplate.now in
+    let all = c.args.meters.now in
+    c.loop-i.invariant ∙ numbered-turn make all c.loop-i.i c.index-meters-i.result
+    c.loop-i.rows.items (omega arith) c.index-meters-i.is
+    ∙ ap (λ rows. rows ++ numbered_from make (c.loop-i.i + 1 + 1) (drop (c.loop-i.i + 1) all))
+    (sym c.in_ok-push_meter.ensures)
