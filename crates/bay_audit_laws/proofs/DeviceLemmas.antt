@@ -7,20 +7,21 @@ use Rattle.bay_nodes.specs.Names.{cilo_name, meter_names, switch_names}
 use Rattle.bay_nodes.specs.declared.switch.Switch.{Switch}
 use Rattle.bay_process.specs.Names.{field_names}
 use Rattle.bay_process.specs.Values.{rows_after_change, has_position as tells_position, has_invalid_measure, has_measure, with_status}
+use Rattle.bay_process.proofs.ModelLemmas.{health-keeps, health-keeps-others, input-keeps, input-keeps-others}
 use Rattle.bay_process.proofs.ToldLemmas.{Keeps, field-away, keeps-contact, keeps-doubt, keeps-measure}
 use Rattle.bay_tree.specs.Rows.{leaf_named, with_leaf_named}
 use Rattle.bay_base.specs.declared.position.Dbpos.{Dbpos}
 use Rattle.bay_tree.specs.declared.leaf.Leaf.TheVariants as leaf
 use Rattle.bay_tree.specs.declared.leaf.Quality.TheVariants.{Good, Invalid}
-use Rattle.bay_device.specs.Device.{State, device_after_contact, device_at, device_after_bad_measure, device_after_input, device_after_loss, device_after_measure}
+use Rattle.bay_device.specs.Device.{State, device_after_contact, device_at, device_after_bad_measure, device_after_input, device_after_loss, device_after_measure, with_health}
 use Rattle.bay_device.specs.Outcomes.{contact_outcome, bad_measure_outcome, event_outcome, input_outcome, measure_outcome}
 use Rattle.bay_device.specs.declared.event.Event.{Event}
 use Rattle.bay_device.specs.declared.event.Event.TheVariants.{Open, Recv, Close, Contact, Input, Measure, BadMeasure, Lost, Scan}
-use Rattle.bay_device.proofs.FreshLemmas.{same-truth, still-lost}
+use Rattle.bay_device.proofs.FreshLemmas.{IsSameTold, same-truth, still-lost, told-others, told-same, told-then}
 use Rattle.bay_device.proofs.LostLemmas.{Fixed, lost-fixed, lost-keeps}
 use Rattle.bay_device.proofs.SameLemmas.{Parts, Same, same-event}
 use Rattle.bay_audit_laws.specs.Laws.{Has32Bits, IsOfType}
-use Rattle.bay_audit_laws.proofs.MeasureLemmas.{AllFit, contact-fits, doubt-fits, lost-fits, measure-fits}
+use Rattle.bay_audit_laws.proofs.MeasureLemmas.{AllFit, contact-fits, doubt-fits, lost-fits, measure-fits, others-fit}
 
 -- ---- what is no scan
 
@@ -34,7 +35,7 @@ pub record Quiet (s t : State) : Type 0 where
   pub writes : t.writes ≡ s.writes
   pub scans : t.last_scan ≡ s.last_scan
   pub stale : t.is_stale ≡ false → s.is_stale ≡ false
-  pub rows : t.is_stale ≡ false → t.rows ≡ s.rows
+  pub rows : t.is_stale ≡ false → IsSameTold s.rows t.rows
   pub inputs : t.is_stale ≡ false → t.input_values ≡ s.input_values
   pub keeps : Keeps s.rows t.rows
   pub fits : (count : ℕ) → AllFit count s.rows → AllFit count t.rows
@@ -50,11 +51,44 @@ quiet-same s t same =
       writes = ap (λ (p : Parts). p.writes) same;
       scans = ap (λ (p : Parts). p.scans) same;
       stale = λ h. sym (ap (λ (p : Parts). p.stale) same) ∙ h;
-      rows = λ h. rows;
+      rows = λ h. told-same s.rows t.rows rows;
       inputs = λ h. ap (λ (p : Parts). p.inputs) same;
       keeps = λ k x. ap (leaf_named (cilo_name k ++ x)) rows;
       fits = λ count all. subst (AllFit count) (sym rows) all;
     }
+
+quiet-then : (s t u : State) → Quiet s t → Quiet t u → Quiet s u
+quiet-then s t u p q = record {
+  machine = q.machine ∙ p.machine;
+  switches = q.switches ∙ p.switches;
+  meters = q.meters ∙ p.meters;
+  reads = q.reads ∙ p.reads;
+  writes = q.writes ∙ p.writes;
+  scans = q.scans ∙ p.scans;
+  stale = λ h. p.stale (q.stale h);
+  rows = λ h. told-then s.rows t.rows u.rows (p.rows (q.stale h)) (q.rows h);
+  inputs = λ h. q.inputs h ∙ p.inputs (q.stale h);
+  keeps = λ k x. q.keeps k x ∙ p.keeps k x;
+  fits = λ count all. q.fits count (p.fits count all);
+}
+
+-- the health says what is noted of the process
+quiet-health : (now : ℕ) (s : State) → Quiet s (with_health now s)
+quiet-health now s = record {
+  machine = refl;
+  switches = refl;
+  meters = refl;
+  reads = refl;
+  writes = refl;
+  scans = refl;
+  stale = λ h. h;
+  rows = λ h.
+      told-others s.rows _ (health-keeps-others s.profile s.is_lost now s.rows);
+  inputs = λ h. refl;
+  keeps = health-keeps s.profile s.is_lost now s.rows;
+  fits = λ count. others-fit count s.rows _
+      (health-keeps-others s.profile s.is_lost now s.rows);
+}
 
 -- a value that stands there already
 set-same : {A : Type 0} (xs : List A) (k : ℕ) (x : A) → slice_get xs k ≡ Some x
@@ -76,16 +110,17 @@ quiet-contact now k switch position s =
       writes = refl;
       scans = refl;
       stale = λ h. (or_parts s.is_stale (not told) h).0;
-      rows = λ h. ap (λ (b : Bool). cond b s.rows (rows_after_change names position now s.rows))
-          (not-false told (or_parts s.is_stale (not told) h).1);
+      rows = λ h. told-same s.rows _
+          (ap (λ (b : Bool). cond b s.rows (rows_after_change names position now s.rows))
+          (not-false told (or_parts s.is_stale (not told) h).1));
       inputs = λ h. refl;
       keeps = keeps-contact s.switches k switch position now s.rows;
       fits = λ count. contact-fits count s.switches k switch position now s.rows;
     }
 
-quiet-input : (k : ℕ) (value before : Bool) (s : State)
-    → slice_get s.input_values k ≡ Some before → Quiet s (device_after_input k value before s)
-quiet-input k value before s here =
+quiet-input : (now k : ℕ) (value before : Bool) (s : State)
+    → slice_get s.input_values k ≡ Some before → Quiet s (device_after_input now k value before s)
+quiet-input now k value before s here =
     let told : Bool = beq value before in
     record {
       machine = refl;
@@ -95,12 +130,14 @@ quiet-input k value before s here =
       writes = refl;
       scans = refl;
       stale = λ h. (or_parts s.is_stale (not told) h).0;
-      rows = λ h. refl;
+      rows = λ h. told-others s.rows _
+          (input-keeps-others s.profile s.inputs s.switches k value now s.rows);
       inputs = λ h. ap (slice_set s.input_values k)
           (same-truth value before (not-false told (or_parts s.is_stale (not told) h).1))
           ∙ set-same s.input_values k before here;
-      keeps = λ j x. refl;
-      fits = λ count all. all;
+      keeps = input-keeps s.profile s.inputs s.switches k value now s.rows;
+      fits = λ count. others-fit count s.rows _
+          (input-keeps-others s.profile s.inputs s.switches k value now s.rows);
     }
 
 quiet-measure : (now k : ℕ) (field : MeterField) (value : ℤ) (s : State) → Has32Bits value
@@ -116,9 +153,10 @@ quiet-measure now k field value s typed =
       writes = refl;
       scans = refl;
       stale = λ h. (or_parts s.is_stale (not told) h).0;
-      rows = λ h. ap (λ (b : Bool). cond b s.rows
+      rows = λ h. told-same s.rows _
+          (ap (λ (b : Bool). cond b s.rows
           (with_status names (leaf.Int32 value) Good now s.rows))
-          (not-false told (or_parts s.is_stale (not told) h).1);
+          (not-false told (or_parts s.is_stale (not told) h).1));
       inputs = λ h. refl;
       keeps = keeps-measure names value now s.rows (field-away k field);
       fits = λ count. measure-fits count names value now s.rows typed;
@@ -137,10 +175,11 @@ quiet-doubt now k field s =
       writes = refl;
       scans = refl;
       stale = λ h. (or_parts s.is_stale (not told) h).0;
-      rows = λ h. ap (λ (b : Bool). cond b s.rows
+      rows = λ h. told-same s.rows _
+          (ap (λ (b : Bool). cond b s.rows
           (with_leaf_named names.time (leaf.Utc now)
           (with_leaf_named names.quality (leaf.Quality Invalid) s.rows)))
-          (not-false told (or_parts s.is_stale (not told) h).1);
+          (not-false told (or_parts s.is_stale (not told) h).1));
       inputs = λ h. refl;
       keeps = keeps-doubt names now s.rows (field-away k field);
       fits = λ count. doubt-fits count names now s.rows;
@@ -166,8 +205,8 @@ quiet-lost now s =
     }
 
 -- behind one that is at a moment
-quiet-behind : (now : ℕ) (s t : State) → Quiet (device_at now s) t → Quiet s t
-quiet-behind now s t q = record {
+quiet-at : (now : ℕ) (s t : State) → Quiet (device_at now s) t → Quiet s t
+quiet-at now s t q = record {
   machine = q.machine;
   switches = q.switches;
   meters = q.meters;
@@ -180,6 +219,11 @@ quiet-behind now s t q = record {
   keeps = q.keeps;
   fits = q.fits;
 }
+
+-- and with its health
+quiet-behind : (now : ℕ) (s t : State) → Quiet (device_at now s) t → Quiet s (with_health now t)
+quiet-behind now s t q =
+    quiet-then s t (with_health now t) (quiet-at now s t q) (quiet-health now t)
 
 -- ---- events that are no scan
 
@@ -194,7 +238,7 @@ module _ (now : ℕ) (s : State) where
       → Quiet s (input_outcome now k value s o).after
   quiet-input-of k value None here = quiet-same s s refl
   quiet-input-of k value (Some before) here =
-      quiet-behind now s _ (quiet-input k value before (device_at now s) here)
+      quiet-behind now s _ (quiet-input now k value before (device_at now s) here)
 
   quiet-measure-of : (k : ℕ) (field : MeterField) (value : ℤ) (o : Option (List ℕ))
       → Has32Bits value → Quiet s (measure_outcome now k field value s o).after

@@ -2,14 +2,18 @@
 use Rattle.std.proofs.Common.{All, ◌≡◌, ◌⊎◌, inl, inr, ℕ, ◌<◌, Bool, true, false, not, ◌&&◌, cond, nat_lt, List, [], ◌∷◌, length, map, slice_get, Option, None, Some, Result, Ok, Err, IfOk, OnOk, refl, ap, ap₂, sym, subst, ◌∙◌, arith}
 use Rattle.std.specs.Prelude.{◌||◌, unwrap_or, IsOkAnd, IsSomeAnd}
 use Rattle.std.proofs.lemmas.Bool.{and_parts}
+use Rattle.std.proofs.lemmas.List.{length-map}
 use Rattle.std.proofs.Math.Bool.{and-true}
 use Rattle.bay_config.specs.Laws.{IsBay}
 use Rattle.bay_config.specs.declared.bay.Bay.{Bay}
+use Rattle.bay_base.specs.declared.point.MeterField.{MeterField}
 use Rattle.bay_base.specs.declared.point.Source.{Source}
 use Rattle.bay_base.specs.declared.point.SwitchPoint.TheVariants.{EnableOpen, EnableClose}
 use Rattle.bay_nodes.specs.Names.{meter_names}
+use Rattle.bay_nodes.specs.Node.{node_number}
 use Rattle.bay_base.specs.declared.switch.Operation.{Operation}
 use Rattle.bay_base.specs.declared.switch.Operation.TheVariants as operations
+use Rattle.bay_nodes.specs.declared.meter.Meter.{Meter}
 use Rattle.bay_nodes.specs.declared.switch.Switch.{Switch}
 use Rattle.bay_process.specs.ReportedRows.{HoldsRelease}
 use Rattle.bay_process.specs.Values.{is_truth, measure_leaf, number_of_leaf, output_of, position_leaf}
@@ -19,11 +23,8 @@ use Rattle.bay_audit_rules.specs.Process.{Process, holds}
 use Rattle.bay_audit_rules.specs.declared.rule.Rule.{Rule}
 use Rattle.bay_audit_rules.specs.declared.rule.RuleKind.TheVariants.{Never}
 use Rattle.bay_mms_services.specs.Controls.{dbpos_of}
-use Rattle.bay_mms_services.specs.Released.{enable_name}
 use Rattle.bay_mms_services.specs.declared.answer.Command.{Command}
-use Rattle.bay_tree.specs.Rows.{leaf_named}
 use Rattle.bay_tree.specs.declared.leaf.Leaf.TheVariants as leaf
-use Rattle.bay_tree.specs.declared.row.Row.{Row}
 use Rattle.il_image.specs.Images.{Image}
 use Rattle.il_image.specs.declared.timer.TimerState.{TimerState}
 use Rattle.il_image.specs.declared.value.Value.{Value}
@@ -48,7 +49,7 @@ use Rattle.bay_audit_laws.specs.Laws.{AreOfTypes, CommandsAreHarmless, CommandsA
 use Rattle.bay_audit_laws.proofs.DeviceLemmas.{Quiet, quiet-event}
 use Rattle.bay_audit_laws.proofs.LoadLemmas.{first-both, first-fits}
 use Rattle.bay_audit_laws.proofs.MeasureLemmas.{AllFit, Fits, leaf-number}
-use Rattle.bay_audit_laws.proofs.ProcessLemmas.{inputs-read, scan-alike}
+use Rattle.bay_audit_laws.proofs.ProcessLemmas.{inputs-read, process-alike, scan-alike}
 use Rattle.bay_audit_laws.proofs.RowLemmas.{away-outputs, AllBoth, AreBoth, outputs-told, told-both, told_by}
 
 -- ---- releases
@@ -186,7 +187,7 @@ pub record Standing (bay : Bay) (image : Image) (s : State) : Type 0 where
   pub image_is : s.machine.image ≡ image
   pub reached : IsReached s.machine
   pub both : AllBoth s.rows (length bay.switches)
-  pub meters : s.meters ≡ bay.meters
+  pub meters : s.meters ≡ map (λ m. m.id) bay.meters
   pub fits : AllFit (length bay.meters) s.rows
   pub scanned : (m : ℕ) → s.last_scan ≡ Some m → s.is_stale ≡ false → IsScanned bay image s
 
@@ -195,7 +196,8 @@ pub process-so : (bay : Bay) (image : Image) (s : State) → Standing bay image 
     → IsProcess (process_of s)
 process-so bay image s o =
     let fits : AllFit (length s.meters) s.rows =
-    subst (λ n. AllFit n s.rows) (sym (ap length o.meters)) o.fits in
+    subst (λ n. AllFit n s.rows)
+    (sym (ap length o.meters ∙ length-map bay.meters (λ (m : Meter). m.id))) o.fits in
     record {
       least = λ k field. (leaf-number s.meters s.rows fits k field (slice_get s.meters k)
           refl).least;
@@ -205,25 +207,30 @@ process-so bay image s o =
 
 -- ---- no scan
 
--- the process of a device with the same parts
-abbrev process_by : List Switch → List Row → List Bool → List (List ℕ) → Process
-process_by switches rows inputs meters = record {
-  position = λ k. dbpos_of (position_leaf switches rows k (slice_get switches k));
-  input = λ k. unwrap_or (slice_get inputs k) false;
-  measure = λ k field. number_of_leaf (measure_leaf rows k field (slice_get meters k));
-}
-
 pub process-same : (s t : State) → Quiet s t → t.is_stale ≡ false → process_of t ≡ process_of s
 process-same s t q fresh =
-    ap (λ x. process_by x t.rows t.input_values t.meters) q.switches
-    ∙ ap (λ x. process_by s.switches x t.input_values t.meters) (q.rows fresh)
-    ∙ ap (λ x. process_by s.switches s.rows x t.meters) (q.inputs fresh)
-    ∙ ap (λ x. process_by s.switches s.rows s.input_values x) q.meters
+    process-alike (process_of t) (process_of s)
+    (λ k. ap (λ ss. dbpos_of (position_leaf ss t.rows k (slice_get ss k))) q.switches
+    ∙ ap dbpos_of (position-same k (slice_get s.switches k)))
+    (λ k. ap (λ vs. unwrap_or (slice_get vs k) false) (q.inputs fresh))
+    (λ k field. ap (λ ms. number_of_leaf (measure_leaf t.rows k field (slice_get ms k))) q.meters
+    ∙ ap number_of_leaf (measure-same k field (slice_get s.meters k)))
+  where
+    position-same : (k : ℕ) (o : Option Switch)
+        → position_leaf s.switches t.rows k o ≡ position_leaf s.switches s.rows k o
+    position-same k None = refl
+    position-same k (Some switch) =
+        ((q.rows fresh).positions switch.kind (node_number s.switches switch k)).value
+
+    measure-same : (k : ℕ) (field : MeterField) (o : Option (List ℕ))
+        → measure_leaf t.rows k field o ≡ measure_leaf s.rows k field o
+    measure-same k field None = refl
+    measure-same k field (Some id) = ((q.rows fresh).measures k field).value
 
 pub released-same : (s t : State) (k : ℕ) (operation : Operation) → Quiet s t
-    → t.is_stale ≡ false → is_released t k operation ≡ is_released s k operation
-released-same s t k operation q fresh =
-    ap (λ rows. is_truth true (leaf_named (enable_name k operation) rows)) (q.rows fresh)
+    → is_released t k operation ≡ is_released s k operation
+released-same s t k operations.Close q = ap (is_truth true) (q.keeps k _)
+released-same s t k operations.Open q = ap (is_truth true) (q.keeps k _)
 
 both-kept : (s t : State) (count : ℕ) → Keeps s.rows t.rows → AllBoth s.rows count
     → AllBoth t.rows count
@@ -252,7 +259,7 @@ module _ (bay : Bay) (image : Image) where
     reached = is.reached;
     leaves = subst (λ p. ScanLeaves is.machine (map (process_value p) (program_of bay image).reads)
         is.now is.slots is.timers) (sym (process-same s t q fresh)) is.leaves;
-    released = λ k operation lt. released-same s t k operation q fresh ∙ is.released k operation lt;
+    released = λ k operation lt. released-same s t k operation q ∙ is.released k operation lt;
   }
 
   standing-quiet : (s t : State) → Standing bay image s → Quiet s t → Standing bay image t

@@ -13,6 +13,7 @@ use Rattle.bay_base.specs.declared.switch.SwitchKind.{SwitchKind}
 use Rattle.bay_base.specs.declared.switch.SwitchKind.TheVariants.{Breaker, Disconnector, Earthing}
 use Rattle.bay_process.specs.Names.{field_names}
 use Rattle.bay_process.specs.Values.{position_leaf, position_value, has_position, with_enabled, with_outputs, with_status}
+use Rattle.bay_process.proofs.ModelLemmas.{KeepsOthers, health-keeps-others, input-keeps-others, lost-inputs-keep-others, unmodelled-position}
 use Rattle.bay_process.proofs.ToldLemmas.{IsAway, away-position, leaf-other}
 use Rattle.bay_mms_services.specs.Bay.{rows_with_selection}
 use Rattle.bay_tree.specs.Rows.{leaf_named, with_leaf_named}
@@ -25,7 +26,7 @@ use Rattle.bay_tree.specs.declared.row.Row.{Row}
 use Rattle.il_image.specs.Images.{Image}
 use Rattle.il_image.specs.declared.value.Value.{Value}
 use Rattle.il_image.specs.declared.value.Value.TheVariants.{Truth}
-use Rattle.bay_device.specs.Device.{State, device_after_contact, device_at, inputs_lost, device_after_loss, positions_lost}
+use Rattle.bay_device.specs.Device.{State, device_after_bad_measure, device_after_contact, device_after_input, device_after_measure, device_at, inputs_lost, device_after_loss, positions_lost, with_health}
 use Rattle.bay_device.specs.Fresh.{PastEvent}
 use Rattle.bay_device.specs.Load.{initial_device}
 use Rattle.bay_device.specs.Outcomes.{Outcome, contact_outcome, bad_measure_outcome, event_outcome, input_outcome, last_moment, measure_outcome, outcome, refusal_outcome}
@@ -55,6 +56,30 @@ written-have : (switches : List Switch) (name : List ℕ) (value : Leaf) (rows :
     → HavePositions switches rows → HavePositions switches (with_leaf_named name value rows)
 written-have switches name value rows have k switch here =
     written-there (switch_node switches k switch) name value rows (have k switch here)
+
+-- so they are where only rows of profile 2 change
+others-have : (switches : List Switch) (rows new : List Row) → KeepsOthers rows new
+    → HavePositions switches rows → HavePositions switches new
+others-have switches rows new keeps have k switch here =
+    let names = position_names (switch_node switches k switch) in
+    let own = unmodelled-position switch.kind (node_number switches switch k) in
+    let there = have k switch here in
+    record {
+      value = λ none. there.value (sym (keeps names.value own.value_other) ∙ none);
+      quality = λ none. there.quality (sym (keeps names.quality own.quality_other) ∙ none);
+    }
+
+-- and so are bad ones
+others-bad : (switches : List Switch) (k : ℕ) (switch : Switch) (rows new : List Row)
+    → KeepsOthers rows new → BadAt (switch_node switches k switch) rows
+    → BadAt (switch_node switches k switch) new
+others-bad switches k switch rows new keeps is =
+    let names = position_names (switch_node switches k switch) in
+    let own = unmodelled-position switch.kind (node_number switches switch k) in
+    record {
+      value = keeps names.value own.value_other ∙ is.value;
+      quality = keeps names.quality own.quality_other ∙ is.quality;
+    }
 
 lost-bad : (now : ℕ) (ss : List Switch) (k : ℕ) (s : State) (j i : ℕ) (switch : Switch)
     → slice_get ss j ≡ Some switch → k + j ≡ i
@@ -120,19 +145,21 @@ module _ (now : ℕ) (s : State) (have : HavePositions s.switches s.rows) where
   blind-lost : Blind s.switches (device_after_loss now s).rows
       (device_after_loss now s).input_values
   blind-lost =
-      let t : State = inputs_lost (positions_lost now 0 s.switches s) in
+      let u : State = positions_lost now 0 s.switches s in
+      let t : State = inputs_lost now u in
       record {
         positions = λ k switch here.
             let node = switch_node s.switches k switch in
             let none : 0 + k ≡ k = omega arith in
-            measures-pass (λ u. BadAt node u.rows) now
-            (λ m y u p. contact-bad node u.switches m y now u.rows p)
-            (λ m field u p. doubt-bad node m field now u.rows p) 0 s.meters t
-            (lost-bad now s.switches 0 s k k switch here none (have k switch here));
+            measures-pass (λ v. BadAt node v.rows) now
+            (λ m y v p. contact-bad node v.switches m y now v.rows p)
+            (λ m field v p. doubt-bad node m field now v.rows p) 0 s.meters t
+            (others-bad s.switches k switch u.rows t.rows
+            (lost-inputs-keep-others u.profile u.inputs u.switches now u.rows)
+            (lost-bad now s.switches 0 s k k switch here none (have k switch here)));
         all_false =
-            measures-pass (λ u. (k : ℕ) → unwrap_or (slice_get u.input_values k) false ≡ false)
-            now (λ m y u p. p) (λ m field u p. p) 0 s.meters t
-            (cleared (positions_lost now 0 s.switches s).input_values);
+            measures-pass (λ v. (k : ℕ) → unwrap_or (slice_get v.input_values k) false ≡ false)
+            now (λ m y v p. p) (λ m field v p. p) 0 s.meters t (cleared u.input_values);
       }
 
   have-lost : HavePositions s.switches (device_after_loss now s).rows
@@ -141,7 +168,10 @@ module _ (now : ℕ) (s : State) (have : HavePositions s.switches s.rows) where
       (λ k switch t p. contact-passes (HavePositions s.switches) (written-have s.switches)
       (switch_names t.switches k switch) Bad now t.rows p)
       (λ k field t p. doubt-passes (HavePositions s.switches) (written-have s.switches)
-      (field_names field (meter_names k)) now t.rows p) (λ t p. p) (λ t p. p) s have
+      (field_names field (meter_names k)) now t.rows p)
+      (λ t p. others-have s.switches t.rows _
+      (lost-inputs-keep-others t.profile t.inputs t.switches now t.rows) p)
+      (λ t p. p) s have
 
   wary-lost : IsWary (seen_of (device_after_loss now s))
   wary-lost =
@@ -153,6 +183,22 @@ module _ (now : ℕ) (s : State) (have : HavePositions s.switches s.rows) where
         inputs = (device_after_loss now s).input_values;
         lost = true;
       } in seen)) (sym same) (record { have = have-lost; blind = λ lost. blind-lost })
+
+-- ---- the health
+
+wary-health : (now : ℕ) (s : State) → IsWary (seen_of s) → IsWary (seen_of (with_health now s))
+wary-health now s w =
+    let keeps = health-keeps-others s.profile s.is_lost now s.rows in
+    record {
+      have = others-have s.switches s.rows _ keeps w.have;
+      blind = λ is.
+          let before = w.blind is in
+          record {
+            positions = λ k switch here.
+                others-bad s.switches k switch s.rows _ keeps (before.positions k switch here);
+            all_false = before.all_false;
+          };
+    }
 
 -- ---- a scan
 
@@ -250,30 +296,37 @@ module _ (now : ℕ) (s : State) (w : Wary s) where
       → Wary (contact_outcome now k position s o).after
   wary-contact k position None = w
   wary-contact k position (Some switch) =
-      believed _ s.input_values
+      wary-health now (device_after_contact now k switch position (device_at now s))
+      (believed _ s.input_values
       (contact-passes (HavePositions s.switches) (written-have s.switches)
-      (switch_names s.switches k switch) position now s.rows w.have)
+      (switch_names s.switches k switch) position now s.rows w.have))
 
   wary-input : (k : ℕ) (value : Bool) (o : Option Bool)
       → Wary (input_outcome now k value s o).after
   wary-input k value None = w
-  wary-input k value (Some before) = believed s.rows _ w.have
+  wary-input k value (Some before) =
+      wary-health now (device_after_input now k value before (device_at now s))
+      (believed _ _
+      (others-have s.switches s.rows _
+      (input-keeps-others s.profile s.inputs s.switches k value now s.rows) w.have))
 
   wary-measure : (k : ℕ) (field : MeterField) (value : _) (o : Option (List ℕ))
       → Wary (measure_outcome now k field value s o).after
   wary-measure k field value None = w
   wary-measure k field value (Some id) =
-      believed _ s.input_values
+      wary-health now (device_after_measure now k field value (device_at now s))
+      (believed _ s.input_values
       (measure-passes (HavePositions s.switches) (written-have s.switches)
-      (field_names field (meter_names k)) value now s.rows w.have)
+      (field_names field (meter_names k)) value now s.rows w.have))
 
   wary-doubt : (k : ℕ) (field : MeterField) (o : Option (List ℕ))
       → Wary (bad_measure_outcome now k field s o).after
   wary-doubt k field None = w
   wary-doubt k field (Some id) =
-      believed _ s.input_values
+      wary-health now (device_after_bad_measure now k field (device_at now s))
+      (believed _ s.input_values
       (doubt-passes (HavePositions s.switches) (written-have s.switches)
-      (field_names field (meter_names k)) now s.rows w.have)
+      (field_names field (meter_names k)) now s.rows w.have))
 
   wary-event : (choice : Option ℕ) (event : Event) → Wary (event_outcome choice now event s).after
   wary-event choice (Open a) =
@@ -290,7 +343,9 @@ module _ (now : ℕ) (s : State) (w : Wary s) where
   wary-event choice (Measure k field value) =
       wary-measure k field value (slice_get s.meters k)
   wary-event choice (BadMeasure k field) = wary-doubt k field (slice_get s.meters k)
-  wary-event choice Lost = wary-lost now (device_at now s) w.have
+  wary-event choice Lost =
+      wary-health now (device_after_loss now (device_at now s))
+      (wary-lost now (device_at now s) w.have)
   wary-event choice Scan = wary-scan s.switches s.input_values s.is_lost s.writes _ now s.rows w
 
   wary-if : (late early : Bool) (o : Outcome) → Wary o.after

@@ -14,6 +14,7 @@ use Rattle.bay_base.specs.declared.switch.SwitchKind.{SwitchKind}
 use Rattle.bay_base.specs.declared.switch.SwitchKind.TheVariants.{Breaker, Disconnector, Earthing}
 use Rattle.bay_process.specs.Names.{field_names}
 use Rattle.bay_process.specs.Values.{is_operation, measure_leaf, number_of_leaf, rows_after_operation, position_quality, rows_after_change, rows_after_contact, rows_after_bad_measure, rows_after_measure, has_position, has_invalid_measure, has_measure, with_count, with_status}
+use Rattle.bay_process.proofs.ModelLemmas.{KeepsOthers, lost-inputs-keep-others, unmodelled-field}
 use Rattle.bay_process.proofs.ToldLemmas.{leaf-other}
 use Rattle.bay_tree.specs.Rows.{leaf_named, with_leaf_named}
 use Rattle.bay_base.specs.declared.position.Dbpos.{Dbpos}
@@ -183,13 +184,23 @@ module _ (count : ℕ) where
       (λ k field lt. written-fits _ _ names.time (leaf.Utc now) tt
       (written-fits rows _ names.quality (leaf.Quality Invalid) tt (all k field lt)))
 
+  -- what leaves the other rows than those of profile 2
+  pub others-fit : (rows new : List Row) → KeepsOthers rows new → AllFit count rows
+      → AllFit count new
+  others-fit rows new keeps all k field lt =
+      subst Fits
+      (sym (keeps (field_names field (meter_names k)).value (unmodelled-field field k).value_other))
+      (all k field lt)
+
   pub lost-fits : (now : ℕ) (s : State) → AllFit count s.rows
       → AllFit count (device_after_loss now s).rows
   lost-fits now s all =
       loss-passes (λ t. AllFit count t.rows) now
       (λ k switch t p. contact-fits t.switches k switch Bad now t.rows p)
       (λ k field t p. doubt-fits (field_names field (meter_names k)) now t.rows p)
-      (λ t p. p) (λ t p. p) s all
+      (λ t p. others-fit t.rows _
+      (lost-inputs-keep-others t.profile t.inputs t.switches now t.rows) p)
+      (λ t p. p) s all
 
 -- a measured value as a process has it
 pub leaf-number : (meters : List (List ℕ)) (rows : List Row) → AllFit (length meters) rows → (k : ℕ)

@@ -25,7 +25,7 @@ use Rattle.bay_audit_laws.specs.Laws.{process_of}
 use Rattle.bay_audit_laws.proofs.RowLemmas.{away-outputs}
 
 -- two processes that report the same
-process-alike : (p q : Process) → ((k : ℕ) → p.position k ≡ q.position k)
+pub process-alike : (p q : Process) → ((k : ℕ) → p.position k ≡ q.position k)
     → ((k : ℕ) → p.input k ≡ q.input k)
     → ((k : ℕ) (field : MeterField) → p.measure k field ≡ q.measure k field) → p ≡ q
 process-alike p q positions inputs measures =

@@ -151,7 +151,7 @@ module _ (bay : Bay) (image : Image) (rule : Rule) (timing : Timing) (n : ℕ) (
         process-same s t q fresh in
         w.waits m (sym q.scans ∙ last) (q.stale fresh)
         (ap (holds rule.when) (sym same) ∙ asked)
-        (sym (released-same s t rule.switch rule.operation q fresh) ∙ released);
+        (sym (released-same s t rule.switch rule.operation q) ∙ released);
   }
 
   -- ---- a scan

@@ -10,8 +10,8 @@ use Rattle.bay_tree.specs.declared.leaf.Leaf.TheVariants as leaf
 use Rattle.bay_tree.specs.declared.leaf.Quality.{Quality}
 use Rattle.bay_tree.specs.declared.leaf.Quality.TheVariants.{Good}
 use Rattle.bay_nodes.specs.declared.switch.Switch.{Switch}
-use Rattle.bay_nodes.specs.Names.{StatusNames, control_names, cswi_name, cilo_name, switch_node, opening_names_at, position_names, operation_names, opening_names, closing_names, switch_names, meter_names, total_names, phase_names}
-use Rattle.bay_nodes.specs.Node.{node_name}
+use Rattle.bay_nodes.specs.Names.{StatusNames, control_names, cswi_name, cilo_name, switch_node, opening_names_at, position_names, operation_names, opening_names, closing_names, switch_names, meter_names, total_names, phase_names, local_names, indication_names}
+use Rattle.bay_nodes.specs.Node.{class_of, node_name}
 use Rattle.bay_base.specs.declared.point.MeterField.{MeterField}
 use Rattle.bay_base.specs.declared.point.MeterField.TheVariants.{TotW, TotVAr, Hz, PhaseA, PhaseB, PhaseC}
 use Rattle.il_image.specs.declared.value.Value.{Value}
@@ -22,6 +22,9 @@ use Rattle.bay_process.specs.ReportedRows.{AreEnabling, AreInterlocked}
 use Rattle.bay_process.specs.declared.rows.SwitchRows.{SwitchRows}
 use Rattle.bay_process.specs.declared.switch.BoundSwitch.{BoundSwitch}
 use Rattle.bay_process.specs.Values.{with_count, is_operation, rows_after_operation, position_quality, rows_after_change, rows_after_contact, rows_after_bad_measure, rows_after_measure, has_position, has_invalid_measure, has_measure, with_enabled, with_output, with_status}
+use Rattle.bay_nodes.specs.declared.profile.Profile.{Profile}
+use Rattle.bay_process.specs.Model.{rows_after_health, rows_after_input, rows_after_lost_inputs}
+use Rattle.bay_process.proofs.ModelLemmas.{ModelValue, health, physical_health, local, indication, model_names, health-passes, input-passes, lost-inputs-pass}
 use Rattle.bay_mms_services.specs.Bay.{ShowNoSelection}
 use Rattle.bay_mms_services.proofs.ShownLemmas.{shown-kept}
 
@@ -132,6 +135,39 @@ field-apart k Hz = total-apart (meter_node k) (codes "MX$Hz")
 field-apart k PhaseA = phase-apart (meter_node k) (codes "MX$A$phsA")
 field-apart k PhaseB = phase-apart (meter_node k) (codes "MX$A$phsB")
 field-apart k PhaseC = phase-apart (meter_node k) (codes "MX$A$phsC")
+
+local-apart : (node : List ℕ) → AreApart (local_names node)
+local-apart node =
+    record {
+      value_apart = apart-of node 36 _ refl;
+      quality_apart = apart-of node 36 _ refl;
+      time_apart = apart-of node 36 _ refl;
+    }
+
+-- the names of an input, by the digits of its number
+indication-apart : (number : ℕ) → AreApart (indication_names number)
+indication-apart number =
+    record {
+      value_apart = apart-of (node_name (codes "GGIO1$ST$Ind") number) 36 (codes "stVal") refl;
+      quality_apart = apart-of (node_name (codes "GGIO1$ST$Ind") number) 36 (codes "q") refl;
+      time_apart = apart-of (node_name (codes "GGIO1$ST$Ind") number) 36 (codes "t") refl;
+    }
+
+model-apart : (which : ModelValue) → AreApart (model_names which)
+model-apart health =
+    record {
+      value_apart = apart-of (codes "LLN0") 36 (codes "ST$Health$stVal") refl;
+      quality_apart = apart-of (codes "LLN0") 36 (codes "ST$Health$q") refl;
+      time_apart = apart-of (codes "LLN0") 36 (codes "ST$Health$t") refl;
+    }
+model-apart physical_health =
+    record {
+      value_apart = apart-of (codes "LPHD1") 36 (codes "ST$PhyHealth$stVal") refl;
+      quality_apart = apart-of (codes "LPHD1") 36 (codes "ST$PhyHealth$q") refl;
+      time_apart = apart-of (codes "LPHD1") 36 (codes "ST$PhyHealth$t") refl;
+    }
+model-apart (local kind number) = local-apart (node_name (class_of kind) number)
+model-apart (indication number) = indication-apart number
 
 -- the rows go on showing no selection
 module _ (count : ℕ) where
@@ -249,3 +285,23 @@ module _ (count : ℕ) where
       shows-outputs layout outputs now 0 bound rows
       (λ j b h. let none : j ≡ 0 + j = omega arith in
       subst (λ m. AreEnabling layout m b.rows) none (all j b h).named) shows
+
+  shows-model : (which : ModelValue) (value : Leaf) (quality : Quality) (now : ℕ)
+      (rows : List Row) → Shows rows
+      → Shows (with_status (model_names which) value quality now rows)
+  shows-model which value quality now rows shows =
+      shows-status (model_names which) value quality now rows (model-apart which) shows
+
+  pub shows-health : (profile : Profile) (lost : Bool) (now : ℕ) (rows : List Row) → Shows rows
+      → Shows (rows_after_health profile lost now rows)
+  shows-health = health-passes Shows shows-model
+
+  pub shows-input : (profile : Profile) (inputs : List (List ℕ)) (switches : List Switch)
+      (input : ℕ) (value : Bool) (now : ℕ) (rows : List Row) → Shows rows
+      → Shows (rows_after_input profile inputs switches input value now rows)
+  shows-input = input-passes Shows shows-model
+
+  pub shows-lost-inputs : (profile : Profile) (inputs : List (List ℕ)) (switches : List Switch)
+      (now : ℕ) (rows : List Row) → Shows rows
+      → Shows (rows_after_lost_inputs profile inputs switches now rows)
+  shows-lost-inputs = lost-inputs-pass Shows shows-model

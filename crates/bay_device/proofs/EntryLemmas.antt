@@ -14,7 +14,7 @@ use Rattle.bay_control.proofs.LeadsLemmas.{none-leads, two-lead}
 use Rattle.bay_connection.specs.ConnectionStates.{Indication, ConnectionState, answers, delivers, releases, ends as ends-heard, fails, indications, connection_after}
 use Rattle.bay_mms_services.proofs.EntryLemmas.{request-leads}
 use Rattle.bay_mms_services.specs.Entries.{entries_on_pdu}
-use Rattle.bay_device.specs.Device.{State, device_at, bay_of, device_after_contact}
+use Rattle.bay_device.specs.Device.{State, device_at, bay_of, device_after_contact, with_health}
 use Rattle.bay_device.specs.Entries.{LeadsByChoice, entries_at, entries_on_close, entries_on_closing, entries_on_indications, entries_on_octets, entries_on_event, entries_on_indication, entries_on_open, entries_on_recv, opens, entries_of_act}
 use Rattle.bay_device.specs.Receiving.{StepState, ReceiveResult, client_at, after_indications, on_indication, after_pdu}
 use Rattle.bay_device.specs.Outcomes.{Outcome, close_outcome, without_connection, connection_at, contact_outcome, bad_measure_outcome, event_outcome, initial_connection, input_outcome, last_moment, lost_outcome, measure_outcome, step_start, octets_outcome, open_outcome, outcome, slot_of, refusal_outcome, recv_after, recv_outcome, with_connection, without_owner}
@@ -379,9 +379,11 @@ module _ (now : ℕ) (s : State) (sized : length s.connections ≡ 8) where
       → Led [] s (contact_outcome now k position s o).after
   led-contacted k position None = nothing s
   led-contacted k position (Some switch) =
-      behind [] [] s (device_at now s)
-      (device_after_contact now k switch position (device_at now s))
-      (led-advanced now s) (led-contact now k switch position (device_at now s))
+      let t : State = device_after_contact now k switch position (device_at now s) in
+      behind [] [] s t (with_health now t)
+      (behind [] [] s (device_at now s) t (led-advanced now s)
+      (led-contact now k switch position (device_at now s)))
+      (quiet t (with_health now t) refl (λ a. opens-same t (with_health now t) a refl) refl)
 
   -- what leaves controls and connections
   led-beside : (t : State) → t.controls ≡ (device_at now s).controls → t.connections ≡ s.connections

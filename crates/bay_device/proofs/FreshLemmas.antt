@@ -10,21 +10,25 @@ use Rattle.bay_base.specs.declared.point.Source.TheVariants as source
 use Rattle.il_compile.proofs.Memories.{set-same}
 use Rattle.il_image.specs.declared.value.Value.{Value}
 use Rattle.il_image.specs.declared.value.Value.TheVariants.{Long, Truth}
-use Rattle.bay_nodes.specs.Names.{switch_names, meter_names}
-use Rattle.bay_nodes.specs.Node.{node_number}
+use Rattle.bay_nodes.specs.Names.{StatusNames, switch_names, meter_names, position_names}
+use Rattle.bay_nodes.specs.Node.{class_of, node_name, node_number}
 use Rattle.bay_nodes.specs.declared.switch.Switch.{Switch}
+use Rattle.bay_base.specs.declared.switch.SwitchKind.{SwitchKind}
+use Rattle.bay_process.specs.Model.{rows_after_health}
 use Rattle.bay_process.specs.Names.{field_names}
-use Rattle.bay_process.specs.Values.{measure_leaf, number_of_leaf, position_leaf, position_value, rows_after_change, has_position, has_invalid_measure, has_measure, with_status}
+use Rattle.bay_process.proofs.ModelLemmas.{KeepsOthers, health-keeps-others, input-keeps-others, lost-inputs-keep-others, unmodelled-field, unmodelled-position}
+use Rattle.bay_process.specs.Values.{measure_leaf, number_of_leaf, position_leaf, position_value, rows_after_bad_measure, rows_after_change, rows_after_contact, rows_after_measure, has_position, has_invalid_measure, has_measure, with_status}
 use Rattle.bay_mms_services.specs.declared.answer.Command.{Command}
 use Rattle.bay_mms_services.proofs.ReleaseLemmas.{all-of}
 use Rattle.bay_tree.specs.Rows.{leaf_named, with_leaf_named}
+use Rattle.bay_tree.specs.declared.row.Row.{Row}
 use Rattle.bay_base.specs.declared.position.Dbpos.{Dbpos}
 use Rattle.bay_base.specs.declared.position.Dbpos.TheVariants.{Bad}
 use Rattle.bay_tree.specs.declared.leaf.Leaf.TheVariants as leaf
 use Rattle.bay_tree.specs.declared.leaf.Quality.TheVariants.{Good, Invalid}
 use Rattle.bay_device.specs.Commands.{AreCommanded, IsReleasedAt}
-use Rattle.bay_device.specs.Device.{State, device_after_contact, device_at, device_after_bad_measure, inputs_lost, inputs_of, device_after_loss, is_fresh, is_recent, point_value, after_scan}
-use Rattle.bay_device.specs.Fresh.{IsHistory, FreshAt, HasScan, IsFresh, IsSameProcess, PastEvent, is_heard_after, is_heard}
+use Rattle.bay_device.specs.Device.{State, device_after_contact, device_at, device_after_bad_measure, device_after_input, device_after_measure, inputs_lost, inputs_of, device_after_loss, is_fresh, is_recent, point_value, after_scan, with_health}
+use Rattle.bay_device.specs.Fresh.{IsHistory, FreshAt, HasScan, IsFresh, IsSameProcess, IsSameStatus, PastEvent, is_heard_after, is_heard}
 use Rattle.bay_device.specs.Outcomes.{Outcome, contact_outcome, bad_measure_outcome, event_outcome, input_outcome, last_moment, measure_outcome, outcome, refusal_outcome}
 use Rattle.bay_device.specs.Steps.{OfAssociation, Steps}
 use Rattle.bay_device.specs.declared.event.Event.{Event}
@@ -38,28 +42,70 @@ use Rattle.bay_device.proofs.SameLemmas.{Parts, Same, same-event}
 
 -- ---- what the process tells
 
-pub process-same : (s t : State) → t.rows ≡ s.rows → t.input_values ≡ s.input_values
-    → IsSameProcess s t
-process-same s t rows inputs = record {
+-- the positions and the measured values are the same, with their qualities
+pub record IsSameTold (before after : List Row) : Type 0 where
+  pub positions : (kind : SwitchKind) (number : ℕ)
+      → IsSameStatus (position_names (node_name (class_of kind) number)) before after
+  pub measures : (k : ℕ) (field : MeterField)
+      → IsSameStatus (field_names field (meter_names k)) before after
+
+pub told-same : (before after : List Row) → after ≡ before → IsSameTold before after
+told-same before after rows = record {
   positions = λ kind n. record { value = ap (leaf_named _) rows; quality = ap (leaf_named _) rows };
-  inputs = inputs;
   measures = λ k field. record { value = ap (leaf_named _) rows; quality = ap (leaf_named _) rows };
 }
 
+status-then : (names : StatusNames) (a b c : List Row) → IsSameStatus names a b
+    → IsSameStatus names b c → IsSameStatus names a c
+status-then names a b c p q =
+    record { value = q.value ∙ p.value; quality = q.quality ∙ p.quality }
+
+pub told-then : (a b c : List Row) → IsSameTold a b → IsSameTold b c → IsSameTold a c
+told-then a b c p q = record {
+  positions = λ kind n.
+      status-then (position_names (node_name (class_of kind) n)) a b c (p.positions kind n)
+      (q.positions kind n);
+  measures = λ k field.
+      status-then (field_names field (meter_names k)) a b c (p.measures k field)
+      (q.measures k field);
+}
+
+-- what changes rows of profile 2 alone tells the same
+pub told-others : (before after : List Row) → KeepsOthers before after → IsSameTold before after
+told-others before after keeps = record {
+  positions = λ kind n. record {
+    value = keeps _ (unmodelled-position kind n).value_other;
+    quality = keeps _ (unmodelled-position kind n).quality_other;
+  };
+  measures = λ k field. record {
+    value = keeps _ (unmodelled-field field k).value_other;
+    quality = keeps _ (unmodelled-field field k).quality_other;
+  };
+}
+
+same-process : (s t : State) → IsSameTold s.rows t.rows → t.input_values ≡ s.input_values
+    → IsSameProcess s t
+same-process s t told inputs =
+    record { positions = told.positions; inputs = inputs; measures = told.measures }
+
+pub process-same : (s t : State) → t.rows ≡ s.rows → t.input_values ≡ s.input_values
+    → IsSameProcess s t
+process-same s t rows inputs = same-process s t (told-same s.rows t.rows rows) inputs
+
 -- ---- what is no scan
 
--- No scan was done, and where the last one is not stale all values are the same.
+-- No scan was done, and where the last one is not stale all values of the process are the same.
 pub record Still (s t : State) : Type 0 where
   pub scans : t.last_scan ≡ s.last_scan
   pub stale : t.is_stale ≡ false → s.is_stale ≡ false
-  pub rows : t.is_stale ≡ false → t.rows ≡ s.rows
+  pub rows : t.is_stale ≡ false → IsSameTold s.rows t.rows
   pub inputs : t.is_stale ≡ false → t.input_values ≡ s.input_values
 
 still-same : (s t : State) → Same s t → Still s t
 still-same s t same = record {
   scans = ap (λ (p : Parts). p.scans) same;
   stale = λ h. sym (ap (λ (p : Parts). p.stale) same) ∙ h;
-  rows = λ h. ap (λ (p : Parts). p.rows) same;
+  rows = λ h. told-same s.rows t.rows (ap (λ (p : Parts). p.rows) same);
   inputs = λ h. ap (λ (p : Parts). p.inputs) same;
 }
 
@@ -70,82 +116,140 @@ same-truth true false h = absurd cc
 same-truth false true h = absurd cc
 same-truth false false h = refl
 
-module _ (now : ℕ) (s : State) where
-  still-none : Still s s
-  still-none = record { scans = refl; stale = λ h. h; rows = λ h. refl; inputs = λ h. refl }
+still-none : (s : State) → Still s s
+still-none s = record {
+  scans = refl;
+  stale = λ h. h;
+  rows = λ h. told-same s.rows s.rows refl;
+  inputs = λ h. refl;
+}
 
-  still-contact : (k : ℕ) (position : Dbpos) (o : Option Switch)
-      → Still s (contact_outcome now k position s o).after
-  still-contact k position None = still-none
-  still-contact k position (Some switch) =
+still-then : (s t u : State) → Still s t → Still t u → Still s u
+still-then s t u p q = record {
+  scans = q.scans ∙ p.scans;
+  stale = λ h. p.stale (q.stale h);
+  rows = λ h. told-then s.rows t.rows u.rows (p.rows (q.stale h)) (q.rows h);
+  inputs = λ h. q.inputs h ∙ p.inputs (q.stale h);
+}
+
+still-health : (now : ℕ) (s : State) → Still s (with_health now s)
+still-health now s = record {
+  scans = refl;
+  stale = λ h. h;
+  rows = λ h.
+      told-others s.rows (rows_after_health s.profile s.is_lost now s.rows)
+      (health-keeps-others s.profile s.is_lost now s.rows);
+  inputs = λ h. refl;
+}
+
+module _ (now : ℕ) (s : State) where
+  still-at : Still s (device_at now s)
+  still-at = record {
+    scans = refl;
+    stale = λ h. h;
+    rows = λ h. told-same s.rows s.rows refl;
+    inputs = λ h. refl;
+  }
+
+  still-moved : (k : ℕ) (switch : Switch) (position : Dbpos)
+      → Still s (device_after_contact now k switch position s)
+  still-moved k switch position =
       let names = switch_names s.switches k switch in
       let told : Bool = has_position names.position position s.rows in
       record {
         scans = refl;
         stale = λ h. (or_parts s.is_stale (not told) h).0;
         rows = λ h.
-            ap (λ (b : Bool). cond b s.rows (rows_after_change names position now s.rows))
-            (not-false told (or_parts s.is_stale (not told) h).1);
+            told-same s.rows (rows_after_contact names position now s.rows)
+            (ap (λ (b : Bool). cond b s.rows (rows_after_change names position now s.rows))
+            (not-false told (or_parts s.is_stale (not told) h).1));
         inputs = λ h. refl;
       }
 
-  still-input : (k : ℕ) (value : Bool) (o : Option Bool) → slice_get s.input_values k ≡ o
-      → Still s (input_outcome now k value s o).after
-  still-input k value None here = still-none
-  still-input k value (Some before) here =
+  still-reported : (k : ℕ) (value before : Bool) → slice_get s.input_values k ≡ Some before
+      → Still s (device_after_input now k value before s)
+  still-reported k value before here =
       let told : Bool = beq value before in
       record {
         scans = refl;
         stale = λ h. (or_parts s.is_stale (not told) h).0;
-        rows = λ h. refl;
+        rows = λ h.
+            told-others s.rows _
+            (input-keeps-others s.profile s.inputs s.switches k value now s.rows);
         inputs = λ h.
             let is : value ≡ before =
             same-truth value before (not-false told (or_parts s.is_stale (not told) h).1) in
             ap (slice_set s.input_values k) is ∙ set-same s.input_values k before here;
       }
 
-  still-measure : (k : ℕ) (field : MeterField) (value : ℤ) (o : Option (List ℕ))
-      → Still s (measure_outcome now k field value s o).after
-  still-measure k field value None = still-none
-  still-measure k field value (Some id) =
+  still-measured : (k : ℕ) (field : MeterField) (value : ℤ)
+      → Still s (device_after_measure now k field value s)
+  still-measured k field value =
       let names = field_names field (meter_names k) in
       let told : Bool = has_measure names value s.rows in
       record {
         scans = refl;
         stale = λ h. (or_parts s.is_stale (not told) h).0;
         rows = λ h.
-            ap (λ (b : Bool). cond b s.rows
+            told-same s.rows (rows_after_measure names value now s.rows)
+            (ap (λ (b : Bool). cond b s.rows
             (with_status names (leaf.Int32 value) Good now s.rows))
-            (not-false told (or_parts s.is_stale (not told) h).1);
+            (not-false told (or_parts s.is_stale (not told) h).1));
         inputs = λ h. refl;
       }
 
-  still-doubt : (k : ℕ) (field : MeterField) (o : Option (List ℕ))
-      → Still s (bad_measure_outcome now k field s o).after
-  still-doubt k field None = still-none
-  still-doubt k field (Some id) =
+  still-invalid : (k : ℕ) (field : MeterField) → Still s (device_after_bad_measure now k field s)
+  still-invalid k field =
       let names = field_names field (meter_names k) in
       let told : Bool = has_invalid_measure names s.rows in
       record {
         scans = refl;
         stale = λ h. (or_parts s.is_stale (not told) h).0;
         rows = λ h.
-            ap (λ (b : Bool). cond b s.rows
+            told-same s.rows (rows_after_bad_measure names now s.rows)
+            (ap (λ (b : Bool). cond b s.rows
             (with_leaf_named names.time (leaf.Utc now)
             (with_leaf_named names.quality (leaf.Quality Invalid) s.rows)))
-            (not-false told (or_parts s.is_stale (not told) h).1);
+            (not-false told (or_parts s.is_stale (not told) h).1));
         inputs = λ h. refl;
       }
 
--- ---- a process that is lost
+  -- what the process reports at a moment, and the health after it
+  still-event : (t : State) → Still (device_at now s) t → Still s (with_health now t)
+  still-event t still =
+      still-then s (device_at now s) (with_health now t) still-at
+      (still-then (device_at now s) t (with_health now t) still (still-health now t))
 
-still-then : (s t u : State) → Still s t → Still t u → Still s u
-still-then s t u p q = record {
-  scans = q.scans ∙ p.scans;
-  stale = λ h. p.stale (q.stale h);
-  rows = λ h. q.rows h ∙ p.rows (q.stale h);
-  inputs = λ h. q.inputs h ∙ p.inputs (q.stale h);
-}
+module _ (now : ℕ) (s : State) where
+  still-contact : (k : ℕ) (position : Dbpos) (o : Option Switch)
+      → Still s (contact_outcome now k position s o).after
+  still-contact k position None = still-none s
+  still-contact k position (Some switch) =
+      still-event now s (device_after_contact now k switch position (device_at now s))
+      (still-moved now (device_at now s) k switch position)
+
+  still-input : (k : ℕ) (value : Bool) (o : Option Bool) → slice_get s.input_values k ≡ o
+      → Still s (input_outcome now k value s o).after
+  still-input k value None here = still-none s
+  still-input k value (Some before) here =
+      still-event now s (device_after_input now k value before (device_at now s))
+      (still-reported now (device_at now s) k value before here)
+
+  still-measure : (k : ℕ) (field : MeterField) (value : ℤ) (o : Option (List ℕ))
+      → Still s (measure_outcome now k field value s o).after
+  still-measure k field value None = still-none s
+  still-measure k field value (Some id) =
+      still-event now s (device_after_measure now k field value (device_at now s))
+      (still-measured now (device_at now s) k field value)
+
+  still-doubt : (k : ℕ) (field : MeterField) (o : Option (List ℕ))
+      → Still s (bad_measure_outcome now k field s o).after
+  still-doubt k field None = still-none s
+  still-doubt k field (Some id) =
+      still-event now s (device_after_bad_measure now k field (device_at now s))
+      (still-invalid now (device_at now s) k field)
+
+-- ---- a process that is lost
 
 -- inputs of which none is TRUE are FALSE
 found-none : (b : Bool) (n : ℕ) → is_some (cond b (Some n) None) ≡ false → b ≡ false
@@ -162,13 +266,14 @@ all-false (false ∷ values) h =
     grind (arith, nat_tests) in
     ap (λ (vs : List Bool). false ∷ vs) (all-false values rest)
 
-still-inputs : (s : State) → Still s (inputs_lost s)
-still-inputs s =
+still-inputs : (now : ℕ) (s : State) → Still s (inputs_lost now s)
+still-inputs now s =
     let some : Bool = is_some (position (λ value. value) s.input_values) in
     record {
       scans = refl;
       stale = λ h. (or_parts s.is_stale some h).0;
-      rows = λ h. refl;
+      rows = λ h.
+          told-others s.rows _ (lost-inputs-keep-others s.profile s.inputs s.switches now s.rows);
       inputs = λ h.
           all-false s.input_values (found-none _ _ (or_parts s.is_stale some h).1);
     }
@@ -176,17 +281,11 @@ still-inputs s =
 pub still-lost : (now : ℕ) (s : State) → Still s (device_after_loss now s)
 still-lost now s =
     loss-passes (Still s) now
-    (λ k switch t p.
-    let w = still-contact now t k Bad (Some switch) in
-    still-then s t (device_after_contact now k switch Bad t) p
-    (record { scans = w.scans; stale = w.stale; rows = w.rows; inputs = w.inputs }))
-    (λ k field t p.
-    let w = still-doubt now t k field (Some []) in
-    still-then s t (device_after_bad_measure now k field t) p
-    (record { scans = w.scans; stale = w.stale; rows = w.rows; inputs = w.inputs }))
-    (λ t p. still-then s t (inputs_lost t) p (still-inputs t))
+    (λ k switch t p. still-then s t _ p (still-moved now t k switch Bad))
+    (λ k field t p. still-then s t _ p (still-invalid now t k field))
+    (λ t p. still-then s t (inputs_lost now t) p (still-inputs now t))
     (λ t p. record { scans = p.scans; stale = p.stale; rows = p.rows; inputs = p.inputs }) s
-    (still-none now s)
+    (still-none s)
 
 -- ---- the scan that stands behind
 
@@ -201,7 +300,7 @@ pub record Since (m : ℕ) (past : List PastEvent) (s : State) : Type 0 where
   pub done : IsOk scan.answer
   pub at : scan.now ≡ m
   pub unchanged : AllByRecursion (λ (p : PastEvent). IsSameProcess scan.after p.after) since
-  pub rows : s.rows ≡ scan.after.rows
+  pub rows : IsSameTold scan.after.rows s.rows
   pub inputs : s.input_values ≡ scan.after.input_values
 
 -- the last scan is so, where it is not stale, and the device notes whether the process is lost
@@ -240,7 +339,8 @@ module _ (past : List PastEvent) (s : State) (tracks : Tracks past s) (now : ℕ
     since_scan = λ m scans fresh.
         let w : Since m past s =
         tracks.since_scan m (sym still.scans ∙ scans) (still.stale fresh) in
-        let rows : o.after.rows ≡ w.scan.after.rows = still.rows fresh ∙ w.rows in
+        let rows : IsSameTold w.scan.after.rows o.after.rows =
+        told-then w.scan.after.rows s.rows o.after.rows w.rows (still.rows fresh) in
         let inputs : o.after.input_values ≡ w.scan.after.input_values =
         still.inputs fresh ∙ w.inputs in
         let p : PastEvent =
@@ -253,7 +353,7 @@ module _ (past : List PastEvent) (s : State) (tracks : Tracks past s) (now : ℕ
           scanned = w.scanned;
           done = w.done;
           at = w.at;
-          unchanged = (process-same w.scan.after o.after rows inputs, w.unchanged);
+          unchanged = (same-process w.scan.after o.after rows inputs, w.unchanged);
           rows = rows;
           inputs = inputs;
         };
@@ -280,7 +380,7 @@ module _ (past : List PastEvent) (s : State) (tracks : Tracks past s) (now : ℕ
           done = refl;
           at = at;
           unchanged = tt;
-          rows = refl;
+          rows = told-same t.rows t.rows refl;
           inputs = refl;
         };
     heard = tracks.heard;
@@ -337,16 +437,16 @@ module _ (past : List PastEvent) (s : State) (tracks : Tracks past s) (now : ℕ
       led-still (BadMeasure k field) _ (still-doubt now s k field (slice_get s.meters k))
       (hears-doubt k field (slice_get s.meters k))
   led-event choice Lost =
-      let w = still-lost now (device_at now s) in
       led-still Lost _
-      (record { scans = w.scans; stale = w.stale; rows = w.rows; inputs = w.inputs }) refl
+      (still-event now s (device_after_loss now (device_at now s))
+      (still-lost now (device_at now s))) refl
   led-event choice Scan = led-scan
 
   led-if : (late early : Bool) (event : Event) (o : Outcome) → Led event o
       → Led event
       (cond late (refusal_outcome MomentTooLarge s) (cond early (refusal_outcome TimeWentBack s) o))
-  led-if true early event o led = led-still event _ (still-none now s) tracks.heard
-  led-if false true event o led = led-still event _ (still-none now s) tracks.heard
+  led-if true early event o led = led-still event _ (still-none s) tracks.heard
+  led-if false true event o led = led-still event _ (still-none s) tracks.heard
   led-if false false event o led = led
 
   pub tracks-event : (choice : Option ℕ) (event : Event)

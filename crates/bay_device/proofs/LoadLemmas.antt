@@ -10,6 +10,7 @@ use Rattle.bay_process.specs.declared.switch.BoundSwitch.{BoundSwitch}
 use Rattle.bay_mms_services.specs.Bay as services
 use Rattle.bay_config.specs.declared.bay.Bay.{Bay}
 use Rattle.bay_base.specs.declared.point.Source.{Source}
+use Rattle.bay_nodes.specs.declared.profile.Profile.{Profile}
 use Rattle.bay_nodes.specs.declared.switch.Switch.{Switch}
 use Rattle.il_image.specs.Images.{Image}
 use Rattle.il_check.specs.Program.{Checked}
@@ -23,27 +24,30 @@ use Rattle.bay_device.specs.Load.{initial_device}
 -- a device before its first event, of a bay that is bound
 pub loaded-view : (bay : Bay) (image : Image) (served : services.Bay) (age : ℕ)
     (inputs : List (List ℕ)) (input_values : List Bool) (meters : List (List ℕ))
-    (reads writes : List Source) (machine : MachineData)
+    (profile : Profile) (reads writes : List Source) (machine : MachineData)
     → let s : State = initial_device bay image in
     served ≡ record (bay_of s) { inputs = [] } → age ≡ s.scan_max_age_ms → inputs ≡ s.inputs
-    → input_values ≡ s.input_values → meters ≡ s.meters → reads ≡ s.reads → writes ≡ s.writes
-    → machine ≡ s.machine
+    → input_values ≡ s.input_values → meters ≡ s.meters → profile ≡ s.profile → reads ≡ s.reads
+    → writes ≡ s.writes → machine ≡ s.machine
     → record (with_bay served s) {
       scan_max_age_ms = age;
       inputs = inputs;
       input_values = input_values;
       meters = meters;
+      profile = profile;
       reads = reads;
       writes = writes;
       machine = machine;
     } ≡ s
-loaded-view bay image served age inputs input_values meters reads writes machine b a n i m e f h =
+loaded-view bay image served age inputs input_values meters profile reads writes machine b a n i m
+    p e f h =
     let s : State = initial_device bay image in
     ap (λ x. record (with_bay x s) {
       scan_max_age_ms = age;
       inputs = inputs;
       input_values = input_values;
       meters = meters;
+      profile = profile;
       reads = reads;
       writes = writes;
       machine = machine;
@@ -53,6 +57,7 @@ loaded-view bay image served age inputs input_values meters reads writes machine
       inputs = inputs;
       input_values = input_values;
       meters = meters;
+      profile = profile;
       reads = reads;
       writes = writes;
       machine = machine;
@@ -61,6 +66,7 @@ loaded-view bay image served age inputs input_values meters reads writes machine
       inputs = x;
       input_values = input_values;
       meters = meters;
+      profile = profile;
       reads = reads;
       writes = writes;
       machine = machine;
@@ -68,11 +74,19 @@ loaded-view bay image served age inputs input_values meters reads writes machine
     ∙ ap (λ x. record s {
       input_values = x;
       meters = meters;
+      profile = profile;
       reads = reads;
       writes = writes;
       machine = machine;
     }) i
-    ∙ ap (λ x. record s { meters = x; reads = reads; writes = writes; machine = machine }) m
+    ∙ ap (λ x. record s {
+      meters = x;
+      profile = profile;
+      reads = reads;
+      writes = writes;
+      machine = machine;
+    }) m
+    ∙ ap (λ x. record s { profile = x; reads = reads; writes = writes; machine = machine }) p
     ∙ ap (λ x. record s { reads = x; writes = writes; machine = machine }) e
     ∙ ap (λ x. record s { writes = x; machine = machine }) f
     ∙ ap (λ x. record s { machine = x }) h

@@ -10,8 +10,10 @@ use Rattle.bay_base.specs.declared.switch.Operation.TheVariants.{Open, Close}
 use Rattle.bay_nodes.specs.declared.switch.Switch.{Switch}
 use Rattle.bay_base.specs.declared.position.Dbpos.TheVariants.{Bad}
 use Rattle.bay_nodes.specs.Names.{meter_names}
+use Rattle.bay_nodes.specs.declared.profile.Profile.{Profile}
 use Rattle.bay_process.specs.Names.{field_names}
 use Rattle.bay_process.proofs.ToldLemmas.{Keeps, field-away, keeps-contact, keeps-doubt}
+use Rattle.bay_process.proofs.ModelLemmas.{lost-inputs-keep}
 use Rattle.bay_control.specs.Decisions as control
 use Rattle.bay_control.specs.Decisions.{after_contact, is_done}
 use Rattle.bay_control.specs.Requests.{is_reached}
@@ -45,7 +47,7 @@ module _ (P : State → Type 0) (now : ℕ)
   measures-pass k (id ∷ ids) s p =
       measures-pass (k + 1) ids (meter_lost now k s) (meter-passes k s p)
 
-  pub loss-passes : ((s : State) → P s → P (inputs_lost s))
+  pub loss-passes : ((s : State) → P s → P (inputs_lost now s))
       → ((s : State) → P s → P (record s { is_lost = true })) → (s : State) → P s
       → P (device_after_loss now s)
   loss-passes inputs noted s p =
@@ -65,7 +67,9 @@ next-behind xs k x here =
 pub record Fixed : Type 0 where
   pub domain : List ℕ
   pub switches : List Switch
+  pub names : List (List ℕ)
   pub meters : List (List ℕ)
+  pub profile : Profile
   pub reads : List Source
   pub writes : List Source
   pub machine : MachineData
@@ -78,7 +82,9 @@ abbrev pub fixed_of : State → Fixed
 fixed_of s = record {
   domain = s.domain;
   switches = s.switches;
+  names = s.inputs;
   meters = s.meters;
+  profile = s.profile;
   reads = s.reads;
   writes = s.writes;
   machine = s.machine;
@@ -106,7 +112,8 @@ lost-keeps now s =
     (λ k switch t p i x. keeps-contact t.switches k switch Bad now t.rows i x ∙ p i x)
     (λ k field t p i x. keeps-doubt (field_names field (meter_names k)) now t.rows
     (field-away k field) i x ∙ p i x)
-    (λ t p. p) (λ t p. p) s (λ i x. refl)
+    (λ t p i x. lost-inputs-keep t.profile t.inputs t.switches now t.rows i x ∙ p i x) (λ t p. p) s
+    (λ i x. refl)
 
 -- a bad position is not the one that is asked for
 not-reached : (b : Bool) (operation : Operation) → (b && is_reached operation Bad) ≡ false

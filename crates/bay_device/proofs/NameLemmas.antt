@@ -15,11 +15,14 @@ use Rattle.bay_tree.specs.declared.leaf.Leaf.TheVariants as leaf
 use Rattle.bay_tree.specs.declared.leaf.Quality.{Quality}
 use Rattle.bay_tree.specs.declared.leaf.Quality.TheVariants.{Good, Invalid}
 use Rattle.bay_tree.specs.declared.row.Row.{Row}
+use Rattle.bay_nodes.specs.declared.profile.Profile.{Profile}
+use Rattle.bay_process.specs.Model.{rows_after_health, rows_after_input, rows_after_lost_inputs}
+use Rattle.bay_process.proofs.ModelLemmas.{ModelValue, model_names, health-passes, input-passes, lost-inputs-pass}
 use Rattle.bay_process.specs.Names.{field_names}
 use Rattle.bay_process.specs.Values.{with_count, is_operation, rows_after_operation, output_of, position_quality, rows_after_change, rows_after_contact, rows_after_bad_measure, rows_after_measure, has_position, has_invalid_measure, has_measure, with_enabled, with_output, with_outputs, with_status}
 use Rattle.bay_mms_services.specs.ObservedEntries.{AreNamedAlike}
 use Rattle.bay_mms_services.specs.Bay.{Bay}
-use Rattle.bay_device.specs.Device.{State, bay_of, device_after_loss}
+use Rattle.bay_device.specs.Device.{State, bay_of, device_after_loss, with_health}
 use Rattle.bay_device.proofs.LostLemmas.{loss-passes}
 
 leaf-if : (b : Bool) (r : Row) (v : Leaf)
@@ -103,6 +106,41 @@ doubt-names names now rows =
     (with_leaf_named names.quality (leaf.Quality Invalid) rows)
     ∙ leaf-names names.quality (leaf.Quality Invalid) rows)
 
+-- the names after a change of what profile 2 adds
+model-names : (old : List (List ℕ)) (which : ModelValue) (value : Leaf) (quality : Quality)
+    (now : ℕ) (rows : List Row) → names_of rows ≡ old
+    → names_of (with_status (model_names which) value quality now rows) ≡ old
+model-names old which value quality now rows same =
+    status-names (model_names which) value quality now rows ∙ same
+
+health-names : (profile : Profile) (lost : Bool) (now : ℕ) (rows : List Row)
+    → names_of (rows_after_health profile lost now rows) ≡ names_of rows
+health-names profile lost now rows =
+    health-passes (λ new. names_of new ≡ names_of rows) (model-names (names_of rows)) profile lost
+    now rows refl
+
+pub input-names : (profile : Profile) (inputs : List (List ℕ)) (switches : List Switch)
+    (input : ℕ) (value : Bool) (now : ℕ) (rows : List Row)
+    → names_of (rows_after_input profile inputs switches input value now rows) ≡ names_of rows
+input-names profile inputs switches input value now rows =
+    input-passes (λ new. names_of new ≡ names_of rows) (model-names (names_of rows)) profile inputs
+    switches input value now rows refl
+
+lost-inputs-names : (profile : Profile) (inputs : List (List ℕ)) (switches : List Switch)
+    (now : ℕ) (rows : List Row)
+    → names_of (rows_after_lost_inputs profile inputs switches now rows) ≡ names_of rows
+lost-inputs-names profile inputs switches now rows =
+    lost-inputs-pass (λ new. names_of new ≡ names_of rows) (model-names (names_of rows)) profile
+    inputs switches now rows refl
+
+pub alike-health : (n : Bay) (now : ℕ) (s : State) → AreNamedAlike n (bay_of s)
+    → AreNamedAlike n (bay_of (with_health now s))
+alike-health n now s alike = record {
+  domain = alike.domain;
+  switches = alike.switches;
+  names = health-names s.profile s.is_lost now s.rows ∙ alike.names;
+}
+
 -- nor does the loss of the process
 pub alike-lost : (n : Bay) (now : ℕ) (s : State) → AreNamedAlike n (bay_of s)
     → AreNamedAlike n (bay_of (device_after_loss now s))
@@ -118,7 +156,11 @@ alike-lost n now s alike =
       switches = p.switches;
       names = doubt-names (field_names field (meter_names k)) now t.rows ∙ p.names;
     })
-    (λ t p. record { domain = p.domain; switches = p.switches; names = p.names })
+    (λ t p. record {
+      domain = p.domain;
+      switches = p.switches;
+      names = lost-inputs-names t.profile t.inputs t.switches now t.rows ∙ p.names;
+    })
     (λ t p. record { domain = p.domain; switches = p.switches; names = p.names }) s alike
 
 enabled-names : (names : StatusNames) (value : Bool) (now : ℕ) (rows : List Row)

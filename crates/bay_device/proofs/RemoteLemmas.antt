@@ -182,7 +182,7 @@ module _ (now : ℕ) (s : State) where
     told-lost =
         let t : State = positions_lost now 0 s.switches (device_at now s) in
         measures-pass (λ u. value_at u.input_values input ≡ false) now (λ k switch u p. p)
-        (λ k field u p. p) 0 s.meters (inputs_lost t) (cleared t.input_values input)
+        (λ k field u p. p) 0 s.meters (inputs_lost now t) (cleared t.input_values input)
 
     told-event : (choice : Option ℕ) (event : Event)
         → Told event (event_outcome choice now event s)

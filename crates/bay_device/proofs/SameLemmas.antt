@@ -3,6 +3,7 @@
 use Rattle.std.proofs.Common.{◌≡◌, ℕ, zero, suc, Bool, true, false, cond, nat_lt, List, [], ◌∷◌, Option, Some, None, refl, ap₂, ◌∙◌}
 use Rattle.bay_base.specs.declared.point.Source.{Source}
 use Rattle.bay_connection.specs.ConnectionStates.{Indication, ConnectionState, Terms, answers, delivers, releases, ends, fails, indications, connection_after}
+use Rattle.bay_nodes.specs.declared.profile.Profile.{Profile}
 use Rattle.bay_nodes.specs.declared.switch.Switch.{Switch}
 use Rattle.bay_control.specs.declared.control.SwitchControl.{SwitchControl}
 use Rattle.bay_mms_services.specs.Answers.{pdu_answer}
@@ -24,6 +25,7 @@ pub record Parts : Type 0 where
   pub machine : MachineData
   pub switches : List Switch
   pub meters : List (List ℕ)
+  pub profile : Profile
   pub reads : List Source
   pub writes : List Source
   pub rows : List Row
@@ -40,6 +42,7 @@ parts_of s = record {
   machine = s.machine;
   switches = s.switches;
   meters = s.meters;
+  profile = s.profile;
   reads = s.reads;
   writes = s.writes;
   rows = s.rows;

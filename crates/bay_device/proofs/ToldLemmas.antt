@@ -30,7 +30,7 @@ use Rattle.bay_mms_services.specs.Entries.{entries_on_pdu}
 use Rattle.bay_mms_services.specs.declared.client.ClientContext.{ClientContext}
 use Rattle.bay_mms_services.proofs.AcceptedLemmas.{alike-after, alike-still, none-read, none-written, response-tells}
 use Rattle.bay_mms_services.proofs.ShortLemmas.{AreShort, answer-short}
-use Rattle.bay_device.specs.Device.{State, device_at, bay_of, device_after_loss, run_result_at}
+use Rattle.bay_device.specs.Device.{State, device_at, bay_of, device_after_bad_measure, device_after_contact, device_after_input, device_after_loss, device_after_measure, run_result_at}
 use Rattle.bay_device.specs.Entries.{IsIdle, LeadsByChoice, opens, entries_at, entries_on_close, entries_on_closing, entries_on_indications, entries_on_octets, entries_on_event, entries_on_indication, entries_on_open, entries_on_recv}
 use Rattle.bay_device.specs.Receiving.{StepState, ReceiveResult, client_at, after_indications, on_indication, after_pdu, sent_on, size_of, with_sent}
 use Rattle.bay_device.specs.Outcomes.{Outcome, close_outcome, without_connection, closed_by, connection_at, contact_outcome, bad_measure_outcome, event_outcome, initial_connection, input_outcome, last_moment, lost_outcome, measure_outcome, step_start, octets_outcome, open_outcome, outcome, slot_of, refusal_outcome, recv_after, recv_outcome, with_connection, without_owner}
@@ -44,7 +44,7 @@ use Rattle.bay_device.specs.declared.fault.StepFault.{StepFault}
 use Rattle.bay_device.specs.declared.fault.StepFault.TheVariants.{MomentTooLarge, TimeWentBack}
 use Rattle.bay_device.proofs.EntryLemmas.{heard-connected}
 use Rattle.bay_device.proofs.LostLemmas.{Fixed, lost-fixed}
-use Rattle.bay_device.proofs.NameLemmas.{alike-lost, doubt-names, contact-names, measure-names, outputs-names}
+use Rattle.bay_device.proofs.NameLemmas.{alike-health, alike-lost, doubt-names, contact-names, input-names, measure-names, outputs-names}
 use Rattle.bay_device.proofs.SentLemmas.{read-back}
 use Rattle.bay_device.proofs.TalkLemmas.{CanAnswer, CanAnswerAll, IsOpen, can-answer, sized-behind}
 
@@ -393,12 +393,12 @@ module _ (n : Bay) (now : ℕ) (s : State) (alike : AreNamedAlike n (bay_of s))
       record {
         told = refl;
         left = refl;
-        alike = record {
+        alike = alike-health n now (device_after_contact now k switch position t) (record {
           domain = alike-advanced.domain;
           switches = alike-advanced.switches;
           names = contact-names (switch_names t.switches k switch) position now t.rows
               ∙ alike-advanced.names;
-        };
+        });
         sized = sized;
       }
 
@@ -407,16 +407,19 @@ module _ (n : Bay) (now : ℕ) (s : State) (alike : AreNamedAlike n (bay_of s))
       (states_after_step (Input k value) talks)
       (input_outcome now k value s o) []
   input-told k value None = record { told = refl; left = refl; alike = alike; sized = sized }
-  input-told k value (Some before) = record {
-    told = refl;
-    left = refl;
-    alike = record {
-      domain = alike-advanced.domain;
-      switches = alike-advanced.switches;
-      names = alike-advanced.names;
-    };
-    sized = sized;
-  }
+  input-told k value (Some before) =
+      let t : State = device_at now s in
+      record {
+        told = refl;
+        left = refl;
+        alike = alike-health n now (device_after_input now k value before t) (record {
+          domain = alike-advanced.domain;
+          switches = alike-advanced.switches;
+          names = input-names t.profile t.inputs t.switches k value now t.rows
+              ∙ alike-advanced.names;
+        });
+        sized = sized;
+      }
 
   measure-told : (k : ℕ) (field : MeterField) (value : ℤ) (o : Option (List ℕ))
       → IsTold n talks (observed_in_step now (Measure k field value) n talks)
@@ -428,12 +431,12 @@ module _ (n : Bay) (now : ℕ) (s : State) (alike : AreNamedAlike n (bay_of s))
       record {
         told = refl;
         left = refl;
-        alike = record {
+        alike = alike-health n now (device_after_measure now k field value t) (record {
           domain = alike-advanced.domain;
           switches = alike-advanced.switches;
           names = measure-names (field_names field (meter_names k)) value now t.rows
               ∙ alike-advanced.names;
-        };
+        });
         sized = sized;
       }
 
@@ -441,16 +444,19 @@ module _ (n : Bay) (now : ℕ) (s : State) (alike : AreNamedAlike n (bay_of s))
       → IsTold n talks (observed_in_step now (BadMeasure k field) n talks)
       (states_after_step (BadMeasure k field) talks) (bad_measure_outcome now k field s o) []
   doubt-told k field None = record { told = refl; left = refl; alike = alike; sized = sized }
-  doubt-told k field (Some id) = record {
-    told = refl;
-    left = refl;
-    alike = record {
-      domain = alike-advanced.domain;
-      switches = alike-advanced.switches;
-      names = doubt-names (field_names field (meter_names k)) now s.rows ∙ alike-advanced.names;
-    };
-    sized = sized;
-  }
+  doubt-told k field (Some id) =
+      let t : State = device_at now s in
+      record {
+        told = refl;
+        left = refl;
+        alike = alike-health n now (device_after_bad_measure now k field t) (record {
+          domain = alike-advanced.domain;
+          switches = alike-advanced.switches;
+          names = doubt-names (field_names field (meter_names k)) now t.rows
+              ∙ alike-advanced.names;
+        });
+        sized = sized;
+      }
 
   lost-told : IsTold n talks (observed_in_step now Lost n talks) (states_after_step Lost talks)
       (lost_outcome now s) []
@@ -461,7 +467,7 @@ module _ (n : Bay) (now : ℕ) (s : State) (alike : AreNamedAlike n (bay_of s))
       record {
         told = refl;
         left = left;
-        alike = alike-lost n now t alike-advanced;
+        alike = alike-health n now (device_after_loss now t) (alike-lost n now t alike-advanced);
         sized = subst HaveAgreedSize (sym left) sized;
       }
 

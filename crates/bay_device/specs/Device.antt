@@ -1,6 +1,6 @@
 -- The state of a device: its bay, the program that interlocks it, and its clients; and the effects
--- of the process, of scans and of time (IEC 61850-7-4: XCBR, XSWI, CSWI, CILO and MMXU; IEC
--- 61850-7-3: status values and measured values).
+-- of the process, of scans and of time (IEC 61850-7-4: LLN0, LPHD, XCBR, XSWI, CSWI, CILO, MMXU
+-- and GGIO; IEC 61850-7-3: status values and measured values).
 use Rattle.std.specs.Prelude.{ℕ, ℤ, ◌+◌, ◌-◌, Bool, true, false, not, ◌&&◌, ◌||◌, nat_le, List, [], ◌∷◌, length, map, position, slice_get, slice_set, unwrap_or, Option, None, Some, is_some, if◌then◌else◌}
 use Rattle.std.specs.Bool.{beq}
 use Rattle.bay_tree.specs.declared.row.Row.{Row}
@@ -8,6 +8,7 @@ use Rattle.bay_base.specs.declared.position.Dbpos.{Dbpos}
 use Rattle.bay_base.specs.declared.position.Dbpos.TheVariants.{Bad}
 use Rattle.bay_nodes.specs.declared.switch.Switch.{Switch}
 use Rattle.bay_nodes.specs.Names.{switch_names, meter_names}
+use Rattle.bay_nodes.specs.declared.profile.Profile.{Profile}
 use Rattle.bay_base.specs.declared.point.MeterField.{MeterField}
 use Rattle.bay_base.specs.declared.point.MeterField.TheVariants.{TotW, TotVAr, Hz, PhaseA, PhaseB, PhaseC}
 use Rattle.bay_base.specs.declared.point.Source.{Source}
@@ -17,6 +18,7 @@ use Rattle.il_image.specs.declared.timer.TimerState.{TimerState}
 use Rattle.il_image.specs.declared.value.Value.{Value}
 use Rattle.il_image.specs.declared.value.Value.TheVariants.{Truth, Long}
 use Rattle.il_scan.specs.Scans.{MachineData, outputs_of, scan_start}
+use Rattle.bay_process.specs.Model.{rows_after_health, rows_after_input, rows_after_lost_inputs}
 use Rattle.bay_process.specs.Names.{field_names}
 use Rattle.bay_process.specs.Values.{measure_leaf, number_of_leaf, position_leaf, position_value, rows_after_contact, rows_after_bad_measure, rows_after_measure, has_position, has_invalid_measure, has_measure, with_outputs}
 use Rattle.bay_control.specs.Decisions as control
@@ -27,13 +29,13 @@ use Rattle.bay_device.specs.declared.termination.PendingTermination.{PendingTerm
 use Rattle.bay_device.specs.declared.event.Sent.{Sent}
 
 -- the state of a device: the nameplate and the maximum age of a scan from its bay file, its
--- switches, the names and the values of its inputs, the ids of its meters; the sources of the
--- points that its program only reads, and of those that it may write, each in the order of the
--- program's points; the machine that runs the program, with its image, its slots and its timers;
--- the rows of its tree; the time of the last accepted event; the time of the last scan, and whether
--- any of its inputs has changed since; whether the process is lost; its controls; the pending
--- reports for the end of an operate; and for each of its eight associations the state of the
--- connection, if it is open
+-- switches, the names and the values of its inputs, the ids of its meters, the profile of its
+-- model; the sources of the points that its program only reads, and of those that it may write,
+-- each in the order of the program's points; the machine that runs the program, with its image, its
+-- slots and its timers; the rows of its tree; the time of the last accepted event; the time of the
+-- last scan, and whether any of its inputs has changed since; whether the process is lost; its
+-- controls; the pending reports for the end of an operate; and for each of its eight associations
+-- the state of the connection, if it is open
 pub record State : Type 0 where
   pub domain : List ℕ
   pub vendor : List ℕ
@@ -44,6 +46,7 @@ pub record State : Type 0 where
   pub inputs : List (List ℕ)
   pub input_values : List Bool
   pub meters : List (List ℕ)
+  pub profile : Profile
   pub reads : List Source
   pub writes : List Source
   pub machine : MachineData
@@ -155,14 +158,19 @@ abbrev pub reached_report_at : ℕ → Dbpos → State → Option Sent
 reached_report_at k position s =
     if is_done k position s.controls.execution then reached_report s.pending else None
 
--- the device after a reported value of an input; if it is another value, the last scan is stale
-abbrev pub device_after_input : ℕ → Bool → Bool → State → State
-device_after_input k value before s =
+-- the device with a reported value of an input
+abbrev pub with_input : ℕ → ℕ → Bool → State → State
+with_input now k value s =
     record s {
+      rows = rows_after_input s.profile s.inputs s.switches k value now s.rows;
       input_values = slice_set s.input_values k value;
-      is_stale = s.is_stale || not (beq value before);
       is_lost = false;
     }
+
+-- the device after a reported value of an input; if it is another value, the last scan is stale
+abbrev pub device_after_input : ℕ → ℕ → Bool → Bool → State → State
+device_after_input now k value before s =
+    record (with_input now k value s) { is_stale = s.is_stale || not (beq value before) }
 
 -- the device after a measured value of a meter
 abbrev pub device_after_measure : ℕ → ℕ → MeterField → ℤ → State → State
@@ -184,6 +192,10 @@ device_after_bad_measure now k field s =
       is_lost = false;
     }
 
+-- the device whose health says whether the process is lost
+abbrev pub with_health : ℕ → State → State
+with_health now s = record s { rows = rows_after_health s.profile s.is_lost now s.rows }
+
 -- ---- the loss of the process
 
 -- the device with bad positions of the switches, the first of which has index k
@@ -193,9 +205,10 @@ positions_lost now k (switch ∷ switches) s =
     positions_lost now (k + 1) switches (device_after_contact now k switch Bad s)
 
 -- the device with all inputs FALSE; if one was TRUE, the last scan is stale
-abbrev pub inputs_lost : State → State
-inputs_lost s =
+abbrev pub inputs_lost : ℕ → State → State
+inputs_lost now s =
     record s {
+      rows = rows_after_lost_inputs s.profile s.inputs s.switches now s.rows;
       input_values = map (λ _. false) s.input_values;
       is_stale = s.is_stale || is_some (position (λ value. value) s.input_values);
     }
@@ -216,7 +229,7 @@ measures_lost now k (id ∷ ids) s = measures_lost now (k + 1) ids (meter_lost n
 -- Each position is bad, each input FALSE and each measured value invalid, and the process is lost.
 abbrev pub device_after_loss : ℕ → State → State
 device_after_loss now s =
-    record (measures_lost now 0 s.meters (inputs_lost (positions_lost now 0 s.switches s)))
+    record (measures_lost now 0 s.meters (inputs_lost now (positions_lost now 0 s.switches s)))
     { is_lost = true }
 
 -- ---- scans

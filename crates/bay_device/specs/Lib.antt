@@ -51,6 +51,7 @@ pub mod ReceivingViews
 pub mod Load
 pub mod LookUps
 pub mod Meaning
+pub mod Modelled
 pub mod Operates
 pub mod Outcomes
 pub mod Remote

@@ -7,7 +7,7 @@ use Rattle.bay_transport.specs.Doings.{stream_start}
 use Rattle.bay_assoc.specs.declared.receive.Phase.TheVariants.{Idle}
 use Rattle.bay_control.specs.Decisions.{without_association}
 use Rattle.bay_connection.specs.ConnectionStates.{ConnectionState, indications, connection_after}
-use Rattle.bay_device.specs.Device.{State, device_at, device_after_contact, device_after_bad_measure, expiry_report, device_after_input, device_after_loss, device_after_measure, run_result_at, reached_report_at, after_scan}
+use Rattle.bay_device.specs.Device.{State, device_at, device_after_contact, device_after_bad_measure, expiry_report, device_after_input, device_after_loss, device_after_measure, run_result_at, reached_report_at, after_scan, with_health}
 use Rattle.bay_device.specs.Receiving.{StepState, ReceiveResult, after_indications}
 use Rattle.bay_device.specs.declared.termination.PendingTermination.{PendingTermination}
 use Rattle.bay_device.specs.declared.event.Event.{Event}
@@ -55,29 +55,33 @@ abbrev pub contact_outcome : ℕ → ℕ → Dbpos → State → Option Switch �
 contact_outcome now k position s None = refusal_outcome NoSuchPoint s
 contact_outcome now k position s (Some switch) =
     quiet (or_else (expiry_report now s) (reached_report_at k position (device_at now s)))
-    (device_after_contact now k switch position (device_at now s))
+    (with_health now (device_after_contact now k switch position (device_at now s)))
 
 -- the outcome of a reported value of an input; it is refused if there is no such input
 abbrev pub input_outcome : ℕ → ℕ → Bool → State → Option Bool → Outcome
 input_outcome now k value s None = refusal_outcome NoSuchPoint s
 input_outcome now k value s (Some before) =
-    quiet (expiry_report now s) (device_after_input k value before (device_at now s))
+    quiet (expiry_report now s)
+    (with_health now (device_after_input now k value before (device_at now s)))
 
 -- the outcome of a measured value; it is refused if there is no such meter
 abbrev pub measure_outcome : ℕ → ℕ → MeterField → ℤ → State → Option (List ℕ) → Outcome
 measure_outcome now k field value s None = refusal_outcome NoSuchPoint s
 measure_outcome now k field value s (Some id) =
-    quiet (expiry_report now s) (device_after_measure now k field value (device_at now s))
+    quiet (expiry_report now s)
+    (with_health now (device_after_measure now k field value (device_at now s)))
 
 -- the outcome of a report that a measured value is invalid; it is refused if there is no such meter
 abbrev pub bad_measure_outcome : ℕ → ℕ → MeterField → State → Option (List ℕ) → Outcome
 bad_measure_outcome now k field s None = refusal_outcome NoSuchPoint s
 bad_measure_outcome now k field s (Some id) =
-    quiet (expiry_report now s) (device_after_bad_measure now k field (device_at now s))
+    quiet (expiry_report now s)
+    (with_health now (device_after_bad_measure now k field (device_at now s)))
 
 -- the outcome of the loss of the process
 abbrev pub lost_outcome : ℕ → State → Outcome
-lost_outcome now s = quiet (expiry_report now s) (device_after_loss now (device_at now s))
+lost_outcome now s =
+    quiet (expiry_report now s) (with_health now (device_after_loss now (device_at now s)))
 
 -- the answer of a scan, with its number of steps
 abbrev pub scan_step : ScanResult → Step

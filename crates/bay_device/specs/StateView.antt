@@ -4,6 +4,7 @@ use Rattle.bay_connection.specs.ConnectionStates.{ConnectionState}
 use Rattle.bay_mms_services.specs.Views.{controls_view}
 use Rattle.bay_device.specs.Device.{State}
 use Rattle.bay_process.specs.Layout.{switches_of, meters_of}
+use Rattle.bay_process.specs.ModelRows.{profile_with}
 use Rattle.bay_device.specs.declared.state.DeviceState.{DeviceState}
 
 -- a device's state, with these states of the connections
@@ -18,6 +19,7 @@ state_view connections d = record {
   inputs = d.inputs;
   input_values = d.input_values;
   meters = meters_of d.meters;
+  profile = profile_with d.model_rows;
   reads = d.reads;
   writes = d.writes;
   machine = d.machine;

@@ -20,8 +20,10 @@ use bay_mms::names::NameTexts;
 use bay_mms_services::bay::ServedBay;
 use bay_mms_services::decisions::clear_selected_rows;
 use bay_process::bind::{all_false, spans_of};
+use bay_process::bind_model::bind_model;
 use bay_process::controls::{ControlRows, control_rows};
 use bay_process::meter::BoundMeter;
+use bay_process::model::ModelRows;
 use bay_process::parts::{bind_machine, bind_rows, node_names};
 use bay_process::releases::{Releases, store_releases};
 use bay_tree::tree::Tree;
@@ -55,6 +57,7 @@ pub struct BoundBay {
     pub scan_max_age_ms: u32,
     pub inputs: Listing<Text>,
     pub meters: Listing<BoundMeter>,
+    pub model_rows: Option<ModelRows>,
     pub releases: Releases,
 }
 
@@ -76,6 +79,14 @@ fn bind_bay(alloc: Global, mut bay: Box<Bay>, writes: &[Source]) -> Result<Bound
     let rows = take_items(alloc, &mut bay.rows);
     let switches = take_items(alloc, &mut bay.switches);
     let mut bound = bind_rows(alloc, rows, switches, bay.meters.as_slice(), &nodes, writes)?;
+    let model_rows = bind_model(
+        alloc,
+        &bound.tree,
+        bay.profile,
+        nodes.switches.as_slice(),
+        bay.inputs.as_slice(),
+        &control_table,
+    )?;
     let control_rows = control_rows_of_tree(alloc, &mut bound.tree, bound.switches.len())?;
     let releases = store_releases(alloc, &bound.tree, bound.switches.as_slice())?;
     let names = NameTexts::of_tree(alloc, &bound.tree)?;
@@ -104,6 +115,7 @@ fn bind_bay(alloc: Global, mut bay: Box<Bay>, writes: &[Source]) -> Result<Bound
         scan_max_age_ms,
         inputs,
         meters: Listing::new(bound.meters),
+        model_rows,
         releases,
     })
 }
@@ -141,6 +153,7 @@ pub(crate) fn make_state(
             inputs: bound.inputs,
             input_values,
             meters: bound.meters,
+            model_rows: bound.model_rows,
             releases: bound.releases,
             tables,
             reads: Listing::new(wired.reads),

@@ -2,7 +2,7 @@
 ghost use Rattle.std.specs.Prelude.{◌≡◌, ◌<◌, List, Option, length};
 ghost use Rattle.bay_connection.specs.ConnectionStates.{ConnectionState};
 ghost use Rattle.bay_process.specs.Layout.{meters_of, switches_of};
-ghost use Rattle.bay_device.specs.Device.{device_at, device_after_bad_measure, expiry_report, device_after_loss, measures_lost, meter_lost, positions_lost};
+ghost use Rattle.bay_device.specs.Device.{device_at, device_after_bad_measure, expiry_report, device_after_loss, inputs_lost, measures_lost, meter_lost, positions_lost, with_health};
 ghost use Rattle.bay_device.specs.StateView.{state_view};
 
 use crate::event::Sent;
@@ -66,6 +66,20 @@ impl DeviceState {
         }
     }
 
+    // Makes each input FALSE.
+    fn lose_inputs(&mut self, now: u64)
+        ensures after { (connections : List (Option ConnectionState))
+            → state_view connections self.new ≡ inputs_lost now (state_view connections self.old) }
+        ensures meters { self.new.meters ≡ self.old.meters }
+    {
+        self.unread = self.all_points();
+        self.is_stale |= self.input_values.first_true().is_some();
+        self.input_values.clear();
+        if let Some(model) = &self.model_rows {
+            process::lose_inputs(&mut self.bay, model, now);
+        }
+    }
+
     /// Handles the loss of the process: makes each position bad, each input FALSE and each measured
     /// value invalid. Returns the report that an operate ended, if one expired.
     pub fn lose_process(&mut self, now: u64) -> Option<Sent>
@@ -73,15 +87,15 @@ impl DeviceState {
             → result ≡ expiry_report now (state_view connections self.old) }
         ensures after { (connections : List (Option ConnectionState))
             → state_view connections self.new
-            ≡ device_after_loss now (device_at now (state_view connections self.old)) }
+            ≡ with_health now (device_after_loss now
+            (device_at now (state_view connections self.old))) }
     {
         let over = self.advance(now);
         self.lose_positions(now);
-        self.unread = self.all_points();
-        self.is_stale |= self.input_values.first_true().is_some();
-        self.input_values.clear();
+        self.lose_inputs(now);
         self.lose_meters(now);
         self.is_lost = true;
+        self.report_health(now);
         over
     }
 }

@@ -1,9 +1,12 @@
-// Applies positions, measured values and scans to a bay that is served: its tree still has FALSE as
-// stSeld of every switch.
-ghost use Rattle.std.specs.Prelude.{◌≡◌, ◌<◌, Some, length, not, slice_get};
+// Applies positions, inputs, measured values and scans to a bay that is served: its tree still has
+// FALSE as stSeld of every switch.
+ghost use Rattle.std.specs.Prelude.{◌≡◌, ◌<◌, ℕ, List, Some, false, length, not, slice_get};
 ghost use Rattle.bay_nodes.specs.Names.{meter_names, switch_names};
 ghost use Rattle.bay_nodes.specs.declared.switch.Switch.{Switch};
 ghost use Rattle.bay_process.specs.Layout.{layout_of, switches_of, IsMeterBound};
+ghost use Rattle.bay_nodes.specs.declared.profile.Profile.TheVariants.{Two};
+ghost use Rattle.bay_process.specs.Model.{rows_after_health, rows_after_input, rows_after_lost_inputs};
+ghost use Rattle.bay_process.specs.ModelRows.{IsModelBound};
 ghost use Rattle.bay_process.specs.Names.{field_names};
 ghost use Rattle.bay_process.specs.Scans.{rows_after_outputs};
 ghost use Rattle.bay_process.specs.ReportedRows.{AreInterlocked, AreStored};
@@ -15,6 +18,7 @@ use bay_config::bay::MeterField;
 use bay_mms_services::bay::ServedBay;
 use bay_process::contact::apply_position;
 use bay_process::meter::{MeterRows, apply_bad_measure, apply_measure};
+use bay_process::model::ModelRows;
 use bay_process::releases::Releases;
 use bay_process::scan::write_outputs;
 use il_scan::points::Outputs;
@@ -82,6 +86,52 @@ pub fn doubt(
     ensures layout { layout_of bay.new.tree ≡ layout_of bay.old.tree }
 {
     apply_bad_measure(&mut bay.tree, rows.field(field), now)
+}
+
+/// Applies the report of the input at an index to the rows of profile 2.
+pub fn input(bay: &mut ServedBay, model: &ModelRows, now: u64, input: usize, value: bool)
+    requires bound { (inputs : List (List ℕ)) × (switches : List Switch)
+        × IsModelBound (layout_of bay.old.tree) inputs switches model.now }
+    requires within { input < length model.now.inputs }
+    ensures after { (inputs : List (List ℕ)) (switches : List Switch)
+        → IsModelBound (layout_of bay.old.tree) inputs switches model.now
+        → bay_view bay.new ≡ record (bay_view bay.old) {
+          rows = rows_after_input Two inputs switches input value now bay.old.tree;
+        } }
+    ensures switches { bay.new.switches ≡ bay.old.switches }
+    ensures layout { layout_of bay.new.tree ≡ layout_of bay.old.tree }
+{
+    model.apply_input(&mut bay.tree, input, value, now);
+}
+
+/// Applies the loss of the process to the rows of the inputs and of the switches' keys in profile
+/// 2.
+pub fn lose_inputs(bay: &mut ServedBay, model: &ModelRows, now: u64)
+    requires { (inputs : List (List ℕ)) × (switches : List Switch)
+        × IsModelBound (layout_of bay.old.tree) inputs switches model.now }
+    ensures after { (inputs : List (List ℕ)) (switches : List Switch)
+        → IsModelBound (layout_of bay.old.tree) inputs switches model.now
+        → bay_view bay.new ≡ record (bay_view bay.old) {
+          rows = rows_after_lost_inputs Two inputs switches now bay.old.tree;
+        } }
+    ensures switches { bay.new.switches ≡ bay.old.switches }
+    ensures layout { layout_of bay.new.tree ≡ layout_of bay.old.tree }
+{
+    model.lose_inputs(&mut bay.tree, now);
+}
+
+/// Writes whether the process is lost to the health of the device in profile 2. Returns whether the
+/// health changed.
+pub fn health(bay: &mut ServedBay, model: &ModelRows, now: u64, is_lost: bool) -> bool
+    requires { (inputs : List (List ℕ)) × (switches : List Switch)
+        × IsModelBound (layout_of bay.old.tree) inputs switches model.now }
+    ensures same { result ≡ false → bay.new.tree ≡ bay.old.tree }
+    ensures after { bay_view bay.new
+        ≡ record (bay_view bay.old) { rows = rows_after_health Two is_lost now bay.old.tree } }
+    ensures switches { bay.new.switches ≡ bay.old.switches }
+    ensures layout { layout_of bay.new.tree ≡ layout_of bay.old.tree }
+{
+    model.apply_health(&mut bay.tree, is_lost, now)
 }
 
 /// Writes the outputs of a scan to the interlocking values of all switches.

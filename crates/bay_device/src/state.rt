@@ -4,6 +4,7 @@ ghost use Rattle.il_scan.specs.Scans.{AreHeld, inputs_in, read_only, type_of_poi
 ghost use Rattle.bay_process.specs.Layout.{layout_of, switches_of, AreBound, AreMetersBound};
 ghost use Rattle.bay_process.specs.Scans.{AreSpanned, source_value};
 ghost use Rattle.bay_process.specs.Sources.{type_of_source};
+ghost use Rattle.bay_device.specs.Modelled.{HasModel, HasModel-prop};
 ghost use Rattle.bay_device.specs.Table.{AreTables};
 ghost use Rattle.bay_process.specs.ReportedRows.{AreStored};
 
@@ -14,6 +15,7 @@ use bay_base::text::Text;
 use bay_config::bay::Source;
 use bay_mms_services::bay::ServedBay;
 use bay_process::meter::BoundMeter;
+use bay_process::model::ModelRows;
 use bay_process::releases::Releases;
 use bay_process::values::InputValues;
 use il_scan::machine::Machine;
@@ -34,6 +36,8 @@ pub struct DeviceState {
     pub input_values: InputValues,
     /// The meters, in the order of the bay file.
     pub meters: Listing<BoundMeter>,
+    /// The rows of profile 2 that events change; `None` in profile 1.
+    pub model_rows: Option<ModelRows>,
     /// The interlocking values, as the text that is printed.
     pub releases: Releases,
     /// The tables that find the ids of the switches, the names of the inputs and the ids of the
@@ -62,6 +66,8 @@ pub struct DeviceState {
     pub pending: Option<PendingTermination>,
     ghost bound: { AreBound (layout_of bay.tree) writes bay.switches },
     ghost metered: { AreMetersBound (layout_of bay.tree) meters },
+    ghost valued: { length input_values ≡ length inputs },
+    ghost modelled: { HasModel bay inputs model_rows } by { HasModel-prop bay inputs model_rows },
     ghost released: { AreStored bay.tree (switches_of bay.switches) 0 releases },
     ghost tabled: { AreTables bay.switches inputs meters tables },
     ghost typed: { map type_of_source reads ≡ map type_of_point (read_only machine.image.points) },

@@ -7,7 +7,7 @@ ghost use Rattle.bay_nodes.specs.declared.switch.Switch.{Switch};
 ghost use Rattle.bay_process.specs.Layout.{AreLeafTyped, AreMetersLeafTyped, layout_of, switches_of};
 ghost use Rattle.bay_process.specs.Scans.{source_value};
 ghost use Rattle.bay_process.specs.Sources.{type_of_source};
-ghost use Rattle.bay_device.specs.Device.{device_at, device_after_contact, expiry_report, run_result_at, reached_report_at, after_scan};
+ghost use Rattle.bay_device.specs.Device.{device_at, device_after_contact, expiry_report, run_result_at, reached_report_at, after_scan, with_health, with_input};
 ghost use Rattle.bay_device.specs.Device as spec;
 ghost use Rattle.bay_device.specs.Meaning.{Halts};
 ghost use Rattle.bay_device.specs.Outcomes.{event_outcome, without_owner};
@@ -106,6 +106,21 @@ impl DeviceState {
         }
     }
 
+    /// Writes whether the process is lost to the health of the device, in profile 2.
+    pub fn report_health(&mut self, now: u64)
+        ensures after { (connections : List (Option ConnectionState))
+            → state_view connections self.new
+            ≡ with_health now (state_view connections self.old) }
+        ensures meters { self.new.meters ≡ self.old.meters }
+    {
+        let all = self.all_points();
+        if let Some(model) = &self.model_rows {
+            if process::health(&mut self.bay, model, now, self.is_lost) {
+                self.unread = all;
+            }
+        }
+    }
+
     /// Applies the reported position of the switch at an index. Returns the report that an operate
     /// ended, if the position ends one.
     #[inline(always)]
@@ -145,7 +160,23 @@ impl DeviceState {
         }
         let over = self.advance(now);
         let report_reached = self.apply_contact(now, switch, position);
+        self.report_health(now);
         Ok(or_else(over, report_reached))
+    }
+
+    // Applies the reported value of the input at an index: the process is not lost.
+    fn apply_input(&mut self, now: u64, input: usize, value: bool)
+        requires { input < length self.old.input_values }
+        ensures after { (connections : List (Option ConnectionState))
+            → state_view connections self.new
+            ≡ with_input now input value (state_view connections self.old) }
+    {
+        self.unread = self.all_points();
+        self.input_values.set(input, value);
+        self.is_lost = false;
+        if let Some(model) = &self.model_rows {
+            process::input(&mut self.bay, model, now, input, value);
+        }
     }
 
     /// Handles the reported value of the input at an index. `NoSuchPoint` if there is none.
@@ -159,10 +190,9 @@ impl DeviceState {
             None => return Err(StepFault::NoSuchPoint),
         };
         let over = self.advance(now);
-        self.unread = self.all_points();
-        self.input_values.set(input, value);
+        self.apply_input(now, input, value);
         self.is_stale |= value != before;
-        self.is_lost = false;
+        self.report_health(now);
         Ok(over)
     }
 
@@ -188,6 +218,7 @@ impl DeviceState {
         let changed = process::measure(&mut self.bay, now, meter, rows, field, value);
         self.is_stale |= changed;
         self.is_lost = false;
+        self.report_health(now);
         Ok(over)
     }
 
@@ -208,6 +239,7 @@ impl DeviceState {
         }
         let over = self.advance(now);
         self.invalidate_field(now, meter, field);
+        self.report_health(now);
         Ok(over)
     }
 

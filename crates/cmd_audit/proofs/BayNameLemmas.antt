@@ -7,8 +7,10 @@ use Rattle.std.specs.List.{list_all}
 use Rattle.std.specs.Str.{is_utf8}
 use Rattle.toml.specs.Data.{Data, Items, no_items, Members, as_str, get_member}
 use Rattle.bay_base.specs.declared.point.Point.{Point}
+use Rattle.bay_nodes.specs.declared.meter.Meter.{Meter}
+use Rattle.bay_nodes.specs.declared.profile.Profile.{Profile}
 use Rattle.bay_nodes.specs.declared.switch.Switch.{Switch}
-use Rattle.bay_config.specs.Bay.{bay_in, bay_of, bay_of_document, document_of, bay_section, file_refusal, name_key, name_keys, name_section, names_in, sections, switch_section, switches_in}
+use Rattle.bay_config.specs.Bay.{bay_in, bay_of, bay_of_document, document_of, bay_section, file_refusal, input_keys, input_section, inputs_in, meter_in, meter_keys, meter_section, meters_in, profile_in, scale_keys, sections, switch_section, switches_in}
 use Rattle.bay_config.specs.Key.{Key, begins_with_letter, entry_refusal, first_fault, value_refusal, identifier, is_identifier, is_name_character, key_refusal, passes, text_in, unknown_refusal}
 use Rattle.bay_config.specs.Remote.{remotes_refusal}
 use Rattle.bay_config.specs.Point.{inputs_from, meter_points, meters_from, names_refusal, points_from, points_of, bay_points}
@@ -17,8 +19,6 @@ use Rattle.bay_config.specs.Switch.{control_key, control_of, kind_key, kind_of, 
 use Rattle.bay_config.specs.declared.bay.Bay.{Bay}
 use Rattle.bay_config.specs.declared.fault.BayFault.{BayFault}
 use Rattle.bay_config.specs.declared.fault.BayFault.TheVariants.{BadToml}
-use Rattle.bay_config.specs.declared.names.NameSection.{NameSection}
-use Rattle.bay_config.specs.declared.names.NameSection.TheVariants.{Input, Meter}
 use Rattle.bay_config.proofs.KeyLemmas.{judged-Ok}
 use Rattle.bay_config.proofs.PassedLemmas.{accepted-is, none-behind, none-first}
 use Rattle.il_image.specs.Images.{Each}
@@ -27,11 +27,13 @@ use Rattle.cmd_audit.proofs.NameLemmas.{each-append}
 
 -- ---- tables
 
-passed-word : (o : Option (List ℕ)) → passes (is_identifier 16) o ≡ true → IsWord (unwrap_or o [])
-passed-word None passed = absurd cc
-passed-word (Some s) passed =
+-- an identifier of at most n characters is a word
+pub passed-word : (n : ℕ) (o : Option (List ℕ)) → passes (is_identifier n) o ≡ true
+    → IsWord (unwrap_or o [])
+passed-word n None passed = absurd cc
+passed-word n (Some s) passed =
     let parts =
-    and_parts (begins_with_letter s && list_all is_name_character s) (nat_le (length s) 16) passed
+    and_parts (begins_with_letter s && list_all is_name_character s) (nat_le (length s) n) passed
     in
     (and_parts (begins_with_letter s) (list_all is_name_character s) parts.0).1
 
@@ -39,7 +41,7 @@ held-word : (o : Option Data) → value_refusal (identifier 16) o ≡ None
     → IsWord (unwrap_or (option_and_then as_str o) [])
 held-word None none = absurd cc
 held-word (Some d) none =
-    passed-word (as_str d) (accepted-is (passes (is_identifier 16) (as_str d)) none)
+    passed-word 16 (as_str d) (accepted-is (passes (is_identifier 16) (as_str d)) none)
 
 -- the first key of a table is a name
 table-word : (t : Members) (key : List ℕ) (keys : List Key)
@@ -84,9 +86,12 @@ switch-word t none =
     (kind_key ∷ control_key ∷ []
     ++ (time_keys (control_of t) ++ optional_keys (control_of t) (kind_of t))) none
 
-name-word : (which : NameSection) (t : Members) → entry_refusal (name_keys which) t ≡ None
-    → IsWord (text_in t (name_key which))
-name-word which t none = table-word t (name_key which) [] none
+input-word : (t : Members) → entry_refusal input_keys t ≡ None → IsWord (text_in t (codes "name"))
+input-word t none = table-word t (codes "name") [] none
+
+meter-word : (profile : Profile) (t : Members) → entry_refusal (meter_keys profile) t ≡ None
+    → IsWord (text_in t (codes "id"))
+meter-word profile t none = table-word t (codes "id") (scale_keys profile) none
 
 -- ---- points
 
@@ -157,12 +162,15 @@ meter-words place id is = (
   ),
 )
 
-meters-points : (place : ℕ) (ids : List (List ℕ)) → Each IsWord ids
-    → Each IsPointWord (meters_from place ids)
+abbrev IsMeterWord : Meter → Type 0
+IsMeterWord m = IsWord m.id
+
+meters-points : (place : ℕ) (meters : List Meter) → Each IsMeterWord meters
+    → Each IsPointWord (meters_from place meters)
 meters-points place [] all = tt
-meters-points place (id ∷ ids) all =
-    each-append IsPointWord (meter_points place id) (meters_from (place + 1) ids)
-    (meter-words place id all.0) (meters-points (place + 1) ids all.1)
+meters-points place (m ∷ meters) all =
+    each-append IsPointWord (meter_points place m.id) (meters_from (place + 1) meters)
+    (meter-words place m.id all.0) (meters-points (place + 1) meters all.1)
 
 -- ---- a file
 
@@ -171,17 +179,23 @@ ids-of : (ts : List Members) → Each IsWord (map (λ t. text_in t (codes "id"))
 ids-of [] all = tt
 ids-of (t ∷ ts) all = (all.0, ids-of ts all.1)
 
+meter-ids-of : (profile : Profile) (ts : List Members)
+    → Each IsWord (map (λ t. text_in t (codes "id")) ts)
+    → Each IsMeterWord (map (meter_in profile) ts)
+meter-ids-of profile [] all = tt
+meter-ids-of profile (t ∷ ts) all = (all.0, meter-ids-of profile ts all.1)
+
 file-words : (file : Members) → file_refusal file ≡ None → HasWords (bay_in file)
 file-words file none =
-    let names =
-    names_refusal (bay_points (switches_in file) (names_in file Input) (names_in file Meter)) in
-    let keys = remotes_refusal (names_in file Input) (switches_in file) in
+    let profile = profile_in file in
+    let names = names_refusal (bay_points (switches_in file) (inputs_in file) (meters_in file)) in
+    let keys = remotes_refusal (inputs_in file) (switches_in file) in
     let bay = section_refusal file bay_section in
     let switches = section_refusal file switch_section in
-    let inputs = section_refusal file (name_section Input) in
-    let meters = section_refusal file (name_section Meter) in
+    let inputs = section_refusal file input_section in
+    let meters = section_refusal file (meter_section profile) in
     let one =
-    none-first (unknown_refusal (map (λ section. section.name) sections) file)
+    none-first (unknown_refusal (map (λ section. section.name) (sections profile)) file)
     (bay ∷ switches ∷ inputs ∷ meters ∷ names ∷ keys ∷ []) none in
     let two = none-first bay (switches ∷ inputs ∷ meters ∷ names ∷ keys ∷ []) one.1 in
     let three = none-first switches (inputs ∷ meters ∷ names ∷ keys ∷ []) two.1 in
@@ -191,19 +205,21 @@ file-words file none =
     ids-of (tables_of (unwrap_or (items_at (get_member (codes "switch") file)) no_items))
     (list-words switch_keys (codes "id") switch-word 1 32
     (items_at (get_member (codes "switch") file)) three.0) in
-    let of-inputs : Each IsWord (names_in file Input) =
-    list-words (λ t. name_keys Input) (name_key Input) (name-word Input) 0 64
+    let of-inputs : Each IsWord (inputs_in file) =
+    list-words (λ t. input_keys) (codes "name") input-word 0 64
     (items_at (get_member (codes "input") file)) four.0 in
-    let of-meters : Each IsWord (names_in file Meter) =
-    list-words (λ t. name_keys Meter) (name_key Meter) (name-word Meter) 0 8
-    (items_at (get_member (codes "meter") file)) five.0 in
+    let of-meters : Each IsMeterWord (meters_in file) =
+    meter-ids-of profile (tables_of
+        (unwrap_or (items_at (get_member (codes "meter") file)) no_items))
+    (list-words (λ t. meter_keys profile) (codes "id") (meter-word profile) 0 8
+    (items_at (get_member (codes "meter") file)) five.0) in
     record {
       switches = ids;
       points = each-append IsPointWord (points_from 0 (switches_in file)) _
           (switches-points 0 (switches_in file) ids)
-          (each-append IsPointWord (inputs_from 0 (names_in file Input)) _
-          (inputs-points 0 (names_in file Input) of-inputs)
-          (meters-points 0 (names_in file Meter) of-meters));
+          (each-append IsPointWord (inputs_from 0 (inputs_in file)) _
+          (inputs-points 0 (inputs_in file) of-inputs)
+          (meters-points 0 (meters_in file) of-meters));
     }
 
 document-words : (o : Option Members) (bay : Bay) → bay_of_document o ≡ Ok bay → HasWords bay

@@ -8,10 +8,11 @@ use Rattle.bay_connection.specs.ConnectionStates.{ConnectionState}
 use Rattle.bay_nodes.specs.declared.switch.Switch.{Switch}
 use Rattle.bay_nodes.specs.Names.{meter_names}
 use Rattle.bay_process.specs.Names.{field_names}
+use Rattle.bay_process.proofs.ModelLemmas.{health-keeps, input-keeps}
 use Rattle.bay_process.proofs.ToldLemmas.{Keeps, field-away, keeps-contact, keeps-doubt, keeps-measure}
 use Rattle.bay_tree.specs.Rows.{leaf_named}
 use Rattle.bay_base.specs.declared.position.Dbpos.{Dbpos}
-use Rattle.bay_device.specs.Device.{State, device_at}
+use Rattle.bay_device.specs.Device.{State, device_after_bad_measure, device_after_contact, device_after_input, device_after_loss, device_after_measure, device_at, with_health}
 use Rattle.bay_device.specs.Outcomes.{Outcome, close_outcome, connection_at, contact_outcome, bad_measure_outcome, event_outcome, input_outcome, last_moment, lost_outcome, measure_outcome, open_outcome, outcome, slot_of, recv_outcome, refusal_outcome, scan_outcome}
 use Rattle.bay_device.specs.Steps.{Steps}
 use Rattle.bay_device.specs.declared.event.Event.{Event}
@@ -49,6 +50,21 @@ kept-same s t same = record {
       };
   scans = ap (λ (p : Parts). p.scans) same;
   interlocking = λ k x. ap (leaf_named _) (ap (λ (p : Parts). p.rows) same);
+}
+
+-- with its health
+kept-healthy : (now : ℕ) (s t : State) → Kept s t → Kept s (with_health now t)
+kept-healthy now s t kept = record {
+  fixed =
+      record {
+        age = kept.fixed.age;
+        image = kept.fixed.image;
+        switches = kept.fixed.switches;
+        writes = kept.fixed.writes;
+      };
+  scans = kept.scans;
+  interlocking =
+      λ k x. health-keeps t.profile t.is_lost now t.rows k x ∙ kept.interlocking k x;
 }
 
 -- ---- events
@@ -89,11 +105,11 @@ module _ (now : ℕ) (s : State) where
       quiet-same s (contact_outcome now k position s None) refl refl
   quiet-contact k position (Some switch) = (
     refl,
-    record {
+    kept-healthy now s (device_after_contact now k switch position (device_at now s)) (record {
       fixed = record { age = refl; image = refl; switches = refl; writes = refl };
       scans = refl;
       interlocking = keeps-contact s.switches k switch position now s.rows;
-    },
+    }),
   )
 
   quiet-input : (k : ℕ) (value : Bool) (o : Option Bool)
@@ -101,11 +117,11 @@ module _ (now : ℕ) (s : State) where
   quiet-input k value None = quiet-same s (input_outcome now k value s None) refl refl
   quiet-input k value (Some before) = (
     refl,
-    record {
+    kept-healthy now s (device_after_input now k value before (device_at now s)) (record {
       fixed = record { age = refl; image = refl; switches = refl; writes = refl };
       scans = refl;
-      interlocking = λ k x. refl;
-    },
+      interlocking = input-keeps s.profile s.inputs s.switches k value now s.rows;
+    }),
   )
 
   quiet-measure : (k : ℕ) (field : MeterField) (value : ℤ) (o : Option (List ℕ))
@@ -114,12 +130,12 @@ module _ (now : ℕ) (s : State) where
       quiet-same s (measure_outcome now k field value s None) refl refl
   quiet-measure k field value (Some id) = (
     refl,
-    record {
+    kept-healthy now s (device_after_measure now k field value (device_at now s)) (record {
       fixed = record { age = refl; image = refl; switches = refl; writes = refl };
       scans = refl;
       interlocking =
           keeps-measure (field_names field (meter_names k)) value now s.rows (field-away k field);
-    },
+    }),
   )
 
   quiet-doubt : (k : ℕ) (field : MeterField) (o : Option (List ℕ))
@@ -127,19 +143,19 @@ module _ (now : ℕ) (s : State) where
   quiet-doubt k field None = quiet-same s (bad_measure_outcome now k field s None) refl refl
   quiet-doubt k field (Some id) = (
     refl,
-    record {
+    kept-healthy now s (device_after_bad_measure now k field (device_at now s)) (record {
       fixed = record { age = refl; image = refl; switches = refl; writes = refl };
       scans = refl;
       interlocking =
           keeps-doubt (field_names field (meter_names k)) now s.rows (field-away k field);
-    },
+    }),
   )
 
   quiet-lost : Quiet s (lost_outcome now s)
   quiet-lost =
       let fixed = lost-fixed now (device_at now s) in (
         refl,
-        record {
+        kept-healthy now s (device_after_loss now (device_at now s)) (record {
           fixed =
               record {
                 age = ap (λ (f : loss.Fixed). f.age) fixed;
@@ -149,7 +165,7 @@ module _ (now : ℕ) (s : State) where
               };
           scans = ap (λ (f : loss.Fixed). f.scans) fixed;
           interlocking = lost-keeps now (device_at now s);
-        },
+        }),
       )
 
 -- A scan is done.

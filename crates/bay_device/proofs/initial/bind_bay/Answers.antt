@@ -1,6 +1,7 @@
-use Rattle.std.proofs.Common.{◌≡◌, None, List, [], length, subst, ap, sym, ◌∙◌, arith}
+use Rattle.std.proofs.Common.{◌≡◌, None, List, [], length, map, subst, ap, sym, ◌∙◌, arith}
 use Rattle.bay_config.specs.declared.bay.Bay.{Bay}
 use Rattle.bay_control.specs.Decisions as control
+use Rattle.bay_nodes.specs.declared.meter.Meter.{Meter}
 use Rattle.bay_nodes.specs.declared.switch.Switch.{Switch}
 use Rattle.bay_process.proofs.NodeLemmas.{has-switches, have-meters, have-selected}
 use Rattle.bay_process.specs.Controls.{HaveSelected}
@@ -27,6 +28,32 @@ bind_rows-requires-clause-meters_there c =
     rw (c.take_items-rows.ensures.value, c.deref_mut.ensures.value)
     (have-meters c.args.bay.value c.in_ok-nodes.nodes.meters.items c.requires.sound
     (rw c.deref.ensures at c.in_ok-nodes.ensures.meters_named))
+
+pub bind_model-requires : goal.bind_model-requires
+bind_model-requires c =
+    let bay : Bay = c.args.bay.value in
+    let named = rw c.deref.ensures at c.in_ok-nodes.ensures.switches_named in
+    let sized = rw c.deref.ensures at c.in_ok-nodes.ensures.switches_sized in
+    let did = c.in_ok-bound.ensures in
+    let tree : c.in_ok-bound.bound.tree ≡ bay.rows =
+    did.tree ∙ rw c.deref_mut.ensures.value at c.take_items-rows.ensures.value in (
+      bay,
+      record {
+        sound = c.requires.sound;
+        profile_is = sym (ap (λ (b : Bay). b.profile) c.deref-4.ensures
+            ∙ ap (λ (b : Bay). b.profile) c.deref_mut-2.ensures.value
+            ∙ ap (λ (b : Bay). b.profile) c.deref_mut.ensures.value);
+        rows_are = sym tree;
+        nodes_sized = rw c.as_slice-2.ensures.value sized;
+        nodes_named = rw c.as_slice-2.ensures.value named;
+        inputs_are = sym (rw (
+          c.deref-5.ensures,
+          c.deref_mut-2.ensures.value,
+          c.deref_mut.ensures.value,
+        ) at c.as_slice-3.ensures);
+        controls_are = rw c.deref-2.ensures at c.new-control_table.ensures;
+      },
+    )
 
 pub control_rows_of_tree-requires : goal.control_rows_of_tree-requires
 control_rows_of_tree-requires c =
@@ -60,7 +87,7 @@ store_releases-requires c =
     let f =
     bound-to bay c.in_ok-nodes.nodes.switches.items layout c.args.writes.now _
     c.in_ok-bound.bound.switches.items named sized taken c.in_ok-bound.ensures.of_switches in
-    rw (c.in_ok-control_rows.ensures.layout, c.as_slice-2.ensures.value)
+    rw (c.in_ok-control_rows.ensures.layout, c.as_slice-4.ensures.value)
     (interlocked layout c.args.writes.now c.in_ok-bound.bound.switches.items f.placed)
 
 pub invariant_of-result : goal.invariant_of-result
@@ -112,12 +139,17 @@ returns c =
     c.args.writes.now _ c.in_ok-bound.bound.switches.items named sized taken did.of_switches in
     let count : c.len.result ≡ length bay.switches =
     omega (arith, c.len.ensures, c.in_ok-bound.bound.switches.ok, f.sized) in
+    let tree : c.in_ok-bound.bound.tree ≡ bay.rows =
+    did.tree ∙ rw c.deref_mut.ensures.value at c.take_items-rows.ensures.value in
+    let profile =
+    ap (λ (b : Bay). b.profile) c.deref-4.ensures
+    ∙ ap (λ (b : Bay). b.profile) c.deref_mut-2.ensures.value
+    ∙ ap (λ (b : Bay). b.profile) c.deref_mut.ensures.value in
     let shows : c.control_rows_of_tree.new.tree
     ≡ rows_with_selection None (length bay.switches) bay.rows =
     c.in_ok-control_rows.ensures.rows
     ∙ ap (λ n. rows_with_selection None n c.in_ok-bound.bound.tree) count
-    ∙ ap (rows_with_selection None (length bay.switches))
-    (did.tree ∙ rw c.deref_mut.ensures.value at c.take_items-rows.ensures.value) in
+    ∙ ap (rows_with_selection None (length bay.switches)) tree in
     let seen : Bay → services.Bay =
     λ b. record {
       domain = b.domain;
@@ -150,9 +182,25 @@ returns c =
           ∙ ap (λ (b : Bay). b.inputs) c.deref_mut-2.ensures.value
           ∙ ap (λ (b : Bay). b.inputs) c.deref_mut.ensures.value;
       ids = ap meters_of c.new-3.ensures ∙ did.ids
-          ∙ rw (c.deref-3.ensures, c.deref_mut-2.ensures.value, c.deref_mut.ensures.value) at
-          c.as_slice.ensures;
+          ∙ ap (map (λ (m : Meter). m.id))
+          (rw (c.deref-3.ensures, c.deref_mut-2.ensures.value, c.deref_mut.ensures.value) at
+          c.as_slice.ensures);
       bound = rw (c.in_ok-control_rows.ensures.layout, c.new.ensures) f.placed;
       metered = rw (c.in_ok-control_rows.ensures.layout, c.new-3.ensures) did.of_meters;
-      released = rw c.new.ensures (rw c.as_slice-2.ensures.value at c.in_ok-releases.ensures);
+      profile = c.in_ok-model_rows.ensures.profile ∙ profile;
+      modelled = rw c.in_ok-control_rows.ensures.layout
+          (c.in_ok-model_rows.ensures.bound bay (record {
+            sound = c.requires.sound;
+            profile_is = sym profile;
+            rows_are = sym tree;
+            nodes_sized = rw c.as_slice-2.ensures.value sized;
+            nodes_named = rw c.as_slice-2.ensures.value named;
+            inputs_are = sym (rw (
+              c.deref-5.ensures,
+              c.deref_mut-2.ensures.value,
+              c.deref_mut.ensures.value,
+            ) at c.as_slice-3.ensures);
+            controls_are = rw c.deref-2.ensures at c.new-control_table.ensures;
+          }));
+      released = rw c.new.ensures (rw c.as_slice-4.ensures.value at c.in_ok-releases.ensures);
     }

@@ -1,14 +1,17 @@
+use Rattle.std.proofs.lemmas.List.{length-map}
 use Rattle.std.proofs.Common.{◌≡◌, None, false, List, length, map, refl, replicate, subst, ap, sym, ◌∙◌, arith}
 use Rattle.bay_config.specs.declared.bay.Bay.{Bay}
 use Rattle.bay_base.specs.declared.point.Point.{Point}
 use Rattle.bay_base.specs.declared.point.Source.{Source}
 use Rattle.bay_process.specs.Layout.{AreBound, layout_of, meters_of}
+use Rattle.bay_process.specs.ModelRows.{profile_with}
 use Rattle.bay_process.specs.Scans.{AreSpanned}
 use Rattle.bay_process.specs.Sources.{sources_of, type_of_source}
 use Rattle.bay_process.specs.declared.switch.BoundSwitch.{BoundSwitch}
 use Rattle.il_scan.specs.declared.span.Span.{Span}
 use Rattle.bay_device.proofs.HeldLemmas.{all-noted}
 use Rattle.bay_process.proofs.SourceLemmas.{IsTyped, bay-typed, points-fit, reads-typed}
+use Rattle.bay_mms_services.specs.Bay.{Bay as Served}
 use Rattle.bay_mms_services.specs.Views.{bay_view}
 use Rattle.il_image.specs.Images.{Each}
 use Rattle.il_scan.specs.Scans.{MachineData, read_only, type_of_point}
@@ -26,6 +29,9 @@ invariant_of-new c =
     c.as_slice.ensures ∙ ap (λ (b : Bay). b.points) c.deref.ensures in
     let read : c.new.result ≡ sources_of false bay.points c.args.verified.points =
     c.new.ensures ∙ rw points at wired.reads in
+    let values =
+    c.in_ok-input_values.ensures ∙ ap (λ ns. map (λ _. false) ns)
+    (c.as_slice-2.ensures ∙ ap (λ (b : Bay). b.inputs) c.deref-2.ensures) in
     let typed =
     reads-typed bay.points (subst (λ (ps : List Point). Each IsTyped ps)
     (sym c.requires.bay.sound.points) (bay-typed bay.switches bay.inputs bay.meters))
@@ -39,6 +45,9 @@ invariant_of-new c =
           c.in_ok-bound.bound.bay.switches) (c.as_slice-3.ensures.value ∙ sym c.new-2.ensures)
           did.bound;
       metered = did.metered;
+      valued = ap length values ∙ length-map bay.inputs (λ _. false)
+          ∙ sym (ap length did.inputs);
+      modelled = rw (did.inputs, ap (λ (b : Served). b.switches) did.served) did.modelled;
       released = did.released;
       tabled =
           rw (c.as_slice-4.ensures, c.as_slice-5.ensures, c.as_slice-6.ensures) at
@@ -66,9 +75,10 @@ returns c =
     ap (λ (d : DeviceState). state_view (replicate 8 None) d) c.in_ok-state.ensures.ok
     ∙ loaded-view bay c.args.verified (bay_view c.in_ok-bound.bound.bay)
     c.in_ok-bound.bound.scan_max_age_ms c.in_ok-bound.bound.inputs
-    c.in_ok-input_values.input_values (meters_of c.in_ok-bound.bound.meters) c.new.result
-    c.new-2.result c.in_ok-wired.wired.machine did.served did.age did.inputs
+    c.in_ok-input_values.input_values (meters_of c.in_ok-bound.bound.meters)
+    (profile_with c.in_ok-bound.bound.model_rows) c.new.result c.new-2.result
+    c.in_ok-wired.wired.machine did.served did.age did.inputs
     (c.in_ok-input_values.ensures ∙ ap (λ ns. map (λ _. false) ns)
     (c.as_slice-2.ensures ∙ ap (λ (b : Bay). b.inputs) c.deref-2.ensures))
-    did.ids (c.new.ensures ∙ rw points at wired.reads)
+    did.ids did.profile (c.new.ensures ∙ rw points at wired.reads)
     (c.new-2.ensures ∙ rw points at wired.writes) wired.machine

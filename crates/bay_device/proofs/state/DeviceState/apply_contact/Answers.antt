@@ -20,6 +20,8 @@ invariant_of-self-then-contact c =
     record {
       bound = rw (layout, switches) d.bound;
       metered = rw layout d.metered;
+      valued = d.valued;
+      modelled = rw (layout, switches) d.modelled;
       released =
           rw (rows, switches) (kept-stays d.bay.tree _ _ d.releases d.released
           (keeps-contact (switches_of d.bay.switches) c.args.switch s.0 c.args.position c.args.now
@@ -45,6 +47,8 @@ invariant_of-self-else-contact c =
     record {
       bound = rw (layout, switches) d.bound;
       metered = rw layout d.metered;
+      valued = d.valued;
+      modelled = rw (layout, switches) d.modelled;
       released =
           rw (rows, switches) (kept-stays d.bay.tree _ _ d.releases d.released
           (keeps-contact (switches_of d.bay.switches) c.args.switch s.0 c.args.position c.args.now

@@ -2,7 +2,7 @@ use Rattle.std.proofs.Common.{◌≡◌, ◌<◌, List, length, slice_get, Optio
 use Rattle.std.proofs.lemmas.Option.{slice_get-map}
 use Rattle.bay_process.specs.Layout.{meters_of}
 use Rattle.bay_process.specs.declared.meter.BoundMeter.{BoundMeter}
-use Rattle.bay_device.specs.Device.{State, device_after_bad_measure}
+use Rattle.bay_device.specs.Device.{State, device_after_bad_measure, with_health}
 use Rattle.bay_device.specs.Outcomes.{Outcome, bad_measure_outcome}
 use Rattle.bay_device.specs.StateView.{state_view}
 use Rattle.bay_device.specs.Steps.{quiet_answer}
@@ -32,8 +32,9 @@ returns c connections =
       answered =
           ap (λ (o : Option Sent). quiet_answer (Ok o)) (c.advance-over.ensures.sent connections)
           ∙ sym (ap (λ (o : Outcome). o.answer) whole);
-      left = c.invalidate_field.ensures.after connections
+      left = c.report_health.ensures.after connections
+          ∙ ap (with_health c.args.now) (c.invalidate_field.ensures.after connections
           ∙ ap (device_after_bad_measure c.args.now k c.args.field)
-          (c.advance-over.ensures.after connections)
+          (c.advance-over.ensures.after connections))
           ∙ sym (ap (λ (o : Outcome). o.after) whole);
     }

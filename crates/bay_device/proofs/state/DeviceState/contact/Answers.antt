@@ -1,5 +1,5 @@
 use Rattle.std.proofs.Common.{◌≡◌, ◌<◌, [], length, slice_get, Option, Ok, ap, sym, ◌∙◌, arith}
-use Rattle.bay_device.specs.Device.{State, device_at, device_after_contact, expiry_report, reached_report_at}
+use Rattle.bay_device.specs.Device.{State, device_at, device_after_contact, expiry_report, reached_report_at, with_health}
 use Rattle.bay_device.specs.Outcomes.{Outcome, contact_outcome, or_else}
 use Rattle.bay_device.specs.StateView.{state_view}
 use Rattle.bay_device.specs.Steps.{quiet_answer}
@@ -42,6 +42,8 @@ returns c connections =
       answered =
           ap (λ (o : Option Sent). quiet_answer (Ok o)) told
           ∙ sym (ap (λ (o : Outcome). o.answer) whole);
-      left = took ∙ ap (device_after_contact c.args.now k here.0 c.args.position) after
+      left = c.report_health.ensures.after connections
+          ∙ ap (with_health c.args.now)
+          (took ∙ ap (device_after_contact c.args.now k here.0 c.args.position) after)
           ∙ sym (ap (λ (o : Outcome). o.after) whole);
     }

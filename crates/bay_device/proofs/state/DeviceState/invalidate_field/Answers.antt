@@ -19,6 +19,8 @@ invariant_of-self c =
     record {
       bound = rw (did.layout, did.switches) d.bound;
       metered = rw did.layout d.metered;
+      valued = d.valued;
+      modelled = rw (did.layout, did.switches) d.modelled;
       released = rw (written, did.switches) (kept-stays d.bay.tree _ _ d.releases d.released
           (keeps-doubt (field_names c.args.field (meter_names c.args.meter)) c.args.now
           d.bay.tree (field-away c.args.meter c.args.field)));

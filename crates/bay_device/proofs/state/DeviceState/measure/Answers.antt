@@ -9,7 +9,7 @@ use Rattle.bay_process.proofs.ListLemmas.{got-some}
 use Rattle.bay_process.proofs.KeptLemmas.{kept-stays}
 use Rattle.bay_process.proofs.ToldLemmas.{keeps-measure, field-away}
 use Rattle.bay_mms_services.specs.Bay.{Bay}
-use Rattle.bay_device.specs.Device.{State, device_after_measure, with_bay}
+use Rattle.bay_device.specs.Device.{State, device_after_measure, with_bay, with_health}
 use Rattle.bay_device.specs.Outcomes.{Outcome, measure_outcome}
 use Rattle.bay_device.specs.StateView.{state_view}
 use Rattle.bay_device.specs.Steps.{quiet_answer}
@@ -35,6 +35,8 @@ invariant_of-self c =
     record {
       bound = rw (did.layout, did.switches) d.bound;
       metered = rw did.layout d.metered;
+      valued = d.valued;
+      modelled = rw (did.layout, did.switches) d.modelled;
       released = rw (written, did.switches) (kept-stays d.bay.tree _ _ d.releases d.released
           (keeps-measure (field_names c.args.field (meter_names c.args.meter)) c.args.value
           c.args.now d.bay.tree (field-away c.args.meter c.args.field)));
@@ -68,12 +70,13 @@ returns c connections =
       answered =
           ap (λ (o : Option Sent). quiet_answer (Ok o)) (c.advance-over.ensures.sent connections)
           ∙ sym (ap (λ (o : Outcome). o.answer) whole);
-      left = ap (λ (b : Bay). record (with_bay b
+      left = c.report_health.ensures.after connections
+          ∙ ap (with_health c.args.now) (ap (λ (b : Bay). record (with_bay b
           (record t { is_stale = t.is_stale || c.measure-changed.result; is_lost = false }))
           { input_values = t.input_values }) did
           ∙ ap (λ (b : Bool). record
           (device_after_measure c.args.now c.args.meter c.args.field c.args.value t)
           { is_stale = t.is_stale || b }) changed
-          ∙ ap (device_after_measure c.args.now c.args.meter c.args.field c.args.value) after
+          ∙ ap (device_after_measure c.args.now c.args.meter c.args.field c.args.value) after)
           ∙ sym (ap (λ (o : Outcome). o.after) whole);
     }

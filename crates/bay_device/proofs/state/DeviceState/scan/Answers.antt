@@ -33,6 +33,8 @@ invariant_of-self c =
     record {
       bound = rw (wrote.layout, wrote.switches) d.bound;
       metered = rw wrote.layout d.metered;
+      valued = d.valued;
+      modelled = rw (wrote.layout, wrote.switches) d.modelled;
       released = rw wrote.switches wrote.kept;
       tabled = rw wrote.switches d.tabled;
       typed = d.typed ∙ sym (ap (λ (i : Image). map type_of_point (read_only i.points)) did.image);
