@@ -7,14 +7,14 @@ from collections.abc import Callable
 from baytools.bay.names import Names
 from baytools.common.ending import Failed
 from baytools.common.positions import WAYS as WAYS_TOLD
-from baytools.common.texts import raised
+from baytools.common.texts import upcase
 from baytools.wire import mms
 from baytools.wire.client import Client, connection_text
 from baytools.wire.control import Control
 from baytools.wire.conversation import Description
 from baytools.wire.process import (NO_KEY, Life, ServerClock, greeting_of, moment_of, same_bay,
-                                   ungreeted)
-from baytools.wire.same_bay import compared
+                                   no_greeting)
+from baytools.wire.same_bay import compare_with_server
 from baytools.wire.sockets import is_taken
 
 from .bench import Bench, Outcome, position_text
@@ -65,7 +65,7 @@ class Process:
             first = greeting.answer(self.clock.stamp(), self.key or NO_KEY)
             found.sendall(f'{first}\n'.encode())
         elif self.key:
-            raise ungreeted(self.port)
+            raise no_greeting(self.port)
         threading.Thread(target=self.run, args=(found, lines), daemon=True).start()
         return found
 
@@ -100,7 +100,7 @@ class Process:
                 self.clock.on_moment(moment)
             match line.split(' '):
                 case [_, 'command', name, way] if way in WAYS_TOLD:
-                    self.commands.append((raised(name), WAYS_TOLD[way]))
+                    self.commands.append((upcase(name), WAYS_TOLD[way]))
                 case [_, 'refused', code]:
                     self.trouble = f'port {self.port}: the server refuses a line ({code})'
 
@@ -133,7 +133,7 @@ class Served(Bench):
 
     def __init__(self, text: str, file: dict, port: int, process: int, key: str = '') -> None:
         bay = file['bay']
-        self.names, self.ids = Names(text), {raised(it['id']): it['id'] for it in file['switch']}
+        self.names, self.ids = Names(text), {upcase(it['id']): it['id'] for it in file['switch']}
         try:
             self.client = Client(HOST, port, self.names, on_report=lambda told: None)
         except OSError as error:
@@ -150,7 +150,7 @@ class Served(Bench):
 
     def begin(self, file: dict, port: int) -> None:
         """Sees that the server has this bay, and connects its process."""
-        different = compared(self.client, file).lines()
+        different = compare_with_server(self.client, file).lines()
         if different:
             raise Failed(f'port {port}: the server has another bay: {different[0]}')
         self.process.connect()

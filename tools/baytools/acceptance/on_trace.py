@@ -6,7 +6,7 @@ from baytools.bay.names import Names
 from baytools.common.ending import Failed
 from baytools.common.positions import WAYS as WAYS_TOLD
 from baytools.report.joined import scenario_of
-from baytools.report.replay import NotLoaded, Replay, replayed
+from baytools.report.replay import NotLoaded, Replay, report_of_replay
 from baytools.wire import mms, stream
 from baytools.wire.conversation import Conversation, Description, got_of
 from baytools.wire.mms import Failure
@@ -41,7 +41,7 @@ class Trace(Bench):
         self.line('scan')
         self.line('open 1')
         self.recv(stream.connection_request())
-        self.recv(stream.wrapped(stream.association_request(mms.initiate_request())))
+        self.recv(stream.tpkt_frames(stream.association_request(mms.initiate_request())))
 
     def line(self, rest: str) -> int:
         """Adds a line, and gives its number."""
@@ -54,7 +54,7 @@ class Trace(Bench):
 
     def request(self, of: Callable, *more) -> int:
         self.invoke += 1
-        return self.recv(stream.wrapped(stream.data_tsdu(of(self.invoke, *more))))
+        return self.recv(stream.tpkt_frames(stream.data_tsdu(of(self.invoke, *more))))
 
     def send_line(self, line: str) -> None:
         self.now += APART
@@ -137,7 +137,7 @@ class Trace(Bench):
     def finish(self) -> None:
         """Replays the trace, and hears what is said."""
         octets = self.scenario()
-        printed, status = replayed(octets, self.bayctl)
+        printed, status = report_of_replay(octets, self.bayctl)
         if not printed.startswith('instructions='):
             raise NotLoaded(printed, status)
         replay, talk = Replay(octets, printed), Conversation(self.names)

@@ -5,7 +5,7 @@ from dataclasses import dataclass, field
 from baytools.bay.rules import BadRule, lines_of, time_of
 from baytools.common.ending import Failed
 from baytools.common.positions import POSITIONS
-from baytools.common.texts import raised
+from baytools.common.texts import upcase
 from baytools.diagnosis.trace import Known
 from baytools.wire.words import ADD_CAUSES
 
@@ -65,7 +65,7 @@ class Reader:
 
     def __init__(self, path: str, file: dict) -> None:
         self.path, self.known = path, Known(file, is_process=True)
-        self.switches = {raised(one['id']): one for one in file['switch']}
+        self.switches = {upcase(one['id']): one for one in file['switch']}
         self.asked: dict | None = None
         self.is_local, self.true = False, set()
         self.line = 0
@@ -134,7 +134,7 @@ class Reader:
         """A client asks something of a switch."""
         self.asked = self.switches[self.switch(name)]
         self.is_local = kind == 'operate' and 'remote' in self.asked and (
-            raised(self.asked['remote']) not in self.true)
+            upcase(self.asked['remote']) not in self.true)
         return {'switch': self.asked['id'], 'way': way}
 
     def tried(self, kind: str, cause: int | None) -> str:
@@ -152,17 +152,17 @@ class Reader:
     def input(self, name: str, value: str | int) -> str:
         """The line of a process that tells an input."""
         line = self.process_line('input', name, value)
-        (self.true.add if str(value) == '1' else self.true.discard)(raised(name))
+        (self.true.add if str(value) == '1' else self.true.discard)(upcase(name))
         return line
 
     def switch(self, name: str) -> str:
-        if raised(name) not in self.switches:
+        if upcase(name) not in self.switches:
             raise self.wrong(f'{name} is not a switch of the bay')
-        return raised(name)
+        return upcase(name)
 
     def process_line(self, verb: str, *words) -> str:
         """The line of a process, without its time."""
-        line = ' '.join(map(str, (verb, raised(words[0]), *words[1:])))
+        line = ' '.join(map(str, (verb, upcase(words[0]), *words[1:])))
         trouble = self.known.trouble(f'0 {line}'.encode('utf-8', 'backslashreplace'))
         if trouble:
             raise self.wrong(trouble[1])
@@ -197,7 +197,7 @@ def read_steps(path: str, text: str, file: dict) -> list[Section]:
     return Reader(path, file).sections(text)
 
 
-def keyed(file: dict) -> list[str]:
+def switches_with_key(file: dict) -> list[str]:
     """The switches that have a key."""
     return [one['id'] for one in file['switch'] if 'remote' in one]
 

@@ -37,7 +37,7 @@ import re
 from dataclasses import dataclass, field
 
 from baytools.bay.rules import INPUT, MEASURE, SWITCH
-from baytools.common.texts import raised
+from baytools.common.texts import upcase
 
 LEAST, MOST = -2 ** 31, 2 ** 31 - 1
 WAYS = ('open', 'close')
@@ -207,9 +207,9 @@ def judged_of(line: str, keys: set) -> Judged:
 
 def way_of(line: str, words: list[str], keys: set) -> tuple[str, int]:
     """A switch of the bay, and the number of its operation."""
-    if len(words) != 2 or words[1] not in WAYS or (SWITCH, raised(words[0])) not in keys:
+    if len(words) != 2 or words[1] not in WAYS or (SWITCH, upcase(words[0])) not in keys:
         raise Bad(line)
-    return raised(words[0]), WAYS.index(words[1])
+    return upcase(words[0]), WAYS.index(words[1])
 
 
 def release_of(line: str, words: list[str], keys: set) -> tuple[Release, int]:
@@ -256,7 +256,7 @@ def case_of(line: str, words: list[str], keys: set, sign: str = '') -> Case:
     values = {}
     for word in words[:at]:
         name, equals, text = word.partition('=')
-        key = next((key for key in ((kind, raised(name)) for kind in (SWITCH, INPUT, MEASURE))
+        key = next((key for key in ((kind, upcase(name)) for kind in (SWITCH, INPUT, MEASURE))
                     if key in keys and key not in values), None)
         if not equals or key is None:
             raise Bad(line)

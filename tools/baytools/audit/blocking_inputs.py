@@ -5,7 +5,7 @@ from dataclasses import dataclass
 from baytools.bay.conditions import TooLarge
 from baytools.bay.cubes import condition_of
 from baytools.bay.rules import INPUT
-from baytools.common.texts import raised
+from baytools.common.texts import upcase
 
 from . import questions
 from .answers import WAYS, Answer, Release
@@ -17,7 +17,7 @@ FAILS = ('_FAIL', '_FAILED', '_FAULT')  # ends of names that are TRUE while some
 
 def good_name(name: str) -> str:
     """What an input is called that is TRUE where this one is FALSE."""
-    found = next((end for end in FAILS if raised(name).endswith(end)), '')
+    found = next((end for end in FAILS if upcase(name).endswith(end)), '')
     return f'{name[:-len(found)]}_OK' if found else f'NO_{name}'
 
 
@@ -51,11 +51,11 @@ def needed_by(release: Release, file: dict) -> set[tuple[str, str]]:
             for variable, words in product if variable.is_truth}
 
 
-def needed(answer: Answer, file: dict) -> list[Needed]:
+def needs_of_inputs(answer: Answer, file: dict) -> list[Needed]:
     """What the releases need of each input, in the order of the bay file. A release with too many
     cases is left out."""
     found: dict[tuple[str, str], list[str]] = {}
-    names = {raised(switch['id']): switch['id'] for switch in file['switch']}
+    names = {upcase(switch['id']): switch['id'] for switch in file['switch']}
     for release in answer.releases:
         try:
             inputs = needed_by(release, file) if release.is_known else set()
@@ -70,9 +70,9 @@ def needed(answer: Answer, file: dict) -> list[Needed]:
 def needed_of(bayctl, bay, logic, file: dict) -> list[Needed] | None:
     """That of a bay file and a program; None where bayctl proves nothing."""
     answer = questions.releases_of(bayctl, bay, logic, keys_of(file))
-    return None if answer is None else needed(answer, file)
+    return None if answer is None else needs_of_inputs(answer, file)
 
 
 def warnings(answer: Answer | None, file: dict) -> list[str]:
     """What is to be warned of, where something is proved."""
-    return [it.warning() for it in needed(answer, file) if it.false] if answer else []
+    return [it.warning() for it in needs_of_inputs(answer, file) if it.false] if answer else []

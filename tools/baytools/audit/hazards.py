@@ -4,12 +4,12 @@ from collections.abc import Sequence
 from dataclasses import dataclass, replace
 
 from baytools.common.ending import Failed
-from baytools.common.html_page import escaped, table
-from baytools.common.texts import counted, raised
+from baytools.common.html_page import as_html, table
+from baytools.common.texts import quantity, upcase
 
 from . import answers
 from .answers import WAYS, Judged
-from .proofs import Shown, case_text, completed
+from .proofs import Shown, case_text, complete_state
 from .replays import scans_of
 from .variables import Bay, Thing, all_things
 
@@ -49,22 +49,22 @@ class Judgement:
 def released_at(bay: Bay, judged: Judged, bayctl, things: list[Thing]) -> Shown:
     """A state of a case that is broken, with its scenario, and whether a replay releases the switch
     there."""
-    state = completed(judged.case, things)
+    state = complete_state(judged.case, things)
     lines = [*(thing.line(0, state[thing.key]) for thing in things), '0 scan']
     scans = list(scans_of(bayctl, bay.scenario(lines)))
     if not scans:
         raise Failed('bayctl: it printed too few scans')
-    return Shown(state, lines, scans[0][raised(judged.name)][judged.way])
+    return Shown(state, lines, scans[0][upcase(judged.name)][judged.way])
 
 
 def judgements(file: dict, judged: Sequence[Judged]) -> list[Judgement]:
     """What was found of each operation, in bayctl's order, for the tables of a bay file."""
     things = list(all_things(file))
-    names = {raised(it['id']): it['id'] for it in file['switch']}
+    names = {upcase(it['id']): it['id'] for it in file['switch']}
     return [Judgement(it, names[it.name], case_text(it.case, things)) for it in judged]
 
 
-def replayed(bay: Bay, judged: Sequence[Judged], bayctl) -> list[Judgement]:
+def with_replays(bay: Bay, judged: Sequence[Judged], bayctl) -> list[Judgement]:
     """The same, with a replay of each case that is broken."""
     things = list(all_things(bay.file))
     return [replace(it, shown=released_at(bay, it.answer, bayctl, things))
@@ -77,9 +77,9 @@ def rows_of(found: Sequence[Judgement], diagram: str) -> str:
     rows = []
     for it in found:
         kind = 'good' if it.verdict() == 'PROVED' else 'bad'
-        lines = '<br>'.join(escaped(line) for line in lines_of(it, diagram)[1:])
+        lines = '<br>'.join(as_html(line) for line in lines_of(it, diagram)[1:])
         cases = f'{it.answer.cases:,}' if it.verdict() == 'PROVED' else ''
-        rows.append((f'<b>{escaped(it.switch)}</b> {it.operation()}', lines, cases,
+        rows.append((f'<b>{as_html(it.switch)}</b> {it.operation()}', lines, cases,
                      f'<span class="mark {kind}">{it.verdict()}</span>'))
     return (f'<h2>Hazards in the single line diagram</h2><p class="quiet">{NOT_SAID}</p>'
             + table(['!Operation', 'What was found', '#Cases proved', 'Verdict'], rows))
@@ -112,9 +112,9 @@ def counts_text(found: Sequence[Judgement], diagram: str) -> str:
     """How many releases are no hazard, how many are, and of how many that is open."""
     verdicts = [it.verdict() for it in found]
     if set(verdicts) <= {'PROVED'}:
-        return (f'none of {counted(len(found), "operation")} is released while it is a hazard in '
+        return (f'none of {quantity(len(found), "operation")} is released while it is a hazard in '
                 f'{diagram}')
     parts = [f'{verdicts.count(kind)} {word}' for kind, word in (
         ('BROKEN', f'released while a hazard in {diagram}'), ('OPEN', 'open'))
         if kind in verdicts]
-    return f'of {counted(len(found), "operation")} {", ".join(parts)}'
+    return f'of {quantity(len(found), "operation")} {", ".join(parts)}'

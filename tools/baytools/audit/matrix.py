@@ -5,7 +5,7 @@ import math
 from dataclasses import dataclass
 
 from baytools.common.svg import FAINT, FREE, GRID, INK, Picture, room
-from baytools.common.texts import raised
+from baytools.common.texts import upcase
 
 from .variables import SWITCH, WAYS
 
@@ -18,12 +18,12 @@ def write_table(bay, table: list, path) -> None:
     with open(path, 'w', newline='', encoding='utf-8') as file:
         writer = csv.writer(file, lineterminator='\n')
         heads = [f'{name} {way}' for name in bay.switches() for way in WAYS]
-        names = [raised(thing.name) for thing in bay.things]
-        writer.writerow([thing.name if names.count(raised(thing.name)) == 1 else
+        names = [upcase(thing.name) for thing in bay.things]
+        writer.writerow([thing.name if names.count(upcase(thing.name)) == 1 else
                          f'{thing.name} ({thing.kind})' for thing in bay.things] + heads)
         for combination, releases in table:
             values = [thing.value_text(value) for thing, value in zip(bay.things, combination)]
-            free = [int(free) for name in bay.switches() for free in releases[raised(name)]]
+            free = [int(free) for name in bay.switches() for free in releases[upcase(name)]]
             writer.writerow(values + free)
 
 
@@ -51,7 +51,7 @@ class Block:
 
 def masks_of(bay, table) -> list:
     """What is released in each combination, as bits: to open and to close each switch in turn."""
-    order = [(raised(name), way) for name in bay.switches() for way in range(len(WAYS))]
+    order = [(upcase(name), way) for name in bay.switches() for way in range(len(WAYS))]
     return [sum(releases[name][way] << at for at, (name, way) in enumerate(order))
             for _, releases in table]
 
@@ -131,7 +131,7 @@ def draw(bay, table: list, heading: str = '', width: float = math.inf) -> str:
     picture.y = 40 if heading else 0
     for number, band in enumerate(bands_of(blocks, width)):
         draw_band(picture, bay, table, blocks, band, number == 0)
-    return finished(picture, bay, table, blocks, heading)
+    return whole_picture(picture, bay, table, blocks, heading)
 
 
 def draw_parts(bay, table: list, width: float) -> list[str]:
@@ -143,10 +143,10 @@ def draw_parts(bay, table: list, width: float) -> list[str]:
         widest = max([block.x + block.width() + 10 for block in band] + [LEFT + 60])
         parts.append(picture.page(math.ceil(widest), picture.y + 8, f'Releases, band {number + 1}',
                                   TOLD, key=f'-{number + 1}'))
-    return [*parts, finished(Picture(), bay, table, [], '', '-0')]
+    return [*parts, whole_picture(Picture(), bay, table, [], '', '-0')]
 
 
-def finished(picture, bay, table, blocks, heading, key='') -> str:
+def whole_picture(picture, bay, table, blocks, heading, key='') -> str:
     """A picture with its legend and its notes."""
     notes = notes_of(bay, blocks_of(bay, table))
     far = draw_legend(picture, len(table), notes)
@@ -169,7 +169,7 @@ def draw_band(picture, bay, table, blocks, band, is_first) -> None:
             for way, at in enumerate(ats):
                 draw_row(picture, name, way, at, band)
                 if is_first and not any(at in block.depends for block in blocks):
-                    is_free = bool(table) and table[0][1][raised(name)][way]
+                    is_free = bool(table) and table[0][1][upcase(name)][way]
                     told = 'always' if is_free else 'never'
                     picture.text(LEFT + 4, picture.y - ROW + 16, told)
             picture.y += 8

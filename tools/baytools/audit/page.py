@@ -3,14 +3,14 @@ from baytools.bay.names import UNIT
 from baytools.bay.rules import MEASURE
 from baytools.common import page_head
 from baytools.common.ending import DONE
-from baytools.common.html_page import A4, code, escaped, page, signatures, table
-from baytools.common.texts import counted
+from baytools.common.html_page import A4, code, as_html, page, signatures, table
+from baytools.common.texts import quantity, upcase
 from baytools.diagram.drawing import draw
 from baytools.report.bayctl import is_tried
 
 from . import hazards, proofs, verdicts
 from .matrix import draw_parts
-from .rule_findings import released, uncovered
+from .rule_findings import release_conditions, uncovered_release
 from .states import drawn_states
 from .variables import WAYS
 
@@ -42,7 +42,7 @@ class Report:
         bay = self.bay.file['bay']
         title = f'Audit of the interlocking of bay {bay["domain"]}'
         style = A4 % f'Bay {bay["domain"]}, {page_head.moment_text(self.begun)}'
-        parts = [f'<h1>{escaped(title)}</h1>', self.verdict(), *self.head(),
+        parts = [f'<h1>{as_html(title)}</h1>', self.verdict(), *self.head(),
                  signatures(), self.how(), self.rules(), self.hazards(), self.diagram(),
                  self.conditions(), self.lost(), self.start(), self.uncovered(), self.matrix()]
         return page(title, style, parts)
@@ -58,8 +58,8 @@ class Report:
         if is_tried(self.bayctl):
             more.append('The sources of bayctl were run, without proof: what is proved here rests '
                         'on a program that is not.')
-        return (f'<div class="verdict {kind}"><p>{escaped(verdicts.verdict(self.audit))}</p>'
-                + ''.join(f'<p class="plain">{escaped(it)}</p>' for it in more) + '</div>')
+        return (f'<div class="verdict {kind}"><p>{as_html(verdicts.verdict(self.audit))}</p>'
+                + ''.join(f'<p class="plain">{as_html(it)}</p>' for it in more) + '</div>')
 
     def head(self) -> list[str]:
         bay = self.bay.file['bay']
@@ -75,7 +75,7 @@ class Report:
         audit = self.audit
         notes = [PROVED] if audit.answer else []
         notes.append(self.tried_text() if audit.table else 'Nothing was tried.')
-        rows = [(escaped(it.name), it.kind, escaped(', '.join(it.words()))
+        rows = [(as_html(it.name), it.kind, as_html(', '.join(it.words()))
                  + (' (not all)' if it.is_restricted() else '')) for it in self.bay.things]
         shown = table(['Point', 'Kind', 'Values that were tried'], rows) if audit.table else ''
         return ('<h2>What was proved and what was tried</h2>'
@@ -85,24 +85,26 @@ class Report:
         audit, some = self.audit, ''
         if not audit.is_whole():
             some = f' of {audit.bay.count():,}, spread over all'
-        return (f'<b>Tried</b>: {counted(len(audit.table), "combination")}{some}, '
-                f'{counted(audit.scans, "scan")}. Each combination is scanned at once and '
+        return (f'<b>Tried</b>: {quantity(len(audit.table), "combination")}{some}, '
+                f'{quantity(audit.scans, "scan")}. Each combination is scanned at once and '
                 + ', '.join(f'{at:,} ms' for at in audit.offsets[1:]) + ' after it is reached.')
 
     def notes(self) -> list[str]:
         program = self.bay.program
         notes = [f'Not read by the program, and so not combined: '
-                 f'{escaped(", ".join(self.bay.unread))}.'] if self.bay.unread else []
-        if any(it.kind == MEASURE for it in self.bay.things):
+                 f'{as_html(", ".join(self.bay.unread))}.'] if self.bay.unread else []
+        plain = {upcase(it['id']) for it in self.bay.file.get('meter', []) if 'scale' not in it}
+        if any(it.kind == MEASURE and upcase(it.name).rpartition('_')[0] in plain
+               for it in self.bay.things):
             notes.append(f'Measured values are {UNIT}: the bay file has none.')
         if program.points is None:
             notes.append('This tool can\'t follow the program, so all points are combined.')
         if program.timers and not self.audit.has_times():
-            notes.append(f'The program has {counted(program.timers, "timer")}, and no rule has a '
+            notes.append(f'The program has {quantity(program.timers, "timer")}, and no rule has a '
                          'time: <b>how long they run is not audited.</b>')
         if program.untold:
             notes.append('The times of these timers are not in the text, so no scan is made at '
-                         f'their ends: {escaped(", ".join(program.untold))}.')
+                         f'their ends: {as_html(", ".join(program.untold))}.')
         return notes
 
     def rules(self) -> str:
@@ -111,9 +113,9 @@ class Report:
             kind = 'good' if it.verdict() in ('PROVED', 'TRIED') else 'bad'
             first, *others = verdicts.lines_of(self.audit, it)
             others = [first.replace('PROVED', 'proved')] if it.verdict() == 'PROVED' else others
-            told = ''.join(f'<span class="remark">{escaped(one)}</span>' for one in it.rule.remarks)
+            told = ''.join(f'<span class="remark">{as_html(one)}</span>' for one in it.rule.remarks)
             told += code(it.rule.text) + ''.join(
-                f'<br><span class="quiet">{escaped(line)}</span>' for line in others)
+                f'<br><span class="quiet">{as_html(line)}</span>' for line in others)
             cases = f'{it.proof.cases:,}' if it.proof and it.proof.cases else ''
             looked = f'{it.looked:,}' if it.is_tried else ''
             rows.append((it.rule.line, told, cases, looked,
@@ -137,15 +139,15 @@ class Report:
                 'of switches of other bays (grey). Other inputs and measures are 0, but in a '
                 'state that breaks a rule or is a hazard.</p>')
         states, left = drawn_states(self.audit, self.network)
-        more = f'<p>{counted(left, "other such state")} not drawn.</p>' if left else ''
+        more = f'<p>{quantity(left, "other such state")} not drawn.</p>' if left else ''
         return lead + ''.join(
-            f'<div class="figure"><p>{escaped(it.title)}</p>'
+            f'<div class="figure"><p>{as_html(it.title)}</p>'
             + draw(self.network, it.title, it.positions, it.releases) + '</div>'
             for it in states) + more
 
     def conditions(self) -> str:
-        rows = [(f'<b>{escaped(name)}</b> {WAYS[way]}', product_list(it))
-                for (name, way), it in released(self.audit).items()]
+        rows = [(f'<b>{as_html(name)}</b> {WAYS[way]}', product_list(it))
+                for (name, way), it in release_conditions(self.audit).items()]
         how = ('as it is proved; where it depends on variables or timers, these are named'
                if self.audit.answer else 'as it was tried, once timers have run out')
         return (f'<h2>Derived conditions</h2><p class="quiet">When each release is given, in the '
@@ -153,11 +155,11 @@ class Report:
 
     def lost(self) -> str:
         """What is released while the process is lost, where bayctl tells it."""
-        rows = [(f'<b>{escaped(name)}</b>', *map(escaped, told))
+        rows = [(f'<b>{as_html(name)}</b>', *map(as_html, told))
                 for name, *told in proofs.lost_table(self.audit.answer, self.bay.file)]
         if not rows:
             return ''
-        warnings = ''.join(f'<p class="bad"><b>Warning:</b> {escaped(it)}.</p>'
+        warnings = ''.join(f'<p class="bad"><b>Warning:</b> {as_html(it)}.</p>'
                            for it in verdicts.lost_warnings(self.audit))
         return ('<h2>When the process is lost</h2><p class="quiet">What is released while each '
                 'position is bad and each input 0, with any measures: as it is proved, in every '
@@ -166,11 +168,11 @@ class Report:
 
     def start(self) -> str:
         """What the first scan after a restart releases, where bayctl tells it."""
-        rows = [(f'<b>{escaped(name)}</b>', *map(escaped, told))
+        rows = [(f'<b>{as_html(name)}</b>', *map(as_html, told))
                 for name, *told in proofs.start_table(self.audit.answer, self.bay.file)]
         if not rows:
             return ''
-        warnings = ''.join(f'<p class="bad"><b>Warning:</b> {escaped(it)}.</p>'
+        warnings = ''.join(f'<p class="bad"><b>Warning:</b> {as_html(it)}.</p>'
                            for it in verdicts.start_warnings(self.audit))
         return ('<h2>After a restart</h2><p class="quiet">What the first scan after a restart '
                 'releases, whatever the process reports by then, as it is proved: the program '
@@ -178,7 +180,7 @@ class Report:
                 + table(['!Switch', *WAYS], rows) + warnings)
 
     def uncovered(self) -> str:
-        bare, is_proved = uncovered(self.audit), self.audit.answer is not None
+        bare, is_proved = uncovered_release(self.audit), self.audit.answer is not None
         how = 'is released, as proved,' if is_proved else 'was released, as tried,'
         lead = (f'<h2>Releases that no rule covers</h2><p class="quiet">What {how} and no rule '
                 'with <code>always</code> asks for.</p>')
@@ -187,7 +189,7 @@ class Report:
         if not bare:
             return lead + '<p>None: each release is asked for by a rule.</p>'
         heads = ['!Release', 'when', *([] if is_proved else ['#Combinations'])]
-        rows = [(f'<b>{escaped(name)}</b> {WAYS[way]}', product_list(it),
+        rows = [(f'<b>{as_html(name)}</b> {WAYS[way]}', product_list(it),
                  *([] if is_proved else [f'{count:,}']))
                 for (name, way), (count, it) in bare.items()]
         return lead + table(heads, rows)

@@ -1,7 +1,7 @@
 """What a program reads of its bay, and the times of its timers, as its text tells them."""
 from dataclasses import dataclass, field
 
-from baytools.common.texts import raised
+from baytools.common.texts import upcase
 from baytools.diagnosis import lines
 from baytools.diagnosis.language import STORES, TIMERS
 
@@ -19,11 +19,11 @@ class Program:
     timers: int = 0
 
     def reads_switch(self, name: str) -> bool:
-        return self.points is None or any(raised(name) + end in self.points for end in POSITION)
+        return self.points is None or any(upcase(name) + end in self.points for end in POSITION)
 
     def reads(self, name: str) -> bool:
         """Whether an input, or a field of a meter, is read."""
-        return self.points is None or raised(name) in self.points
+        return self.points is None or upcase(name) in self.points
 
     def longest(self) -> int:
         """How long it takes until all timers have run out, one after the other."""

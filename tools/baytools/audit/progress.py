@@ -6,7 +6,7 @@ import threading
 import time
 from collections.abc import Callable, Iterator
 
-from baytools.common.texts import counted
+from baytools.common.texts import quantity
 
 FIRST, EVERY = 1.0, 0.5  # seconds until something is shown, and between two times
 
@@ -30,8 +30,8 @@ class Progress:
         left = [what for what in self.all if self.done[what] < self.all[what]]
         what = left[0] if left else 'diagram' if self.all['diagram'] else 'release'
         if what == 'diagram':
-            return f'{self.done[what]} of {counted(self.all[what], "release")} in the diagram'
-        return f'{self.done[what]} of {counted(self.all[what], what)}'
+            return f'{self.done[what]} of {quantity(self.all[what], "release")} in the diagram'
+        return f'{self.done[what]} of {quantity(self.all[what], what)}'
 
 
 @contextlib.contextmanager

@@ -8,7 +8,7 @@ from baytools.bay.cubes import EXACT, condition_of, products_of, without
 from baytools.bay.rules import INPUT, MEASURE, SWITCH, Rule
 from baytools.common.ending import Failed
 from baytools.common.positions import POSITIONS
-from baytools.common.texts import raised
+from baytools.common.texts import upcase
 
 from .answers import LEAST, MOST, WAYS, Answer, Case, Lost, Release
 from .replays import scans_of
@@ -17,7 +17,7 @@ from .variables import Bay, Thing, all_things
 FREE = {SWITCH: 1, INPUT: 0, MEASURE: 0}  # the value of what a case leaves free
 
 
-def completed(case: Case, things: list[Thing]) -> dict:
+def complete_state(case: Case, things: list[Thing]) -> dict:
     """A state of a bay that lies in a case."""
     state = {}
     for thing in things:
@@ -58,7 +58,7 @@ def moments_of(rule) -> list[int]:
 def replay_case(bay: Bay, rule, case: Case, bayctl) -> Shown:
     """A case that breaks a rule, replayed."""
     things, moments = list(all_things(bay.file)), moments_of(rule)
-    state = (example if rule.since else completed)(case, things)
+    state = (example if rule.since else complete_state)(case, things)
     lines = [thing.line(0, state[thing.key]) for thing in things]
     lines += [f'{moment} scan' for moment in moments]
     scans = list(scans_of(bayctl, bay.scenario(lines)))[:len(moments)]
@@ -157,7 +157,7 @@ def rule_cubes(rule: Rule, things: list[Thing], variables: list[Variable]) -> li
     return products_of(cubes, [len(it.values) for it in variables])[0]
 
 
-def derived(release: Release, bay_file: dict, rules: list[Rule]) -> Derived:
+def derive_release(release: Release, bay_file: dict, rules: list[Rule]) -> Derived:
     """When a release is given, by its cases, and none of the rules asks for it."""
     named = {key for case in release.cases for key in case.values}
     named |= {key for rule in rules for key in rule.names}
@@ -189,7 +189,7 @@ def state_table(entries: list[Lost], bay_file: dict) -> list[tuple[str, str, str
     """What is told of opening and of closing each switch, if anything is."""
     told = {(it.name, it.way): f'depends on {", ".join(it.kept)}' if it.kept else it.state
             for it in entries}
-    return [(switch['id'], *(told.get((raised(switch['id']), way), '') for way in range(len(WAYS))))
+    return [(switch['id'], *(told.get((upcase(switch['id']), way), '') for way in range(len(WAYS))))
             for switch in bay_file['switch'] if told]
 
 
@@ -197,12 +197,13 @@ def conditions(answer: Answer, bay_file: dict,
                rules: Sequence[Rule] = ()) -> dict[tuple[str, int], Derived | None]:
     """When each release is given and none of the rules asks for it, by the switch's id and the way;
     None where its cases are too many."""
-    names = {raised(switch['id']): switch['id'] for switch in bay_file['switch']}
+    names = {upcase(switch['id']): switch['id'] for switch in bay_file['switch']}
     found = {}
     for it in answer.releases:
         own = [rule for rule in rules if rule.switch == it.name and it.way in rule.ways]
         try:
-            found[names[it.name], it.way] = derived(it, bay_file, own) if it.is_known else None
+            release = derive_release(it, bay_file, own) if it.is_known else None
+            found[names[it.name], it.way] = release
         except TooLarge:
             found[names[it.name], it.way] = None
     return found

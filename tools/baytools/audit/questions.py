@@ -9,7 +9,7 @@ from typing import IO
 
 from baytools.bay.rules import KEYWORDS, SWITCH
 from baytools.common.ending import Failed
-from baytools.common.texts import raised
+from baytools.common.texts import upcase
 from baytools.diagnosis.faults import faults
 from baytools.diagnosis.warnings import Proved
 from baytools.report.bayctl import Ask, is_tried, run, run_lines
@@ -113,7 +113,7 @@ def proved_of(bayctl, bay, logic, file: dict) -> Proved | None:
     points = {point for case in cases for kind, name in case.values
               for point in ([name + ending for ending in POSITION] if kind == SWITCH else [name])}
     never = {(it.name, WAYS[it.way]) for it in answer.releases if it.is_known and not it.cases}
-    return Proved(never, points, {raised(name) for case in cases for name in case.kept})
+    return Proved(never, points, {upcase(name) for case in cases for name in case.kept})
 
 
 def any_rule(keys: set) -> str:

@@ -6,7 +6,7 @@ import tempfile
 from collections.abc import Iterable, Iterator
 
 from baytools.common.ending import Failed
-from baytools.common.texts import raised
+from baytools.common.texts import upcase
 from baytools.report.bayctl import Ask, ask_ahead, is_tried, not_run, run
 from baytools.report.replay import NotLoaded
 
@@ -111,7 +111,7 @@ def scans_of(bayctl, octets: bytes) -> Iterator[dict]:
 def releases_of(line: str) -> dict:
     """What a scan releases, by its line."""
     words = line.split()
-    found = {raised(name): (digits[:1] == '1', digits[1:] == '1')
+    found = {upcase(name): (digits[:1] == '1', digits[1:] == '1')
              for name, _, digits in (word.partition('=') for word in words[3:])}
     if words[1:2] != ['scan']:
         raise Failed(f'bayctl printed: {line.rstrip()}')

@@ -9,7 +9,7 @@ from dataclasses import dataclass, field
 
 from baytools.bay.conditions import TooLarge, Variable, condition
 from baytools.common.ending import Failed, UsageError
-from baytools.common.texts import counted, raised
+from baytools.common.texts import quantity, upcase
 
 from . import answers, hazards
 from .answers import Answer, Proof
@@ -138,7 +138,7 @@ def audit(bay, rules: list, bayctl, pause: int | None = None, answer: Answer | N
         if finding.proof and finding.proof.verdict == answers.BROKEN:
             finding.shown = replay_case(bay, finding.rule, finding.proof.case, bayctl)
     chosen = chosen_of(bay, findings, answer is None or is_table_asked)
-    judged = hazards.replayed(bay, answer.judged if answer else [], bayctl)
+    judged = hazards.with_replays(bay, answer.judged if answer else [], bayctl)
     found = Audit(bay, findings, answer, [], offsets, 0, judged=judged, diagram=diagram)
     if chosen:
         print_size(bay, len(chosen), offsets)
@@ -193,11 +193,11 @@ def several(scans: Iterator, count: int) -> list:
 def print_size(bay, chosen: int, offsets: list[int]) -> None:
     """Tells what is tried."""
     switches = sum(thing.kind == SWITCH for thing in bay.things)
-    told = f'{counted(switches, "switch", "switches")}, '
-    told += f'{counted(len(bay.things) - switches, "other")}: '
-    told += counted(bay.count(), 'combination')
+    told = f'{quantity(switches, "switch", "switches")}, '
+    told += f'{quantity(len(bay.things) - switches, "other")}: '
+    told += quantity(bay.count(), 'combination')
     more = '' if chosen == bay.count() else f', of which {chosen:,} are tried'
-    print(f'{told}{more}, with {counted(len(offsets), "scan")} each', file=sys.stderr)
+    print(f'{told}{more}, with {quantity(len(offsets), "scan")} each', file=sys.stderr)
 
 
 def judge(finding, bay, part: list, place: int, offsets, seen) -> None:
@@ -304,7 +304,7 @@ def tried_conditions(bay, table: list, holds) -> dict:
     found, progress = {}, Progress(len(bay.switches()) * len(WAYS))
     for name in bay.switches():
         for way in range(len(WAYS)):
-            truths = ''.join('1' if holds(raised(name), way, combination, releases) else '0'
+            truths = ''.join('1' if holds(upcase(name), way, combination, releases) else '0'
                              for combination, releases in table)
             try:
                 found[name, way] = condition(variables_of(bay), truths)
@@ -314,7 +314,7 @@ def tried_conditions(bay, table: list, holds) -> dict:
     return found
 
 
-def released(audit: Audit) -> dict:
+def release_conditions(audit: Audit) -> dict:
     """The least condition of each release: by the cases that bayctl proves, or by what was tried;
     none where that was not whole, or is too much."""
     if 'released' not in audit.kept:
@@ -335,7 +335,7 @@ def is_derived(audit: Audit) -> bool:
     return audit.is_whole() and len(audit.table) <= DERIVED
 
 
-def uncovered(audit: Audit) -> dict | None:
+def uncovered_release(audit: Audit) -> dict | None:
     """The least condition under which something is released that no rule asks for, by each switch
     and way: by the cases that bayctl proves, or by what was tried, with how often. None where
     nothing is proved and not all was tried."""
@@ -363,5 +363,5 @@ def found_uncovered(audit: Audit) -> dict:
         return is_so
 
     found = tried_conditions(audit.bay, audit.table, is_bare)
-    return {key: (counts[raised(key[0]), key[1]], it) for key, it in found.items()
-            if counts[raised(key[0]), key[1]]}
+    return {key: (counts[upcase(key[0]), key[1]], it) for key, it in found.items()
+            if counts[upcase(key[0]), key[1]]}

@@ -4,7 +4,7 @@ from dataclasses import dataclass
 
 from baytools.bay.rules import INPUT, SWITCH
 from baytools.common.positions import POSITIONS
-from baytools.common.texts import raised
+from baytools.common.texts import upcase
 from baytools.diagram.drawing import in_service, usual_positions
 from baytools.diagram.network import Network
 
@@ -27,7 +27,7 @@ class Drawn:
 
 def is_released(answer: Answer, name: str, way: int, state: Mapping) -> bool | None:
     """Whether a switch may be opened or closed in a state, in which each thing has its value."""
-    release = next((it for it in answer.releases if (it.name, it.way) == (raised(name), way)), None)
+    release = next((it for it in answer.releases if (it.name, it.way) == (upcase(name), way)), None)
     if release is None or not release.is_known:
         return None
     found = [case for case in release.cases
@@ -44,10 +44,10 @@ def state_of(network: Network, positions: Mapping[str, str], file: dict) -> dict
     for switch in network.switches:
         value = POSITIONS.index(positions[switch.name])
         if switch.is_own:
-            state[SWITCH, raised(switch.name)] = value
+            state[SWITCH, upcase(switch.name)] = value
         for name, wanted in ((switch.closed, CLOSED), (switch.opened, OPEN)):
             if name:
-                state[INPUT, raised(name)] = int(value == wanted)
+                state[INPUT, upcase(name)] = int(value == wanted)
     return state
 
 
@@ -56,10 +56,10 @@ def positions_of(network: Network, state: Mapping) -> dict[str, str]:
     found = {}
     for switch in network.switches:
         if switch.is_own:
-            found[switch.name] = POSITIONS[state[SWITCH, raised(switch.name)]]
+            found[switch.name] = POSITIONS[state[SWITCH, upcase(switch.name)]]
             continue
         said = [word for word, name in (('closed', switch.closed), ('open', switch.opened))
-                if name and state[INPUT, raised(name)]]
+                if name and state[INPUT, upcase(name)]]
         if len(said) == 1:
             found[switch.name] = said[0]
     return found

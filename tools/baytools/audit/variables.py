@@ -6,7 +6,7 @@ from dataclasses import dataclass, field
 
 from baytools.bay.rules import INPUT, MEASURE, SWITCH
 from baytools.common.positions import POSITIONS
-from baytools.common.texts import raised
+from baytools.common.texts import upcase
 from baytools.diagnosis.language import FIELDS
 from baytools.report.joined import scenario_of
 
@@ -29,7 +29,7 @@ class Thing:
     @property
     def key(self) -> tuple[str, str]:
         """What rules know it by: an input may have the name of a switch."""
-        return self.kind, raised(self.name)
+        return self.kind, upcase(self.name)
 
     def line(self, moment, value) -> str:
         """The line of the trace that gives it a value."""

@@ -1,7 +1,7 @@
 """What is said of an audit: of each rule, and of all; what is proved, and what was only tried."""
 from baytools.bay.rules import MEASURE
 from baytools.common.ending import DONE, FOUND, PARTLY
-from baytools.common.texts import counted, raised
+from baytools.common.texts import quantity, upcase
 
 from . import answers, hazards, proofs
 from .rule_findings import Audit, Finding
@@ -27,7 +27,7 @@ def restrictions(audit: Audit) -> list[str]:
 
 def lost_warnings(audit: Audit) -> list[str]:
     """What may be done while nothing is known of the switchgear, but for opening a breaker."""
-    switches = {raised(it['id']): it for it in audit.bay.file['switch']}
+    switches = {upcase(it['id']): it for it in audit.bay.file['switch']}
     return [f'{switches[it.name]["id"]} may be {DONE_WAYS[it.way]} while the process is lost: each '
             'position is bad and each input 0'
             for it in (audit.answer.lost if audit.answer else [])
@@ -40,14 +40,14 @@ def forgotten(audit: Audit, name: str, way: int) -> list[str]:
     reported = {name for _, name in (thing.key for thing in all_things(audit.bay.file))}
     return sorted({kept for it in audit.answer.releases if (it.name, it.way) == (name, way)
                    for case in it.cases for kept in case.kept
-                   if kept != answers.COMPUTED and raised(kept) not in reported})
+                   if kept != answers.COMPUTED and upcase(kept) not in reported})
 
 
 def start_warnings(audit: Audit) -> list[str]:
     """Which switches may be closed right after a restart, whatever was before: by the first scan
     whatever the process reports, or although the release depends on what the restart forgets."""
     found = []
-    ids = {raised(it['id']): it['id'] for it in audit.bay.file['switch']}
+    ids = {upcase(it['id']): it['id'] for it in audit.bay.file['switch']}
     for it in (audit.answer.start if audit.answer else []):
         if answers.WAYS[it.way] != 'close' or it.state == answers.BLOCKED:
             continue
@@ -95,9 +95,9 @@ def tried_text(audit: Audit, finding: Finding) -> str:
     if not finding.is_tried:
         return 'not tried'
     if finding.broken:
-        return f'tried: broken in {finding.broken:,} of {counted(finding.looked, "combination")}'
+        return f'tried: broken in {finding.broken:,} of {quantity(finding.looked, "combination")}'
     more = '' if audit.is_whole() else f' of {audit.bay.count():,}'
-    told = f'tried in {counted(finding.looked, "combination")}{more}, no break found'
+    told = f'tried in {quantity(finding.looked, "combination")}{more}, no break found'
     return told if finding.looked else 'tried, and never applies'
 
 
@@ -133,7 +133,7 @@ def broken_lines(audit: Audit, finding: Finding) -> list[str]:
     return found + ([DOUBTED] if finding.is_doubted() else [])
 
 
-def unfinished(audit: Audit) -> list[str]:
+def unfinished_parts(audit: Audit) -> list[str]:
     """What was neither proved nor tried whole, in words."""
     tried = [it for it in audit.findings if not it.is_settled()]
     if not tried:
@@ -141,7 +141,7 @@ def unfinished(audit: Audit) -> list[str]:
     found = [f'{it.name} was tried only {"|".join(it.words())}' for it in audit.bay.restricted()]
     found += [it.note for it in tried if it.note]
     if not audit.is_whole():
-        found.append(f'{len(audit.table):,} of {counted(audit.bay.count(), "combination")} '
+        found.append(f'{len(audit.table):,} of {quantity(audit.bay.count(), "combination")} '
                      'were tried')
     return found + [f'the end of {name} was not tried: its time is not a number of the text'
                     for name in audit.bay.program.untold]
@@ -154,7 +154,7 @@ def status(audit: Audit) -> int:
     if 'BROKEN' in verdicts:
         return FOUND
     is_whole = verdicts and set(verdicts) <= {'PROVED', 'TRIED'} and not is_unjudged(audit)
-    return DONE if is_whole and not unfinished(audit) else PARTLY
+    return DONE if is_whole and not unfinished_parts(audit) else PARTLY
 
 
 def is_unjudged(audit: Audit) -> bool:
@@ -181,7 +181,7 @@ def rules_text(verdicts: list[str]) -> str:
     """How many rules have each verdict."""
     kinds = [(verdicts.count(kind), kind) for kind in SENTENCES if kind in verdicts]
     if len(kinds) > 1:
-        return f'of {counted(len(verdicts), "rule")} ' + ', '.join(
+        return f'of {quantity(len(verdicts), "rule")} ' + ', '.join(
             f'{count} {SENTENCES[kind][0]}' for count, kind in kinds)
     (count, kind), = kinds
     _, one, several = SENTENCES[kind]
@@ -211,4 +211,4 @@ def verdict(audit: Audit) -> str:
         return f'PROVED: {told}; the restriction bears on nothing that is proved.'
     if found == DONE:
         return f'TRIED UNDER A RESTRICTION: {told}; tried with {", ".join(limits)}.'
-    return f'NOT ALL WAS PROVED OR TRIED: {"; ".join([told, *unfinished(audit)])}.'
+    return f'NOT ALL WAS PROVED OR TRIED: {"; ".join([told, *unfinished_parts(audit)])}.'

@@ -27,7 +27,7 @@ class Variable:
         return next(found, value) if self.ranges else value
 
 
-def reduced(sizes: list[int], truths: str) -> tuple[list[int], str]:
+def reduce_variables(sizes: list[int], truths: str) -> tuple[list[int], str]:
     """The places of the variables on which something depends, and its truths over these alone.
     `truths` has 1 or 0 for each combination of all variables, the first of them the slowest."""
     places, room = [], 1
@@ -218,7 +218,7 @@ def part_text(variable, values) -> str:
 def condition(variables: list[Variable], truths: str) -> Condition:
     """The least condition of what holds, by 1 or 0 for each combination of the variables' values,
     the first variable the slowest."""
-    places, truths = reduced([len(it.values) for it in variables], truths)
+    places, truths = reduce_variables([len(it.values) for it in variables], truths)
     kept = [variables[place] for place in places]
     if not kept:
         return Condition([[]], facts=[[]]) if truths[:1] == '1' else Condition([])

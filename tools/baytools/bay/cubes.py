@@ -59,7 +59,7 @@ def grown(cube: tuple, cubes: list[tuple], sizes: list[int]) -> tuple:
     return cube
 
 
-def thinned(cubes: list[tuple]) -> list[tuple]:
+def minimal_cubes(cubes: list[tuple]) -> list[tuple]:
     """The cubes without those that the others cover."""
     found = list(dict.fromkeys(cubes))
     for cube in sorted(found, key=lambda it: sum(part.bit_count() for part in it)):
@@ -80,7 +80,7 @@ def products_of(cubes: list[tuple], sizes: list[int]) -> tuple[list[tuple], bool
             pass
     if len(cubes) > MOST:
         raise TooLarge
-    found = thinned([grown(cube, cubes, sizes) for cube in cubes])
+    found = minimal_cubes([grown(cube, cubes, sizes) for cube in cubes])
     return sorted(found, key=lambda it: cost(it, sizes)), False
 
 

@@ -2,7 +2,7 @@
 names and words that are misspelt, points of a program where a switch and its position belong."""
 from collections.abc import Iterable, Sequence
 
-from baytools.common.texts import raised
+from baytools.common.texts import upcase
 from baytools.diagnosis.place import near
 
 EQUAL, UNEQUAL = ('=', '==', ':=', ':', 'EQ'), ('<>', '!=', '/=', 'NE')
@@ -22,7 +22,7 @@ def word_meant(words: Sequence[str], wanted: Sequence[str]) -> str:
     """What is meant where one of some words is wanted, and these words stand there."""
     if not words:
         return ''
-    first, second = raised(words[0]), raised(words[1]) if len(words) > 1 else ''
+    first, second = upcase(words[0]), upcase(words[1]) if len(words) > 1 else ''
     if 'WHEN' in wanted and first in BOTH and second in ('OPEN', 'CLOSE'):
         return 'write open|close'
     for known in (JOINS, VERBS, WAYS):
@@ -33,17 +33,17 @@ def word_meant(words: Sequence[str], wanted: Sequence[str]) -> str:
 
 def name_meant(word: str, names: Iterable[str]) -> str:
     """Which name of the bay is meant."""
-    known = {raised(it) for it in names}
+    known = {upcase(it) for it in names}
     for ending, position in POINTS.items():
-        switch = raised(word).removesuffix(ending)
-        if switch != raised(word) and switch in known:
+        switch = upcase(word).removesuffix(ending)
+        if switch != upcase(word) and switch in known:
             return f'write {switch} {position}'
     return near_question(near(word, sorted(known)))
 
 
 def value_meant(words: Sequence[str], name: str, kind: str, values: Iterable[str]) -> str:
     """What is meant where a value of a thing is wanted."""
-    first = raised(words[0]) if words else ''
+    first = upcase(words[0]) if words else ''
     if kind == 'measure':
         if first in RELATIONS:
             return f'is {RELATIONS[first]} meant?'
@@ -58,27 +58,27 @@ def value_meant(words: Sequence[str], name: str, kind: str, values: Iterable[str
 
 def rest_meant(words: Sequence[str], names: Iterable[str], positions: Iterable[str]) -> str:
     """What is meant by words that are left where a rule could end."""
-    first = raised(words[0])
+    first = upcase(words[0])
     if first in JOINS and JOINS[first] in ('and', 'or'):
         return f'is {JOINS[first]} meant?'
     if first == 'WHEN':
         return 'a rule has one when: is and meant?'
     if first == ')':
         return 'no ( is open'
-    if first in {raised(it) for it in positions}:
+    if first in {upcase(it) for it in positions}:
         return f'several positions are joined by |: write |{words[0]}'
-    if first in {raised(it) for it in names}:
+    if first in {upcase(it) for it in names}:
         return f'write and, or or, before {words[0]}'
     return near_question(near(words[0], ('and', 'or', 'when')))
 
 
 def time_meant(word: str, comment: str) -> str:
     """Which time is meant by one with a fraction, without a unit, or as a program has it: T#5s."""
-    if raised(word) in ('T', 'TIME') and comment[:1].isdigit():
+    if upcase(word) in ('T', 'TIME') and comment[:1].isdigit():
         return f'# begins a comment: is {comment.split(" ")[0]} meant?'
     units = {'MS': 1, 'S': 1000, 'M': 60_000, 'H': 3_600_000}
     number = word.rstrip('abcdefghijklmnopqrstuvwxyzABCDEFGHIJKLMNOPQRSTUVWXYZ')
-    unit = units.get(raised(word[len(number):]))
+    unit = units.get(upcase(word[len(number):]))
     try:
         found = float(number.replace(',', '.'))
     except ValueError:

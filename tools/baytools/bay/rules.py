@@ -29,13 +29,13 @@ from dataclasses import dataclass, field
 
 from baytools.common import positions
 from baytools.common.ending import Failed, UsageError
-from baytools.common.texts import raised
+from baytools.common.texts import upcase
 from baytools.diagnosis.place import marked_line, near
 
 from .rule_words import name_meant, rest_meant, time_meant, value_meant, word_meant
 
-POSITIONS = {raised(word): value for value, word in enumerate(positions.POSITIONS)}
-POSITIONS |= {raised(old): POSITIONS[raised(word)] for old, word in positions.OLDER.items()}
+POSITIONS = {upcase(word): value for value, word in enumerate(positions.POSITIONS)}
+POSITIONS |= {upcase(old): POSITIONS[upcase(word)] for old, word in positions.OLDER.items()}
 TRUTHS = {'FALSE': 0, 'TRUE': 1}
 WAYS = {'OPEN': 0, 'CLOSE': 1}
 SWITCH, INPUT, MEASURE = 'switch', 'input', 'measure'
@@ -84,7 +84,7 @@ class BadOption(UsageError):
 
 def value_of(kind: str, word: str) -> int | None:
     """The value that a word is of a switch, an input or a measure, or None."""
-    word = raised(word)
+    word = upcase(word)
     if kind == SWITCH:
         return POSITIONS.get(word)
     if kind == INPUT:
@@ -169,7 +169,7 @@ class Reader:
         return [name for kind, name in self.known if kind in kinds]
 
     def peek(self) -> str:
-        return raised(self.words[0]) if self.words else ''
+        return upcase(self.words[0]) if self.words else ''
 
     def take(self, *wanted) -> str:
         """The next word, where it is one of these, or any if none are given."""
@@ -177,7 +177,7 @@ class Reader:
             told = ' or '.join(wanted).lower() or 'a word'
             raise self.bad(f'there must be {told} here, not {self.next_text()}',
                            word_meant(self.words, wanted))
-        return raised(self.words.pop(0))
+        return upcase(self.words.pop(0))
 
     def may_take(self, word) -> bool:
         return bool(self.words) and self.peek() == word and bool(self.words.pop(0))
@@ -209,7 +209,7 @@ class Reader:
         written = self.next_text()
         self.take()
         try:
-            return Since(condition, names, time_of(raised(written)))
+            return Since(condition, names, time_of(upcase(written)))
         except BadRule as error:
             raise self.bad(str(error), time_meant(written, self.comment), 1) from None
 
@@ -236,7 +236,7 @@ class Reader:
         if self.depth > DEEPEST:
             raise self.bad(f'more than {DEEPEST} `not` and parentheses are within each other')
         if self.may_take('NOT'):
-            part = negated(self.one())
+            part = negation_of(self.one())
         elif self.may_take('('):
             part = self.any_of()
             self.take(')')
@@ -294,7 +294,7 @@ def value_text(word: str, kind: str, name: str) -> str:
     return f'{word} is not a value of the {kind} {name}: it can be {WANTED[kind]}'
 
 
-def negated(condition: Callable) -> Callable:
+def negation_of(condition: Callable) -> Callable:
     return lambda state: not condition(state)
 
 
@@ -353,7 +353,7 @@ class Look:
         if not self.written:
             kind = BadOption if self.where.startswith('--') else BadRule
             return kind(f'{self.where}: {told}')
-        at = raised(self.written).rfind(raised(word)) if word else -1
+        at = upcase(self.written).rfind(upcase(word)) if word else -1
         found = BadRule(told) if at < 0 else BadRule(told, at, at + len(word))
         return found.at_line(int(self.where.removeprefix('line ')), self.written)
 
@@ -374,23 +374,23 @@ def read_looks(text: str) -> list[Look]:
     looks, written = [], text.split('\n')
     for number, line in lines_of(text):
         verb, *rest = re.sub(r' ?\| ?', '|', line).split(' ')
-        if raised(verb) == 'LOOK':
+        if upcase(verb) == 'LOOK':
             if len(rest) != 2:
                 told = BadRule('the form is look NAME VALUE|VALUE', 0, len(verb))
                 raise told.at_line(number, line)
-            looks.append(Look(raised(rest[0]), rest[1].split('|'), f'line {number}',
+            looks.append(Look(upcase(rest[0]), rest[1].split('|'), f'line {number}',
                               written=written[number - 1].partition('#')[0]))
     return looks
 
 
-def held(option: str, text: str | None, kind: str) -> list[Look]:
+def looks_of_option(option: str, text: str | None, kind: str) -> list[Look]:
     """What an option holds: NAME=VALUE|VALUE, parted by commas, of things of one kind."""
     looks = []
     for part in filter(None, (text or '').split(',')):
         name, sign, values = part.partition('=')
         if not sign:
             raise BadOption(f'{option} {part}: the form is NAME=VALUE|VALUE')
-        looks.append(Look(raised(name.strip()), values.split('|'), f'{option} {part}', (kind,)))
+        looks.append(Look(upcase(name.strip()), values.split('|'), f'{option} {part}', (kind,)))
     return looks
 
 
@@ -398,7 +398,7 @@ def read_rules(text: str, known: set) -> list[Rule]:
     """The rules of a text, for the things of a bay, each as its kind and its name in upper case."""
     rules, above, written = [], remarks_above(text), text.split('\n')
     for number, line in lines_of(text):
-        if raised(line.split(' ')[0]) != 'LOOK':
+        if upcase(line.split(' ')[0]) != 'LOOK':
             try:
                 rules.append(Reader(written[number - 1], known).rule(number, line))
             except BadRule as error:
@@ -412,7 +412,7 @@ def faults_of(text: str, known: set) -> list[BadRule]:
     found, written = [], text.split('\n')
     for number, line in lines_of(text):
         try:
-            if raised(line.split(' ')[0]) == 'LOOK':
+            if upcase(line.split(' ')[0]) == 'LOOK':
                 looked_at(read_looks('\n' * (number - 1) + written[number - 1]), known)
             else:
                 Reader(written[number - 1], known).rule(number, line)
@@ -433,6 +433,6 @@ def remarks_above(text: str) -> dict[int, tuple[str, ...]]:
         elif comment:
             paragraphs.append(comment)
         is_open = bool(comment)
-        if raised(said.strip().partition(' ')[0]) not in ('', 'LOOK'):
+        if upcase(said.strip().partition(' ')[0]) not in ('', 'LOOK'):
             found[number], paragraphs, is_open = tuple(paragraphs), [], False
     return found

@@ -1,6 +1,7 @@
-"""The server of a bay as an SCL file (IEC 61850-6), and an SCL file read back as names and types of
-MMS."""
+"""The server of a bay as an SCL file (IEC 61850-6)."""
 import xml.etree.ElementTree as ET
+
+from baytools.diagnosis.bay_file import profile_of
 
 NAMESPACE = 'http://www.iec.ch/61850/2003/SCL'
 ENUMS = {
@@ -10,17 +11,18 @@ ENUMS = {
     'Health': {1: 'Ok', 2: 'Warning', 3: 'Alarm'},
     'SwTyp': {1: 'Load Break', 2: 'Disconnector', 3: 'Earthing Switch',
               4: 'High Speed Earthing Switch'},
+    'CBOpCap': {1: 'None', 2: 'Open', 3: 'Close-Open', 4: 'Open-Close-Open',
+                5: 'Close-Open-Close-Open'},
+    'SwOpCap': {1: 'None', 2: 'Open', 3: 'Close', 4: 'Open and Close'},
+    'SIUnit': {5: 'A', 33: 'Hz', 62: 'Watts', 63: 'VAr'},
+    'multiplier': {-6: '\u00b5', -5: '10^-5', -4: '10^-4', -3: 'm', -2: 'c', -1: 'd', 0: '',
+                   1: 'da', 2: 'h', 3: 'k', 4: '10^4', 5: '10^5', 6: 'M'},
     'OrCat': {0: 'not-supported', 1: 'bay-control', 2: 'station-control', 3: 'remote-control',
               4: 'automatic-bay', 5: 'automatic-station', 6: 'automatic-remote', 7: 'maintenance',
               8: 'process'}}
-CONSTRAINTS = ('MX', 'ST', 'CO', 'CF', 'DC')  # in the order of MMS (IEC 61850-8-1)
-# What MMS has for a basic type (IEC 61850-8-1, clause 8).
-MMS_TYPES = {
-    'BOOLEAN': 'boolean', 'INT32': 'integer 32', 'INT8U': 'unsigned 8', 'INT32U': 'unsigned 32',
-    'Enum': 'integer 8', 'Dbpos': 'bit-string 2', 'Check': 'bit-string 2',
-    'Quality': 'bit-string 13', 'Timestamp': 'utc-time', 'Octet64': 'octet-string -64',
-    'VisString129': 'visible-string -129', 'VisString255': 'visible-string -255',
-    'ObjRef': 'visible-string -129'}
+FIXED_ROWS = """\
+ There are no data sets and no reports, so dchg and qchg trigger nothing; what has valKind RO can't
+ be written. The rows of the server are fixed. """
 LACKING = """\
  An importer may complain of what the classes of IEC 61850-7-4 demand and this server lacks: Beh,
  Mod, Health and NamPlt of the nodes other than LLN0; hwRev, serNum and location of nameplates;
@@ -38,22 +40,32 @@ def status(kind, *more) -> list:
     return [('stVal', 'ST', kind), ('q', 'ST', 'Quality'), ('t', 'ST', 'Timestamp'), *more]
 
 
+PLATE = [(name, 'DC', 'VisString255') for name in ('vendor', 'swRev', 'd')]
+NAME_SPACE = 'IEC 61850-7-4:2007B'
+UNITS = {'TotW': 62, 'TotVAr': 63, 'Hz': 33, 'A': 5}  # numbers of SIUnit
+PHASES = ('phsA', 'phsB', 'phsC')
 ORIGIN = [('orCat', '', 'Enum OrCat'), ('orIdent', '', 'Octet64')]
 CANCEL = [('ctlVal', '', 'BOOLEAN'), ('origin', '', 'Struct Origin'), ('ctlNum', '', 'INT8U'),
           ('T', '', 'Timestamp'), ('Test', '', 'BOOLEAN')]
 OPER = CANCEL + [('Check', '', 'Check')]
 ANALOGUE = [('i', '', 'INT32')]
 STRUCTURES = {'Origin': ORIGIN, 'Oper': OPER, 'Cancel': CANCEL, 'Analogue': ANALOGUE,
-              'Vector': [('mag', '', 'Struct Analogue')]}
+              'Vector': [('mag', '', 'Struct Analogue')],
+              'Unit': [('SIUnit', '', 'Enum SIUnit'), ('multiplier', '', 'Enum multiplier')]}
+UNIT = ('units', 'CF', 'Struct Unit')
 MODEL = ('ctlModel', 'CF', 'Enum CtlModel')
 CONTROLS = {'status': (), 'direct': ('Oper',), 'sbo': ('SBO', 'Oper', 'Cancel'),
             'sbo-enhanced': ('SBOw', 'Oper', 'Cancel')}
 MODELS = {'status': 0, 'direct': 1, 'sbo': 2, 'sbo-enhanced': 4}
+VALUE, PHASE = [[(name, 'MX', kind), ('q', 'MX', 'Quality'), ('t', 'MX', 'Timestamp')]
+                for name, kind in (('mag', 'Struct Analogue'), ('cVal', 'Struct Vector'))]
 DATA = {  # the class of a data object, and its attributes
     'Mod': ('ENC', status('Enum Mod', MODEL)),
     'Beh': ('ENS', status('Enum Mod')),
     'Health': ('ENS', status('Enum Health')),
-    'NamPlt': ('LPL', [(name, 'DC', 'VisString255') for name in ('vendor', 'swRev', 'd')]),
+    'NamPlt': ('LPL', PLATE),
+    'NamPltOfDevice': ('LPL', PLATE + [(name, 'DC', 'VisString255')
+                                       for name in ('configRev', 'ldNs')]),
     'PhyNam': ('DPL', [('vendor', 'DC', 'VisString255')]),
     'PhyHealth': ('ENS', status('Enum Health')),
     'Proxy': ('SPS', status('BOOLEAN')),
@@ -61,18 +73,35 @@ DATA = {  # the class of a data object, and its attributes
     'Blk': ('SPC', status('BOOLEAN')),
     'OpCnt': ('INS', status('INT32')),
     'SwTyp': ('ENS', status('Enum SwTyp')),
+    'CBOpCap': ('ENS', status('Enum CBOpCap')),
+    'SwOpCap': ('ENS', status('Enum SwOpCap')),
+    'Loc': ('SPS', status('BOOLEAN')),
     'Ena': ('SPS', status('BOOLEAN')),
-    'MV': ('MV', [('mag', 'MX', 'Struct Analogue'), ('q', 'MX', 'Quality'),
-                  ('t', 'MX', 'Timestamp')]),
-    'CMV': ('CMV', [('cVal', 'MX', 'Struct Vector'), ('q', 'MX', 'Quality'),
-                    ('t', 'MX', 'Timestamp')])}
+    'Ind': ('SPS', status('BOOLEAN', ('d', 'DC', 'VisString255'))),
+    'MV': ('MV', VALUE), 'CMV': ('CMV', PHASE),
+    'MV_units': ('MV', [*VALUE, UNIT]), 'CMV_units': ('CMV', [*PHASE, UNIT])}
+WYES = {'WYE': 'CMV', 'WYE_units': 'CMV_units'}  # the type of the phases of a WYE
 SWITCH = [('Pos', 'Pos'), ('BlkOpn', 'Blk'), ('BlkCls', 'Blk'), ('OpCnt', 'OpCnt')]
-NODES = {  # the data objects of a node, with their types
+INTERLOCKING = [('EnaOpn', 'Ena'), ('EnaCls', 'Ena')]
+NODES = {  # the data objects of a node in profile 1, with their types
     'LLN0': [(name, name) for name in ('Mod', 'Beh', 'Health', 'NamPlt')],
     'LPHD': [(name, name) for name in ('PhyNam', 'PhyHealth', 'Proxy')],
     'XCBR': SWITCH, 'XSWI': SWITCH + [('SwTyp', 'SwTyp')],
-    'CILO': [('EnaOpn', 'Ena'), ('EnaCls', 'Ena')],
+    'CILO': INTERLOCKING,
     'MMXU': [(name, 'MV') for name in ('TotW', 'TotVAr', 'Hz')] + [('A', 'WYE')]}
+
+
+def switch_objects(*own) -> list:
+    """The data objects of XCBR or XSWI in profile 2; `own` are those that only one of them has."""
+    return [*((name, name) for name in ('NamPlt', 'Beh', 'Loc', 'OpCnt', *own)), *SWITCH[:3]]
+
+
+COMMON = [('NamPlt', 'NamPlt'), ('Beh', 'Beh')]
+FULL_NODES = {  # the same in profile 2
+    'LLN0': [*NODES['LLN0'][:3], ('NamPlt', 'NamPltOfDevice')], 'LPHD': NODES['LPHD'],
+    'XCBR': switch_objects('CBOpCap'), 'XSWI': switch_objects('SwTyp', 'SwOpCap'),
+    'CILO': COMMON + INTERLOCKING, 'MMXU': COMMON + NODES['MMXU'],
+    'MMXU_units': COMMON + [(name, of + '_units') for name, of in NODES['MMXU']]}
 
 
 def control_type(control) -> tuple:
@@ -84,34 +113,45 @@ def control_type(control) -> tuple:
 
 
 def nodes_of(file) -> list[tuple]:
-    """The logical nodes of a bay file in their order: class, instance, type, and the description
-    and the kind of control that it has of its switch."""
+    """The logical nodes of a bay file in their order: class, instance, type, and the id and the
+    entry of the switch or the meter that it is about."""
     found = [('LLN0', '', 'LLN0', '', None), ('LPHD', 1, 'LPHD', '', None)]
-    switches = file.get('switch', [])
+    switches, is_full = file.get('switch', []), profile_of(file) == 2
     for kind in ('XCBR', 'XSWI'):
         own = [switch for switch in switches if (switch['kind'] == 'breaker') == (kind == 'XCBR')]
-        found += [(kind, place, kind, switch['id'], None) for place, switch in enumerate(own, 1)]
+        found += [(kind, place, kind, switch['id'], switch) for place, switch in enumerate(own, 1)]
     for kind in ('CSWI', 'CILO'):
         for place, switch in enumerate(switches, 1):
-            control = switch['control'] if kind == 'CSWI' else None
-            name = f'CSWI_{control}' if control else kind
-            found.append((kind, place, name, switch['id'], control and switch))
+            name = f'CSWI_{switch["control"]}' if kind == 'CSWI' else kind
+            found.append((kind, place, name, switch['id'], switch))
     for place, meter in enumerate(file.get('meter', []), 1):
-        found.append(('MMXU', place, 'MMXU', meter['id'], None))
+        name = 'MMXU_units' if is_full and 'scale' in meter else 'MMXU'
+        found.append(('MMXU', place, name, meter['id'], meter))
+    if is_full and file.get('input'):
+        found.append(('GGIO', 1, 'GGIO', '', None))
     return found
+
+
+def put_values(element, values) -> None:
+    """Writes the values of a data object or of a structure, by the names of its parts."""
+    for name, value in values.items():
+        if isinstance(value, dict):
+            put_values(ET.SubElement(element, 'SDI', name=name), value)
+        else:
+            ET.SubElement(ET.SubElement(element, 'DAI', name=name), 'Val').text = value
 
 
 class Writer:
     """An SCL file of a bay, of edition 2."""
 
     def __init__(self, file) -> None:
-        self.file = file
+        self.file, self.is_full = file, profile_of(file) == 2
 
     def root(self, ied, instance, domain, address, port) -> ET.Element:
         root = ET.Element('SCL', xmlns=NAMESPACE, version='2007', revision='B')
         ET.SubElement(root, 'Header', id=domain, version='1', revision='',
                       nameStructure='IEDName')
-        root.append(ET.Comment(LACKING))
+        root.append(ET.Comment(FIXED_ROWS if self.is_full else LACKING))
         self.communication(root, ied, address, port)
         self.device(root, ied, instance, domain)
         self.types(root)
@@ -142,27 +182,54 @@ class Writer:
         ET.SubElement(server, 'Authentication', none='true')
         own = {'ldName': domain} if ied + instance != domain else {}
         logical = ET.SubElement(server, 'LDevice', inst=instance, **own)
-        for kind, place, kept, told, switch in nodes_of(self.file):
+        for kind, place, kept, told, entry in nodes_of(self.file):
             node = ET.SubElement(logical, 'LN0' if kind == 'LLN0' else 'LN', lnClass=kind,
                                  inst=str(place), lnType=kept, **({'desc': told} if told else {}))
-            for object_name, values in self.values(kind, switch).items():
-                at = ET.SubElement(node, 'DOI', name=object_name)
-                for name, value in values.items():
-                    ET.SubElement(ET.SubElement(at, 'DAI', name=name), 'Val').text = value
+            for object_name, values in self.values(kind, entry).items():
+                put_values(ET.SubElement(node, 'DOI', name=object_name), values)
 
-    def values(self, kind, switch) -> dict:
+    def values(self, kind, entry) -> dict:
         """The values that the bay file gives, of each data object by its attributes."""
-        bay, models = self.file['bay'], ENUMS['CtlModel']
-        if kind == 'LLN0':
-            return {'Mod': {'ctlModel': models[0]},
-                    'NamPlt': {'vendor': bay['vendor'], 'swRev': bay['revision'],
-                               'd': bay['model']}}
-        if kind in ('XCBR', 'XSWI'):
-            return {'Pos': {'ctlModel': models[0]}}
-        if switch:
-            return {'Pos': {'ctlModel': models[MODELS[switch['control']]],
-                            'sboTimeout': str(switch.get('sbo_timeout_ms', 0))}}
-        return {'PhyNam': {'vendor': bay['vendor']}} if kind == 'LPHD' else {}
+        bay = self.file['bay']
+        if kind == 'LPHD':
+            return {'PhyNam': {'vendor': bay['vendor']}}
+        found = {'CSWI': self.control_values, 'MMXU': self.meter_values,
+                 'GGIO': self.input_values}.get(kind, lambda entry: {})(entry)
+        models = {'LLN0': 'Mod', 'XCBR': 'Pos', 'XSWI': 'Pos'}
+        if kind in models:
+            found = {models[kind]: {'ctlModel': ENUMS['CtlModel'][0]}}
+        plate = {'vendor': bay['vendor'], 'swRev': bay['revision'],
+                 'd': entry['id'] if entry else bay['model']}
+        if kind == 'LLN0' and self.is_full:
+            plate |= {'configRev': bay['revision'], 'ldNs': NAME_SPACE}
+        return found | ({'NamPlt': plate} if self.is_full or kind == 'LLN0' else {})
+
+    @staticmethod
+    def control_values(switch) -> dict:
+        return {'Pos': {'ctlModel': ENUMS['CtlModel'][MODELS[switch['control']]],
+                        'sboTimeout': str(switch.get('sbo_timeout_ms', 0))}}
+
+    def meter_values(self, meter) -> dict:
+        """The units of a meter with a scale."""
+        if not self.is_full or 'scale' not in meter:
+            return {}
+        multiplier = ENUMS['multiplier'][meter['scale']]
+        units = {name: {'units': {'SIUnit': ENUMS['SIUnit'][number], 'multiplier': multiplier}}
+                 for name, number in UNITS.items()}
+        return units | {'A': dict.fromkeys(PHASES, units['A'])}
+
+    def input_values(self, _) -> dict:
+        names = [it['name'] for it in self.file['input']]
+        return {f'Ind{number}': {'d': name} for number, name in enumerate(names, 1)}
+
+    def objects_of(self, kept) -> list[tuple[str, str]]:
+        """The data objects of a type of node, with their types."""
+        common = COMMON if self.is_full else []
+        if kept.startswith('CSWI'):
+            return [*common, ('Pos', kept)]
+        if kept == 'GGIO':
+            return [*common, *((name, 'Ind') for name in self.input_values(None))]
+        return (FULL_NODES if self.is_full else NODES)[kept]
 
     def types(self, root) -> None:
         """The templates: nodes, data objects, structures and enumerations, in this order."""
@@ -170,12 +237,12 @@ class Writer:
         objects = {}
         for kind, kept in dict.fromkeys((kind, kept) for kind, _, kept, *_ in nodes_of(self.file)):
             node = ET.SubElement(templates, 'LNodeType', id=kept, lnClass=kind)
-            control = kept.partition('_')[2]
-            for name, of in [('Pos', kept)] if control else NODES[kind]:
+            for name, of in self.objects_of(kept):
                 ET.SubElement(node, 'DO', name=name, type=of + ENDINGS['DOType'])
-                objects[of] = control_type(control) if control else DATA.get(of)
-                if of == 'WYE':
-                    objects['CMV'] = DATA['CMV']
+                is_control = of.startswith('CSWI')
+                objects[of] = control_type(of.partition('_')[2]) if is_control else DATA.get(of)
+                if of in WYES:
+                    objects[WYES[of]] = DATA[WYES[of]]
         needed = self.objects(templates, objects)
         structures = self.structures(templates, needed)
         for name in sorted(part[5:] for part in structures if part.startswith('Enum ')):
@@ -187,11 +254,11 @@ class Writer:
         """The types of data objects, and the types that their attributes need."""
         needed = []
         for name, of in objects.items():
-            cdc = 'WYE' if name == 'WYE' else of[0]
+            cdc = 'WYE' if name in WYES else of[0]
             found = ET.SubElement(templates, 'DOType', id=name + ENDINGS['DOType'], cdc=cdc)
-            if name == 'WYE':
-                for phase in ('phsA', 'phsB', 'phsC'):
-                    ET.SubElement(found, 'SDO', name=phase, type='CMV' + ENDINGS['DOType'])
+            if name in WYES:
+                for phase in PHASES:
+                    ET.SubElement(found, 'SDO', name=phase, type=WYES[name] + ENDINGS['DOType'])
                 continue
             for part, constraint, kind in of[1]:
                 more = {CHANGES[part]: 'true'} if part in CHANGES else {}
@@ -224,66 +291,3 @@ class Writer:
 
 def text_of(root) -> str:
     return '<?xml version="1.0" encoding="UTF-8"?>\n' + ET.tostring(root, 'unicode') + '\n'
-
-
-# ---- an SCL file, read back
-
-class Reader:
-    """An SCL file, as the names and types of MMS that it says its one logical device has."""
-
-    def __init__(self, text) -> None:
-        self.root = ET.fromstring(text)
-        self.templates = self.child(self.root, 'DataTypeTemplates')
-
-    @staticmethod
-    def bare(element) -> str:
-        return element.tag.rpartition('}')[2] if isinstance(element.tag, str) else ''
-
-    def children(self, element, *names) -> list:
-        return [child for child in element if self.bare(child) in names]
-
-    def child(self, element, *path) -> ET.Element:
-        for name in path:
-            element = self.children(element, name)[0]
-        return element
-
-    def template(self, kind, name) -> ET.Element:
-        return next(found for found in self.children(self.templates, kind)
-                    if found.get('id') == name)
-
-    def domain(self) -> str:
-        ied = self.child(self.root, 'IED')
-        logical = self.child(ied, 'AccessPoint', 'Server', 'LDevice')
-        return logical.get('ldName') or ied.get('name') + logical.get('inst')
-
-    def nodes(self) -> dict:
-        """The shape of each logical node by its name: lists of names and types, as MMS tells
-        them."""
-        logical = self.child(self.root, 'IED', 'AccessPoint', 'Server', 'LDevice')
-        return {node.get('lnClass') + node.get('inst'): self.node(node.get('lnType'))
-                for node in self.children(logical, 'LN0', 'LN')}
-
-    def node(self, kind) -> dict:
-        shape = {}
-        for found in self.children(self.template('LNodeType', kind), 'DO'):
-            for constraint, part in self.object(found.get('type')).items():
-                shape.setdefault(constraint, {})[found.get('name')] = part
-        return {constraint: shape[constraint] for constraint in CONSTRAINTS if constraint in shape}
-
-    def object(self, kind) -> dict:
-        """The attributes of a data object, by their functional constraints."""
-        shape = {}
-        for part in self.children(self.template('DOType', kind), 'SDO', 'DA'):
-            if self.bare(part) == 'SDO':
-                for constraint, found in self.object(part.get('type')).items():
-                    shape.setdefault(constraint, {})[part.get('name')] = found
-            else:
-                shape.setdefault(part.get('fc'), {})[part.get('name')] = self.attribute(part)
-        return shape
-
-    def attribute(self, part) -> dict | str:
-        if part.get('bType') != 'Struct':
-            return MMS_TYPES[part.get('bType')]
-        structure = self.template('DAType', part.get('type'))
-        return {found.get('name'): self.attribute(found)
-                for found in self.children(structure, 'BDA')}

@@ -78,7 +78,7 @@ class Issued:
 
 
 @contextlib.contextmanager
-def owned() -> Iterator[None]:
+def owner_only() -> Iterator[None]:
     """What is made here only its owner may read."""
     before = os.umask(0o077)
     try:
@@ -87,7 +87,7 @@ def owned() -> Iterator[None]:
         os.umask(before)
 
 
-def checked(pattern: re.Pattern[str], text: str, what: str) -> str:
+def check_form(pattern: re.Pattern[str], text: str, what: str) -> str:
     if not pattern.fullmatch(text):
         raise UsageError(f'{in_line(text[:80])} is no {what}')
     return text
@@ -103,7 +103,7 @@ def alternative(host: str) -> str:
     """A name of a server as a certificate has it."""
     if ADDRESS.fullmatch(host):
         return f'IP:{host}'
-    return f'DNS:{checked(HOST, host, "host name or address")}'
+    return f'DNS:{check_form(HOST, host, "host name or address")}'
 
 
 class Authority:
@@ -143,7 +143,7 @@ class Authority:
     def making(self, *names: str) -> Iterator[list[str]]:
         """Files that are made beside their places, and take them when all are whole."""
         self.free(*names)
-        with owned(), tempfile.TemporaryDirectory(dir=self.folder, prefix='.making') as beside:
+        with owner_only(), tempfile.TemporaryDirectory(dir=self.folder, prefix='.making') as beside:
             made = [f'{pathlib.Path(beside).name}/{name}' for name in names]
             yield made
             for name, path in zip(names, made):
@@ -152,12 +152,12 @@ class Authority:
 
     def make(self, name: str, organization: str, days: int, list_days: int, kind: str) -> None:
         """Makes the authority, with an empty revocation list."""
-        with owned():
+        with owner_only():
             self.folder.mkdir(exist_ok=True)
         self.free(CERTIFICATE, KEY, LIST, ISSUED, NUMBER, SETTINGS)
-        subject = subject_for(checked(WORDS, organization, 'organization'), '',
-                              checked(NAME, name, 'name'))
-        with owned():
+        subject = subject_for(check_form(WORDS, organization, 'organization'), '',
+                              check_form(NAME, name, 'name'))
+        with owner_only():
             for file, text in ((SETTINGS, TEXTS), (ISSUED, ''), (NUMBER, '01\n')):
                 with open(self.path(file), 'x', encoding='ascii') as out:
                     out.write(text)
@@ -178,10 +178,10 @@ class Authority:
               key_kind: str) -> None:
         """Makes the key and the certificate of a server or a client."""
         self.needs()
-        if checked(NAME, name, 'name').lower() == AUTHORITY:
+        if check_form(NAME, name, 'name').lower() == AUTHORITY:
             raise UsageError(f'{name} is the name of the authority\'s own files')
         if unit:
-            checked(WORDS, unit, 'unit')
+            check_form(WORDS, unit, 'unit')
         also = ','.join(map(alternative, hosts))
         subject = subject_for(self.organization(), unit, name)
         if any(it.state == 'valid' and it.subject == subject for it in self.issued()):
@@ -200,7 +200,7 @@ class Authority:
     def revoke(self, name: str, list_days: int) -> None:
         """Revokes a certificate, and renews the list."""
         self.needs()
-        path = self.path(f'{checked(NAME, name, "name")}.pem')
+        path = self.path(f'{check_form(NAME, name, "name")}.pem')
         if not path.exists():
             raise Refused(f'{path}: there is no such certificate')
         serial = self.openssl('x509', '-in', path.name, '-noout', '-serial')
@@ -210,14 +210,14 @@ class Authority:
             raise Refused(f'{path}: this authority has not issued it')
         if found.state == 'revoked':
             raise Refused(f'{path}: it is revoked already')
-        with owned():
+        with owner_only():
             self.openssl('ca', '-config', SETTINGS, '-batch', '-revoke', path.name)
         self.renew(list_days)
 
     def renew(self, days: int) -> None:
         """Writes the revocation list anew: whole, or not at all."""
         self.needs()
-        with owned(), tempfile.TemporaryDirectory(dir=self.folder, prefix='.making') as beside:
+        with owner_only(), tempfile.TemporaryDirectory(dir=self.folder, prefix='.making') as beside:
             made = pathlib.Path(beside) / LIST
             self.openssl('ca', '-config', SETTINGS, '-gencrl', '-crlexts', 'list', '-crldays',
                          str(days), '-out', f'{made.parent.name}/{LIST}')

@@ -14,7 +14,7 @@ from baytools.common.ending import Failed
 from baytools.common.paths import TOOLS
 from baytools.station.bays import settings_of
 
-from .steps import OPEN, Step, Verdict, judged, run_program
+from .steps import OPEN, Step, Verdict, verdict_of, run_program
 
 TRUST = pathlib.Path('/etc/stunnel/bay')  # where stunnel.conf has its certificates
 LISTENS, LOCAL = '0A', ('0100007F',)  # of /proc/net/tcp: a state, and 127.0.0.1
@@ -59,14 +59,14 @@ class Machine:
         told = [f'port {port}: on {"127.0.0.1" if is_local else "ANOTHER ADDRESS"}'
                 for port, is_local in sorted(found)]
         told += [f'port {port}: nobody listens' for port in sorted(missing)]
-        return judged(not missing and all(is_local for _, is_local in found), '\n'.join(told))
+        return verdict_of(not missing and all(is_local for _, is_local in found), '\n'.join(told))
 
     def by_others(self) -> Verdict:
         """Another user of the machine reaches neither port."""
         if os.geteuid():
             raise Failed(f'only root can look as {NOBODY}')
         found = [(port, reached_by(pwd.getpwnam(NOBODY).pw_uid, port)) for port in self.ports()]
-        return judged(not any(is_reached for _, is_reached in found), '\n'.join(
+        return verdict_of(not any(is_reached for _, is_reached in found), '\n'.join(
             f'port {port}: {NOBODY} {"REACHES IT" if is_reached else "does not reach it"}'
             for port, is_reached in found))
 
@@ -83,9 +83,10 @@ class Machine:
             tzinfo=datetime.UTC)
         is_valid = until > datetime.datetime.now(datetime.UTC)
         is_set = synchronized == 'yes'
-        return judged(is_set and is_valid, f'the clock is {"set" if is_set else "NOT SET"}; the '
-                      f'revocation list {"is valid until" if is_valid else "RAN OUT on"} '
-                      f'{until:%Y-%m-%d %H:%M} UTC')
+        return verdict_of(is_set and is_valid,
+                          f'the clock is {"set" if is_set else "NOT SET"}; the '
+                          f'revocation list {"is valid until" if is_valid else "RAN OUT on"} '
+                          f'{until:%Y-%m-%d %H:%M} UTC')
 
     def keys(self) -> Verdict:
         """Each key is for its one user alone, and there is none of an authority."""
@@ -101,7 +102,7 @@ class Machine:
         others = [line for line in found.splitlines() if line.endswith('/authority.key')]
         told += [f'{line}: the key of an authority: it belongs on a machine without a network'
                  for line in others] or ['no authority.key']
-        return judged(is_good and not others, '\n'.join(told))
+        return verdict_of(is_good and not others, '\n'.join(told))
 
     # The server.
 
@@ -121,12 +122,12 @@ class Machine:
         """How the server was started, and of which files."""
         running = self.servers()
         if len(running) != 1:
-            return judged(False, f'{len(running)} servers at port {self.ports()[0]}')
+            return verdict_of(False, f'{len(running)} servers at port {self.ports()[0]}')
         (process, words), told = running[0], []
         told += [f'it was started without {name}' for name in OPTIONS if name not in words]
         for name, file in (('--bay', 'bay.toml'), ('--logic', 'logic.il'), ('--rules', 'rules')):
             told += self.served(process, words, name, file)
-        return judged(not told, '\n'.join(told) or ' '.join(words))
+        return verdict_of(not told, '\n'.join(told) or ' '.join(words))
 
     def served(self, process: pathlib.Path, words: list[str], name: str, file: str) -> list[str]:
         """What is wrong with a file of the folder that an option of a server names."""
@@ -144,9 +145,9 @@ class Machine:
             return Verdict(OPEN, f'there is no {path}: nobody proves that no command is a hazard')
         running = self.servers()
         if len(running) != 1:
-            return judged(False, f'{len(running)} servers at port {self.ports()[0]}')
+            return verdict_of(False, f'{len(running)} servers at port {self.ports()[0]}')
         if wrong := self.served(*running[0], '--diagram', DIAGRAM):
-            return judged(False, '\n'.join(wrong))
+            return verdict_of(False, '\n'.join(wrong))
         _, lines = run_program(['journalctl', '-u', f'bayctl@{self.folder.name}', '-o', 'cat',
                                 '--no-pager'])
         found = SUM.findall(lines)
@@ -154,8 +155,8 @@ class Machine:
             return Verdict(OPEN, 'the log has no sum of a diagram')
         digest, count = found[-1]
         is_same = digest == page_head.source_at('', path).digest
-        return judged(is_same, f'SHA-256 {digest}, {count} operations hold'
-                      + ('' if is_same else f': {path} HAS ANOTHER SUM'))
+        return verdict_of(is_same, f'SHA-256 {digest}, {count} operations hold'
+                          + ('' if is_same else f': {path} HAS ANOTHER SUM'))
 
     def audit(self) -> Verdict:
         """The files that are served keep the rules, and no release is a hazard in the diagram."""
@@ -167,7 +168,7 @@ class Machine:
                                 self.bayctl])
         lines = found.splitlines()
         told = [line for line in lines if line.startswith('WARNING: ')] + lines[-1:]
-        return judged(any(line.startswith('PASSED: ') for line in lines), '\n'.join(told))
+        return verdict_of(any(line.startswith('PASSED: ') for line in lines), '\n'.join(told))
 
     def subject(self) -> Verdict:
         """An operate of today stands in the log beside the subject of a certificate."""
@@ -179,7 +180,7 @@ class Machine:
         operates = [it[0] for it in map(SUBJECT.search, found.splitlines()) if it]
         if not operates:
             return Verdict(OPEN, 'no operate of today by a certificate: make one, and look again')
-        return judged(True, operates[-1])
+        return verdict_of(True, operates[-1])
 
 
 def reached_by(user: int, port: int) -> bool:

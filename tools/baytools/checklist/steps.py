@@ -23,7 +23,7 @@ class Step:
     look: Callable[[], Verdict]
 
 
-def judged(is_good: bool, told: str) -> Verdict:
+def verdict_of(is_good: bool, told: str) -> Verdict:
     return Verdict(GOOD if is_good else WRONG, told)
 
 

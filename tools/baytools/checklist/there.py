@@ -10,7 +10,7 @@ from baytools.common.ending import Failed
 from baytools.wire import stream, tls
 from baytools.wire.client import Client, connection_text
 
-from .steps import OPEN, Step, Verdict, judged
+from .steps import OPEN, Step, Verdict, verdict_of
 
 SECONDS = 5
 REVOKED = 'revoked'
@@ -26,8 +26,8 @@ class Far:
 
     def plain(self) -> Verdict:
         """The ports of bayctl itself are not reached."""
-        told = [(port, answered(self.host, port)) for port in self.ports]
-        return judged(not any(found for _, found in told), '\n'.join(
+        told = [(port, is_port_answered(self.host, port)) for port in self.ports]
+        return verdict_of(not any(found for _, found in told), '\n'.join(
             f'port {port}: {"IT IS REACHED" if found else "it is not reached"}'
             for port, found in told))
 
@@ -55,11 +55,11 @@ class Far:
                 one.sendall(stream.connection_request())
                 is_answered = bool(one.recv(100))
         except ssl.SSLError as error:
-            return judged(True, f'a client {who} is refused: {error.reason or error}')
+            return verdict_of(True, f'a client {who} is refused: {error.reason or error}')
         except (ConnectionError, TimeoutError) as error:
-            return judged(True, f'a client {who} is refused: {error.strerror or error}')
-        return judged(not is_answered, f'a client {who} is '
-                      + ('ANSWERED' if is_answered else 'refused: the connection is closed'))
+            return verdict_of(True, f'a client {who} is refused: {error.strerror or error}')
+        return verdict_of(not is_answered, f'a client {who} is '
+                          + ('ANSWERED' if is_answered else 'refused: the connection is closed'))
 
     def revoked(self) -> Verdict:
         """A client with a revoked certificate is refused for that."""
@@ -72,12 +72,12 @@ class Far:
         except (Failed, OSError) as error:
             told = (connection_text(error, self.host, self.door) if isinstance(error, OSError)
                     else str(error))
-            return judged(REVOKED in told, told)
+            return verdict_of(REVOKED in told, told)
         with contextlib.closing(client.socket):
-            return judged(False, f'{self.old.subject_text()} IS SERVED')
+            return verdict_of(False, f'{self.old.subject_text()} IS SERVED')
 
 
-def answered(host: str, port: int) -> bool:
+def is_port_answered(host: str, port: int) -> bool:
     """Whether somebody listens at a port."""
     try:
         socket.create_connection((host, port), SECONDS).close()

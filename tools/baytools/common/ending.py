@@ -9,7 +9,7 @@ from collections.abc import Callable, Iterator
 from typing import Any, NoReturn, TextIO
 
 from .paths import as_called
-from .texts import escaped
+from .texts import visible_text
 
 DONE, FOUND, CALLED_WRONG, UNREACHED, PARTLY, INTERRUPTED = 0, 1, 2, 3, 4, 130
 STATUSES = {
@@ -94,7 +94,7 @@ class Shown:
 
     def write(self, text: str) -> int:
         with writing():
-            return self.stream.write(escaped(text))
+            return self.stream.write(visible_text(text))
 
     def flush(self) -> None:
         with writing():
@@ -150,21 +150,21 @@ def status_of(main: Callable[[], int | None]) -> int:
     except Failed as error:
         complain(str(error))
         show_more(error.more)
-        return flushed(error.status)
+        return flush_output(error.status)
     except KeyboardInterrupt:
-        return flushed(INTERRUPTED)
+        return flush_output(INTERRUPTED)
     except Unwritten as error:
         assert isinstance(error.__cause__, OSError)
         return without_output(error.__cause__)
     except OSError as error:
         complain(error_text(error))
-        return flushed(UNREACHED)
+        return flush_output(UNREACHED)
     except Exception as error:
         if os.environ.get('TOOLS_TRACEBACK'):
             raise
         complain(f'a fault of this tool itself: {type(error).__name__}: {error} (with '
                  'TOOLS_TRACEBACK=1 it tells where)')
-        return flushed(UNREACHED)
+        return flush_output(UNREACHED)
 
 
 def status_in(main: Callable[[], int | None]) -> int:
@@ -175,7 +175,7 @@ def status_in(main: Callable[[], int | None]) -> int:
         return end.code if isinstance(end.code, int) else UNREACHED if end.code else DONE
 
 
-def flushed(status: int) -> int:
+def flush_output(status: int) -> int:
     """Writes what is left, as far as that can be."""
     try:
         sys.stdout.flush()

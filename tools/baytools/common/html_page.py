@@ -39,19 +39,19 @@ code { font-family: "DejaVu Sans Mono", Consolas, monospace; font-size: 0.92em;
 '''
 
 
-def escaped(text: object) -> str:
+def as_html(text: object) -> str:
     return html.escape(in_line(str(text)))
 
 
 def code(text: object) -> str:
-    return f'<code>{escaped(text)}</code>'
+    return f'<code>{as_html(text)}</code>'
 
 
 def table(heads: Sequence[str], rows: Iterable[Sequence[str]], style: str = '') -> str:
     """A table of cells of HTML; of a head a leading # says that its column has numbers, and !
     names."""
     kinds = [{'#': ' class="number"', '!': ' class="name"'}.get(head[:1], '') for head in heads]
-    told = ''.join(f'<th scope="col"{kind}>{escaped(head.lstrip("#!"))}</th>'
+    told = ''.join(f'<th scope="col"{kind}>{as_html(head.lstrip("#!"))}</th>'
                    for head, kind in zip(heads, kinds))
     head = f'<thead><tr>{told}</tr></thead>' if any(heads) else ''
     body = ''.join('<tr>' + ''.join(f'<td{kind}>{cell}</td>' for kind, cell in zip(kinds, row))
@@ -63,7 +63,7 @@ def page(title: str, style: str, parts: list[str]) -> str:
     """A whole page of some parts of HTML."""
     return ('<!DOCTYPE html>\n<html lang="en"><head><meta charset="utf-8">'
             '<meta name="viewport" content="width=device-width">'
-            f'<title>{escaped(title)}</title><style>{style}</style></head>\n<body>\n'
+            f'<title>{as_html(title)}</title><style>{style}</style></head>\n<body>\n'
             + '\n'.join(parts) + '\n</body></html>\n')
 
 

@@ -3,7 +3,7 @@ that are written by hand mostly from 0."""
 import argparse
 import datetime
 
-from .texts import counted
+from .texts import quantity
 
 EPOCH = 100_000_000_000  # a moment from here on, in 1973, is one of our days
 LAST = 253_402_300_800_000  # 10000-01-01, from which on no calendar of Python counts
@@ -70,10 +70,10 @@ def warnings(moments: list[int], refused: int) -> list[str]:
     clocks = sum(map(is_clock, moments))
     if clocks and clocks < len(moments):
         has = 'has a time that does' if len(moments) - clocks == 1 else 'have times that do'
-        found.append(f'{counted(len(moments) - clocks, "line")} {has} not count from 1970, as '
+        found.append(f'{quantity(len(moments) - clocks, "line")} {has} not count from 1970, as '
                      'those of the session do, so values read back have other times than those '
                      'that the server sent')
     if refused:
         was = 'was' if refused == 1 else 'were'
-        found.append(f'{counted(refused, "line")} {was} refused (110) because times go back')
+        found.append(f'{quantity(refused, "line")} {was} refused (110) because times go back')
     return [f'{told}; tools/join sorts the lines of traces by time' for told in found]

@@ -12,9 +12,9 @@ from collections.abc import Iterable, Sequence
 from dataclasses import dataclass
 
 from . import moments
-from .html_page import code, escaped, sum_of, table
+from .html_page import code, as_html, sum_of, table
 from .paths import CHANGES, TOP
-from .texts import counted
+from .texts import quantity
 
 
 @dataclass(frozen=True)
@@ -41,7 +41,7 @@ def source_of_many(what: str, paths: Iterable[pathlib.Path]) -> Source:
     """Files of this folder as one: the sum of their names, each with its own sum."""
     found = {path.relative_to(TOP).as_posix(): path.read_bytes() for path in paths}
     whole = ''.join(f'{sum_of(found[name])}  {name}\n' for name in sorted(found))
-    return Source(what, f'sha256sum of {counted(len(found), "file")}',
+    return Source(what, f'sha256sum of {quantity(len(found), "file")}',
                   sum(map(len, found.values())), sum_of(whole.encode()))
 
 
@@ -86,7 +86,7 @@ def commit() -> str:
     if differ is None:
         return f'{found}; whether files differ from it is not known'
     count = len(differ.splitlines())
-    return f'{found}, CHANGED in {counted(count, "path")} of this folder' if count else found
+    return f'{found}, CHANGED in {quantity(count, "path")} of this folder' if count else found
 
 
 def version(command: str) -> str:
@@ -106,7 +106,7 @@ def head(command: str, span: str, about: Sequence[tuple[str, str]],
     rows of the tool's own, as text."""
     rows = [*about, ('Time', span), ('Machine', machine()), ('Made by', version(command)),
             ('Made at', moment_text(now()))]
-    files = [(escaped(it.what), code(it.name), f'{it.size:,}', code(it.digest)) for it in sources]
-    return [table(['', ''], [(name, escaped(told)) for name, told in rows], ' class="evidence"'),
+    files = [(as_html(it.what), code(it.name), f'{it.size:,}', code(it.digest)) for it in sources]
+    return [table(['', ''], [(name, as_html(told)) for name, told in rows], ' class="evidence"'),
             '<h2>What was read</h2>',
             table(['', '!File', '#Octets', 'SHA-256'], files, ' class="evidence"')]

@@ -7,7 +7,7 @@ const LIMIT = 2000;   // ms that a request may take, from the click on
 const PAUSE = 700;    // ms for which what is to be confirmed is shown before it can be
 const SILENT = 4000;  // ms without a sign of life, until the panel counts as gone
 const AGAIN = 5000;   // ms until a page that is one too many tries again
-let state = {switches: [], measures: [], events: [], control: null};
+let state = {switches: [], measures: [], inputs: [], events: [], control: null};
 let shown = null;     // the id of the switch of the dialog
 let pending = null;   // what ends the request whose answer is waited for
 let asked = false;    // whether this page may have selected something
@@ -137,12 +137,35 @@ function showSwitches() {
 function showMeasures() {
   const list = document.querySelector('#measures ul');
   byId('measures').hidden = state.measures.length === 0;
+  byId('no-unit').hidden = state.measures.every((it) => it.unit);
   list.replaceChildren(...state.measures.map((it) => {
     const found = element('li', '', it.name);
-    found.append(element('b', '', it.value.toLocaleString('en')));
+    found.append(element('b', '', `${it.value.toLocaleString('en')} ${it.unit}`.trim()));
     if (it.quality !== 'good') found.append(element('span', 'wrong', it.quality));
     return found;
   }));
+}
+
+// The value of an input, which is not known before its first report and while the process is lost.
+function truthOf(it) {
+  return it.quality === 'good' ? (it.value ? 'TRUE' : 'FALSE') : 'not known';
+}
+
+function showInputs() {
+  byId('inputs').hidden = state.inputs.length === 0;
+  document.querySelector('#inputs ul').replaceChildren(...state.inputs.map((it) => {
+    const found = element('li', it.value ? 'raised' : '', it.name);
+    found.append(element('b', '', truthOf(it)));
+    if (it.time) found.append(element('span', 'quiet', `since ${it.time}`));
+    return found;
+  }));
+}
+
+// Where the key of a switch is, as far as it is seen.
+function keyOf(it) {
+  const input = state.inputs.find((one) => one.name.toUpperCase() === it.key.toUpperCase());
+  if (!input) return 'must be at remote (not seen here)';
+  return `is at ${input.value ? 'remote' : 'local'}`;
 }
 
 function showEvents() {
@@ -210,7 +233,7 @@ function dialogState(it) {
   }
   const since = it.time ? ` since ${it.time}` : '';
   const barred = operates && state.barred ? ` But ${state.barred}.` : '';
-  const key = operates && it.key ? ` Its key ${it.key} must be at remote (not seen here).` : '';
+  const key = operates && it.key ? ` Its key ${it.key} ${keyOf(it)}.` : '';
   return `It is ${placeOf(it)}${since}.${key}${barred}${wrong ? ` ${wrong[1]}` : ''}`;
 }
 
@@ -371,6 +394,7 @@ function show(told) {
   showPicture();
   showSwitches();
   showMeasures();
+  showInputs();
   showEvents();
   followControl();
   showDialog();

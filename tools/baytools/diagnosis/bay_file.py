@@ -5,7 +5,7 @@ import tomllib
 from collections.abc import Iterator
 
 from baytools.bay.files import WIDE, encoding_text
-from baytools.common.texts import raised
+from baytools.common.texts import upcase
 
 from .dialects import quote_text
 from .language import FIELDS, RESERVED
@@ -17,14 +17,16 @@ KINDS = ['breaker', 'disconnector', 'earthing']
 CONTROLS = {'status': [], 'direct': ['travel_ms'], 'sbo': ['sbo_timeout_ms', 'travel_ms'],
             'sbo-enhanced': ['sbo_timeout_ms', 'travel_ms']}
 TIMES = ['sbo_timeout_ms', 'travel_ms']
-CHECKED = ['remote', 'synchrocheck']  # what an operate is checked for besides: may be left out
+CHECKED = ['remote', 'synchrocheck']  # what an operate is checked for besides
+OPTIONAL = [*CHECKED, 'profile', 'scale']
 SYNCHROCHECKS = ['refuse']
 WORDS = {'kind': KINDS, 'control': list(CONTROLS), 'synchrocheck': SYNCHROCHECKS}
 SECTIONS = {'bay': (1, 1), 'switch': (1, 32), 'input': (0, 64), 'meter': (0, 8)}
 ENTRIES = {'switch': ('switch', 'switches'), 'input': ('input', 'inputs'),
            'meter': ('meter', 'meters')}
-NUMBERS = {'scan_max_age_ms': (0, 600_000), 'sbo_timeout_ms': (1, 600_000),
-           'travel_ms': (1, 600_000)}
+PROFILES = (1, 2)  # the first and the last
+NUMBERS = {'scan_max_age_ms': (0, 600_000), 'profile': PROFILES, 'sbo_timeout_ms': (1, 600_000),
+           'travel_ms': (1, 600_000), 'scale': (-6, 6)}
 LONGEST = 262_144
 TYPES = {str: 'a text', bool: 'a truth value', int: 'a number',
          float: 'a number with a fraction', list: 'a list', dict: 'a table'}
@@ -218,7 +220,7 @@ class Judge:
 
     def entry(self, section, index, count, entry) -> Iterator:
         """The keys of one entry."""
-        wanted = keys_of(section, entry)
+        wanted = keys_of(section, entry, profile_of(self.file))
         for key in entry:
             if key not in wanted:
                 told = self.unknown(section, entry, key, wanted)
@@ -232,8 +234,8 @@ class Judge:
                     place = self.lines.place(told, where, section, index, count, key)
                     place.mend = case_mend(key, entry[key])
                     yield Refused(53, place)
-            elif key not in CHECKED and (key not in TIMES
-                                         or entry.get('control') in list(CONTROLS)):
+            elif key not in OPTIONAL and (key not in TIMES
+                                          or entry.get('control') in list(CONTROLS)):
                 told = f'the key {key} is missing'
                 if key in TIMES:
                     told += f', which control = "{entry["control"]}" needs'
@@ -243,6 +245,8 @@ class Judge:
         if section == 'switch' and key in (*TIMES, *CHECKED):
             by = 'kind' if key == 'synchrocheck' and entry.get('control') != 'status' else 'control'
             return f'{by} = "{entry[by]}" has no {key}'
+        if section == 'meter' and key == 'scale':
+            return 'only a meter of profile 2 has a scale'
         return f'there is no key {key} here{near(key, wanted)}'
 
     def names(self) -> None:
@@ -269,10 +273,10 @@ class Judge:
 
     def remotes(self) -> None:
         """The first switch whose key is no input."""
-        inputs = {raised(it['name']) for it in self.file.get('input', [])}
+        inputs = {upcase(it['name']) for it in self.file.get('input', [])}
         switches = self.file.get('switch', [])
         for index, entry in enumerate(switches):
-            if 'remote' in entry and raised(entry['remote']) not in inputs:
+            if 'remote' in entry and upcase(entry['remote']) not in inputs:
                 place = self.lines.place(f'there is no input {entry["remote"]}',
                                          self.where('switch', index, entry, 'remote'), 'switch',
                                          index, len(switches), 'remote')
@@ -285,7 +289,7 @@ class Judge:
             entries = self.file.get(section, [])
             for index, entry in enumerate(entries):
                 for ending, kind in endings.items():
-                    name = raised(entry[key_of(section)]) + ending
+                    name = upcase(entry[key_of(section)]) + ending
                     yield name, kind, section, index, len(entries), entry
 
 
@@ -300,10 +304,22 @@ def found_instead(held) -> str:
     return f', not {TYPES.get(type(held), "something else")}'
 
 
-def keys_of(section, entry) -> list:
+def profile_of(file) -> int:
+    """The profile of the model: 1 if the file names none, or one that is refused."""
+    bay = file.get('bay')
+    return 2 if isinstance(bay, dict) and is_two(bay.get('profile')) else 1
+
+
+def is_two(value) -> bool:
+    return type(value) is int and value == 2
+
+
+def keys_of(section, entry, profile=1) -> list:
     """The keys of an entry in their order."""
     if section == 'bay':
-        return ['domain', 'vendor', 'model', 'revision', 'scan_max_age_ms']
+        return ['domain', 'vendor', 'model', 'revision', 'scan_max_age_ms', 'profile']
+    if section == 'meter' and profile == 2:
+        return ['id', 'scale']
     if section != 'switch':
         return [key_of(section)]
     control, kind = entry.get('control'), entry.get('kind')
@@ -318,7 +334,8 @@ def value_fault(key, value) -> str | None:
         least, most = NUMBERS[key]
         if isinstance(value, bool) or not isinstance(value, int):
             return f'the value must be a whole number{found_instead(value)}'
-        return None if least <= value <= most else f'{value} is not from {least} to {most}'
+        span = f'{least}' if least == most else f'from {least} to {most}'
+        return None if least <= value <= most else f'{value} is not {span}'
     if not isinstance(value, str):
         return f'the value must be a text in quotes{found_instead(value)}'
     if key in WORDS:

@@ -39,12 +39,12 @@ class Flow:
             self.result = self.operand(item.operand) if item.operand else Value()
         elif verb == ')':
             before, operator = self.outer.pop()
-            self.result = combined(operator, before, self.result)
+            self.result = combine_values(operator, before, self.result)
         elif verb == 'label':
             self.arrive(item.token.upper)
         elif verb in LOADS:
             value = self.operand(item.operand)
-            self.result = negated(value) if verb == 'LDN' else value
+            self.result = negate(value) if verb == 'LDN' else value
         elif verb in STORES:
             self.store(item)
         elif verb in JUMPS or verb in RETURNS:
@@ -52,9 +52,9 @@ class Flow:
         elif verb == 'CAL':
             self.call(item)
         elif verb in COMBINES:
-            self.result = combined(verb, self.result, self.operand(item.operand))
+            self.result = combine_values(verb, self.result, self.operand(item.operand))
         else:
-            self.result = negated(self.result) if verb == 'NOT' else Value(self.result.names)
+            self.result = negate(self.result) if verb == 'NOT' else Value(self.result.names)
 
     def feed(self, name: str, names: frozenset) -> None:
         self.feeds[name] = self.feeds.get(name, frozenset()) | names | self.control
@@ -110,15 +110,15 @@ def constants_of(program) -> dict[str, bool]:
             and it.kind not in TIMERS}
 
 
-def negated(value: Value) -> Value:
+def negate(value: Value) -> Value:
     return Value(value.names, None if value.truth is None else not value.truth)
 
 
-def combined(operator: str, one: Value, other: Value) -> Value:
+def combine_values(operator: str, one: Value, other: Value) -> Value:
     """The result of an operator: what it depends on, and its truth where that is constant."""
     names = one.names | other.names
     if operator in ('ANDN', '&N', 'ORN'):
-        operator, other = operator.rstrip('N'), negated(other)
+        operator, other = operator.rstrip('N'), negate(other)
     if operator in ('AND', '&', 'OR'):
         strong = operator == 'OR'  # the truth that decides alone
         if strong in (one.truth, other.truth):

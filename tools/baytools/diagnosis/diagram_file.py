@@ -5,7 +5,7 @@ import re
 from collections.abc import Callable, Iterator
 from typing import Any
 
-from baytools.common.texts import counted, raised
+from baytools.common.texts import quantity, upcase
 from baytools.diagram.network import BREAKER, EARTH, EARTHING, JUNCTION, KINDS, NODES
 
 from . import bay_file
@@ -31,8 +31,8 @@ class Rows:
 
     def __init__(self, file: dict[str, Any], text: str, bay: dict[str, Any]) -> None:
         self.file, self.lines = file, Lines(text)
-        self.bay = {raised(it['id']): it for it in bay['switch']}
-        self.inputs = {raised(it['name']): it['name'] for it in bay.get('input', [])}
+        self.bay = {upcase(it['id']): it for it in bay['switch']}
+        self.inputs = {upcase(it['name']): it['name'] for it in bay.get('input', [])}
 
     def of(self, section: str) -> list[dict[str, Any]]:
         """The tables of a section."""
@@ -51,11 +51,11 @@ class Rows:
 
     def node(self, name: str) -> dict[str, Any] | None:
         """The first node with a name."""
-        return next((it for it in self.of('node') if raised(it['name']) == raised(name)), None)
+        return next((it for it in self.of('node') if upcase(it['name']) == upcase(name)), None)
 
     def kind(self, row: dict[str, Any]) -> str:
         """The kind of the switch of a table."""
-        return self.bay[raised(row['switch'])]['kind'] if 'switch' in row else row['kind']
+        return self.bay[upcase(row['switch'])]['kind'] if 'switch' in row else row['kind']
 
 
 def refusals(octets: bytes, bay: dict[str, Any]) -> list[Refused]:
@@ -88,7 +88,7 @@ def sections(rows: Rows) -> Iterator[Refused]:
             yield Refused(149, Place(f'{name} is no list of tables', line=line,
                                      mend=f'write [[{name}]]'))
         elif len(held) > MOST:
-            told = f'there are {counted(len(held), "table")} [[{name}]], but may be {MOST} at most'
+            told = f'there are {quantity(len(held), "table")} [[{name}]], but may be {MOST} at most'
             yield Refused(150, Place(told, line=line))
     yield from check_keys(rows)
 
@@ -173,7 +173,7 @@ def names_twice(rows: Rows) -> Iterator[Refused]:
     for section in SECTIONS:
         seen: dict[str, list[int]] = {}
         for index, row in enumerate(rows.of(section)):
-            seen.setdefault(raised(name_of(row)), []).append(index)
+            seen.setdefault(upcase(name_of(row)), []).append(index)
         for one, *others in seen.values():
             if others:
                 row = rows.of(section)[one]
@@ -197,7 +197,7 @@ def unknown_names(rows: Rows) -> Iterator[Refused]:
             *((key, row.get(key), inputs, 'input of the bay file')
               for key in ('closed', 'open', 'synchro'))]
         for key, name, known, what in named:
-            if name is not None and raised(name) not in map(raised, known):
+            if name is not None and upcase(name) not in map(upcase, known):
                 yield rows.refused(152, section, index,
                                    f'{name} is no {what}{near(name, known)}', key)
 
@@ -229,7 +229,7 @@ def bad_keys(rows: Rows) -> Iterator[Refused]:
                                        'other bays', key, 'leave it out: the bay file has it')
         elif 'kind' not in row:
             yield rows.refused(154, 'between', index, 'the kind is missing', 'name', 'add kind')
-        elif raised(row['name']) in rows.bay:
+        elif upcase(row['name']) in rows.bay:
             yield rows.refused(154, 'between', index, f'{row["name"]} is a switch of this bay',
                                'name', 'write switch in place of name')
         yield from breaker_keys(rows, index, row)
@@ -237,7 +237,7 @@ def bad_keys(rows: Rows) -> Iterator[Refused]:
 
 def breaker_keys(rows: Rows, index: int, row: dict[str, Any]) -> Iterator[Refused]:
     """The keys of a breaker of the bay at a switch that is none."""
-    kind = rows.bay[raised(row['switch'])]['kind'] if 'switch' in row else ''
+    kind = rows.bay[upcase(row['switch'])]['kind'] if 'switch' in row else ''
     for key in OF_BREAKERS:
         if row.get(key) not in (None, False) and kind != BREAKER:
             yield rows.refused(154, 'between', index, f'{key} is a key of breakers of the bay', key,
@@ -249,7 +249,7 @@ def bad_nodes(rows: Rows) -> Iterator[Refused]:
         one, other = row['nodes']
         kind = rows.kind(row)
         earths = [name for name in (one, other) if is_earth(rows, name)]
-        if raised(one) == raised(other):
+        if upcase(one) == upcase(other):
             yield rows.refused(154, 'between', index, f'both its nodes are {one}', 'nodes')
         elif kind == EARTHING and len(earths) != 1:
             told = 'both of its nodes are earths' if earths else 'none of its nodes is an earth'
@@ -271,7 +271,7 @@ def is_earth(rows: Rows, name: str) -> bool:
 # ---- what is missing
 
 def absent_switches(rows: Rows) -> Iterator[Refused]:
-    there = {raised(it['switch']) for it in rows.of('between') if 'switch' in it}
+    there = {upcase(it['switch']) for it in rows.of('between') if 'switch' in it}
     for name, row in rows.bay.items():
         if name not in there:
             yield Refused(155, Place(f'the switch {row["id"]} of the bay is in no table',
@@ -280,10 +280,10 @@ def absent_switches(rows: Rows) -> Iterator[Refused]:
 
 def loose_nodes(rows: Rows) -> Iterator[Refused]:
     for index, row in enumerate(rows.of('node')):
-        count = sum(raised(row['name']) in map(raised, it['nodes']) for it in rows.of('between'))
+        count = sum(upcase(row['name']) in map(upcase, it['nodes']) for it in rows.of('between'))
         least = 2 if row['kind'] == JUNCTION else 1
         if count < least:
-            yield rows.refused(155, 'node', index, f'{counted(count, "switch", "switches")} '
+            yield rows.refused(155, 'node', index, f'{quantity(count, "switch", "switches")} '
                                f'{"leads" if count == 1 else "lead"} to it, but a node of kind '
                                f'{row["kind"]} needs {least}',
                                mend='add the others, or leave the node out')

@@ -1,5 +1,5 @@
 """Words of other dialects and languages where ours are meant, each with what stands for it here."""
-from baytools.common.texts import raised
+from baytools.common.texts import upcase
 
 # STEP 7 in German and in English, and words as they are spoken.
 OPERATORS = {
@@ -20,11 +20,11 @@ QUOTES = '\u201c\u201d\u201e\u201f\u2018\u2019\u201a\u201b\u00ab\u00bb\u2039\u20
 def operator_text(first: str, rest: list[str]) -> tuple[str, str] | None:
     """What is said of a line that begins with an operator of another dialect, and the remedy."""
     if rest[:1] == [':=']:
-        return assigned(first, rest[1:])
-    if raised(first) in STRUCTURED:
+        return assignment_text(first, rest[1:])
+    if upcase(first) in STRUCTURED:
         return (f'{first} is a word of Structured Text',
                 'use JMPC, JMP and labels, or AND and OR of the conditions')
-    word = OPERATORS.get(raised(first))
+    word = OPERATORS.get(upcase(first))
     if word is None:
         return None
     mend = f'write {word}' if ' ' in word or not rest else f'write {word} {rest[0]}'
@@ -33,7 +33,7 @@ def operator_text(first: str, rest: list[str]) -> tuple[str, str] | None:
     return f'{first} is an operator of another dialect: here it is {word}', mend
 
 
-def assigned(name: str, rest: list[str]) -> tuple[str, str]:
+def assignment_text(name: str, rest: list[str]) -> tuple[str, str]:
     """The same of an assignment of Structured Text."""
     value = [word for word in rest if word != ';']
     is_operand = len(value) == 1 or len(value) == 3 and value[1] == '.'
@@ -44,7 +44,7 @@ def assigned(name: str, rest: list[str]) -> tuple[str, str]:
 
 def truth_text(name: str) -> tuple[str, str] | None:
     """The same of a name that is a truth value in another language."""
-    word = TRUTHS.get(raised(name))
+    word = TRUTHS.get(upcase(name))
     return word and (f'{name} is not a word of the language: here it is {word}', f'write {word}')
 
 

@@ -179,7 +179,7 @@ class Reader:
             initial, at = rest[3], 4
         if initial and self.block[0] == 'VAR_EXTERNAL':
             raise Misplaced('a point of the bay can\'t have an initial value', rest[2])
-        if initial and (mend := grouped(rest[at - 1:])):
+        if initial and (mend := grouping_text(rest[at - 1:])):
             raise Misplaced('a number has no comma', rest[at], (), mend)
         if at >= len(rest) or rest[at].text != ';':
             raise Misplaced('the ; is missing' if at >= len(rest) else 'there must be a ; here',
@@ -290,7 +290,7 @@ class Reader:
             raise Misplaced(f'{tokens[0].text} can\'t be an operand{reserved_text(tokens[0])}',
                             tokens[0])
         size = 1
-        if mend := grouped(tokens):
+        if mend := grouping_text(tokens):
             raise Misplaced('a number has no comma', tokens[1], (), mend)
         if len(tokens) > 1 and tokens[1].text == '.':
             if tokens[0].kind == 'literal':
@@ -335,7 +335,7 @@ class Reader:
         return part[0], self.operand(part[2:], part[1])
 
 
-def grouped(tokens) -> str:
+def grouping_text(tokens) -> str:
     """How a number is written whose digits go on after a comma; nothing where they don't."""
     first, *rest = tokens
     if first.kind != 'literal' or len(rest) < 2 or rest[0].text != ',' or (

@@ -2,7 +2,7 @@
 import difflib
 from dataclasses import dataclass, field
 
-from baytools.common.texts import raised
+from baytools.common.texts import upcase
 
 
 @dataclass
@@ -40,6 +40,6 @@ def marked_line(text_line, number, start=None, end=None, width=88) -> list[str]:
 def near(name, names) -> str:
     """A name that is like another, to ask whether it was meant: as it is written there, since the
     keys of a bay file are in lower case."""
-    written = {raised(other): other for other in names}
-    found = difflib.get_close_matches(raised(name), written, 1, 0.6)
+    written = {upcase(other): other for other in names}
+    found = difflib.get_close_matches(upcase(name), written, 1, 0.6)
     return f'; is {written[found[0]]} meant?' if found else ''

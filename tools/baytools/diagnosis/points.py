@@ -1,6 +1,6 @@
 """Which name may be meant where one is unknown. Of a switch no point of another switch is ever
 suggested: that would release the wrong one."""
-from baytools.common.texts import raised
+from baytools.common.texts import upcase
 
 from .language import FIELDS
 from .place import near
@@ -34,5 +34,5 @@ def suggested_name(name: str, names, points) -> str:
         return near(name, [point for point in points if owner_of(point, points) == owner])
     if ending and points:
         return f': the bay has no {KINDS[ending]} {name.removesuffix(ending)}'
-    return near(name, [other for other in names if raised(other) not in points]
+    return near(name, [other for other in names if upcase(other) not in points]
                 + [point for point in points if not ending_of(point)])

@@ -2,7 +2,7 @@
 jumps over, what is stored twice, and a position that counts as open though it is not known."""
 from collections.abc import Iterator
 
-from baytools.common.texts import raised
+from baytools.common.texts import upcase
 
 from .language import JUMPS, RETURNS
 from .place import Place
@@ -14,7 +14,7 @@ CLOSED, OPEN = '_CLOSED', '_OPEN'
 
 def release_warnings(program, file: dict) -> list[Place]:
     """What looks like a mistake, in the order of the lines."""
-    given = {raised(it['id'] + ending) for it in file['switch'] for ending in GIVES}
+    given = {upcase(it['id'] + ending) for it in file['switch'] for ending in GIVES}
     stores = [it for it in program.items if it.verb in ('ST', 'STN', 'S', 'R')
               and it.operand[0].upper in given]
     found = [*never_reset(stores), *jumped_over(program.items, stores),
@@ -74,7 +74,7 @@ def stored_twice(items: list, stores: list) -> Iterator[Place]:
 
 def not_closed(items: list, switches: list) -> Iterator[Place]:
     """Switches that count as open where they are only not closed."""
-    closed = {raised(it['id'] + CLOSED): it['id'] for it in switches}
+    closed = {upcase(it['id'] + CLOSED): it['id'] for it in switches}
     for it in items:
         if it.verb in NEGATED and it.operand[0].upper in closed:
             switch, name = closed[it.operand[0].upper], it.operand[0].text

@@ -3,7 +3,7 @@ import re
 from collections.abc import Iterator
 from dataclasses import dataclass
 
-from baytools.common.texts import raised
+from baytools.common.texts import upcase
 
 from .language import NUMBERS, OPERATORS, RESERVED
 
@@ -43,7 +43,7 @@ class Token:
 
     @property
     def upper(self) -> str:
-        return raised(self.text)
+        return upcase(self.text)
 
     def means(self, *words) -> bool:
         return self.kind in ('word', 'mark') and self.upper in words
@@ -105,7 +105,7 @@ def tokens_of(line) -> Iterator:
 
 def whole_text(found) -> str:
     """How a duration with a fraction is written without one."""
-    whole, part, unit = found[1], found[2], dict(UNITS)[raised(found[3])]
+    whole, part, unit = found[1], found[2], dict(UNITS)[upcase(found[3])]
     if len(whole + part) > LONG:
         return 'write whole numbers, as T#1s500ms'
     millis, rest = divmod(int(whole + part) * unit, 10 ** len(part))
@@ -133,7 +133,7 @@ def odd_text(character) -> tuple[str, str]:
 
 
 def word_token(text, start) -> 'Token':
-    upper = raised(text)
+    upper = upcase(text)
     if '#' not in text and re.match('[A-Z_]', upper):
         if upper in ('TRUE', 'FALSE'):
             return Token('literal', text, start, literal=Literal('BOOL', int(upper == 'TRUE')))

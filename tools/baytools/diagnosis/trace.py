@@ -6,7 +6,7 @@ from collections.abc import Iterator
 from dataclasses import dataclass
 
 from baytools.bay.files import MARKED
-from baytools.common.texts import raised
+from baytools.common.texts import upcase
 
 from .language import FIELDS
 from .place import near
@@ -39,9 +39,9 @@ class Known:
     a replay are taken, or those of a process alone."""
 
     def __init__(self, bay: dict, is_replay: bool = False, is_process: bool = False) -> None:
-        self.names = {'contact': {raised(one['id']) for one in bay['switch']},
-                      'input': {raised(one['name']) for one in bay.get('input', [])},
-                      'measure': {raised(one['id']) for one in bay.get('meter', [])}}
+        self.names = {'contact': {upcase(one['id']) for one in bay['switch']},
+                      'input': {upcase(one['name']) for one in bay.get('input', [])},
+                      'measure': {upcase(one['id']) for one in bay.get('meter', [])}}
         self.is_replay, self.is_process = is_replay, is_process
         self.last, self.open = 0, set()
 
@@ -104,7 +104,7 @@ class Known:
         """Why a line that reads well names nothing of the bay."""
         if verb == 'lost':
             return None
-        name = raised(rest[0])
+        name = upcase(rest[0])
         if name in self.names[verb]:
             return None
         other = next((what for what, names in self.names.items() if name in names), None)
@@ -141,8 +141,8 @@ def number_of(digits: str) -> int:
 
 
 def field_text(word: str) -> str:
-    if raised(word) in FIELDS:
-        return f'fields must be in upper case: {raised(word)}'
+    if upcase(word) in FIELDS:
+        return f'fields must be in upper case: {upcase(word)}'
     return f'{quoted_word(word)} is not a field: {", ".join(FIELDS)} are'
 
 

@@ -2,7 +2,7 @@
 from collections.abc import Iterator
 from dataclasses import dataclass
 
-from baytools.common.texts import raised
+from baytools.common.texts import upcase
 
 from . import lines
 from .depends import Flow
@@ -85,14 +85,14 @@ def declared_text(it, uses: Uses, points: dict) -> str:
 def never_read(program, uses: Uses, file: dict) -> Iterator[Place]:
     """Switches and inputs on which nothing depends, since no line reads them. The key of a switch
     needs no line: the server itself asks for it."""
-    keys = {raised(switch.get('remote', '')) for switch in file['switch']}
+    keys = {upcase(switch.get('remote', '')) for switch in file['switch']}
     external = {it.name.upper for it in program.declarations if it.scope == 'VAR_EXTERNAL'}
     for switch in file['switch']:
-        names = {raised(switch['id'] + ending) for ending in POSITIONS}
+        names = {upcase(switch['id'] + ending) for ending in POSITIONS}
         if not names & external & uses.read:
             yield Place(f'no line reads the position of {switch["id"]}')
     for one in file.get('input', []):
-        if raised(one['name']) not in keys | external & uses.read:
+        if upcase(one['name']) not in keys | external & uses.read:
             yield Place(f'no line reads the input {one["name"]}')
 
 
@@ -117,12 +117,12 @@ def never_released(program, uses: Uses, switches: list, flow: Flow, proved: Prov
     for switch in switches:
         for ending, way in ENDINGS.items():
             point = switch['id'] + ending
-            name, why = raised(point), ''
+            name, why = upcase(point), ''
             if not (name in external and name in uses.written):
                 why = f'no line writes {point}'
             elif flow.is_never_true(name):
                 why = f'only FALSE is stored in {point}'
-            elif proved and (raised(switch['id']), way) in proved.never:
+            elif proved and (upcase(switch['id']), way) in proved.never:
                 why = f'{point} is never TRUE (proved)'
             if why and switch.get('control') != 'status':
                 yield Place(f'{switch["id"]} can never be {way}: {why}')

@@ -37,7 +37,7 @@ import re
 import tomllib
 
 from baytools.bay.files import text_of
-from baytools.common.texts import counted, in_line, raised
+from baytools.common.texts import quantity, in_line, upcase
 
 from .network import (BREAKER, DISCONNECTOR, EARTH, EARTHING, JUNCTION, KINDS, NODES, BadDiagram,
                       Network, Node, Switch)
@@ -53,8 +53,8 @@ CALLED = {str: 'a text', bool: 'true or false', list: 'a list of two names of no
 
 def suggested_name(name: str, known) -> str:
     """What may be meant by a name that nothing has."""
-    near = difflib.get_close_matches(raised(name), [raised(it) for it in known], 1, 0.6)
-    found = next((it for it in known if near and raised(it) == near[0]), None)
+    near = difflib.get_close_matches(upcase(name), [upcase(it) for it in known], 1, 0.6)
+    found = next((it for it in known if near and upcase(it) == near[0]), None)
     return f'is {found} meant?' if found else (
         f'there are {", ".join(known)}' if known else 'there are none')
 
@@ -64,8 +64,8 @@ class Reader:
 
     def __init__(self, title: str, bay: dict) -> None:
         self.title = title
-        self.own = {raised(it['id']): it for it in bay['switch']}
-        self.inputs = {raised(it['name']): it['name'] for it in bay.get('input', [])}
+        self.own = {upcase(it['id']): it for it in bay['switch']}
+        self.inputs = {upcase(it['name']): it['name'] for it in bay.get('input', [])}
         self.nodes: dict[str, Node] = {}
         self.switches: list[Switch] = []
 
@@ -125,17 +125,17 @@ class Reader:
         if not re.fullmatch(NAME, name):
             raise self.wrong(place, f'the name {name} must be a letter, then letters, digits and '
                              '_, at most 32')
-        if raised(name) in {raised(it) for it in known}:
+        if upcase(name) in {upcase(it) for it in known}:
             raise self.wrong(place, f'the name {name} stands twice: give each its own')
         return name
 
     def input(self, place: str, row: dict, key: str) -> str:
         """The input that a key names, as the bay file writes it; nothing where it names none."""
         name = row.get(key, '')
-        if name and raised(name) not in self.inputs:
+        if name and upcase(name) not in self.inputs:
             raise self.wrong(place, f'{key} = "{name}" is no input of the bay file: '
                              f'{suggested_name(name, list(self.inputs.values()))}')
-        return self.inputs[raised(name)] if name else ''
+        return self.inputs[upcase(name)] if name else ''
 
     def node(self, place: str, row: dict) -> None:
         name = self.named(place, self.needed(place, row, 'name'), self.nodes)
@@ -158,12 +158,12 @@ class Reader:
         found = self.needed(place, row, 'nodes')
         if len(found) != 2 or not all(isinstance(it, str) for it in found):
             raise self.wrong(place, 'nodes must be two names of nodes')
-        known = {raised(it): it for it in self.nodes}
+        known = {upcase(it): it for it in self.nodes}
         for name in found:
-            if raised(name) not in known:
+            if upcase(name) not in known:
                 raise self.wrong(
                     place, f'{name} is no node: {suggested_name(name, list(self.nodes))}')
-        one, other = (known[raised(it)] for it in found)
+        one, other = (known[upcase(it)] for it in found)
         if one == other:
             raise self.wrong(place, f'both its nodes are {one}: a switch has two sides')
         return one, other
@@ -187,7 +187,7 @@ class Reader:
 
     def own_switch(self, place: str, row: dict, ends: tuple[str, str]) -> Switch:
         name = row['switch']
-        if raised(name) not in self.own:
+        if upcase(name) not in self.own:
             known = [it['id'] for it in self.own.values()]
             raise self.wrong(
                 place, f'{name} is no switch of the bay file: {suggested_name(name, known)}')
@@ -195,7 +195,7 @@ class Reader:
             if key in row:
                 raise self.wrong(place, f'{key} belongs to a switch of another bay: the bay file '
                                  'tells it of this one, so leave it out')
-        own = self.own[raised(name)]
+        own = self.own[upcase(name)]
         if own['kind'] not in KINDS:
             raise self.wrong(place, 'the bay file has another kind than breaker, disconnector or '
                              'earthing; tools/diagnose tells')
@@ -207,7 +207,7 @@ class Reader:
         kind = self.needed(place, row, 'kind')
         if kind not in KINDS:
             raise self.wrong(place, f'kind = "{kind}" is none: {suggested_name(kind, KINDS)}')
-        if raised(row['name']) in self.own:
+        if upcase(row['name']) in self.own:
             raise self.wrong(place, f'{row["name"]} is a switch of this bay: write switch')
         return Switch(row['name'], kind, ends, False, self.input(place, row, 'closed'),
                       self.input(place, row, 'open'), row.get('isolates', False)
@@ -228,7 +228,7 @@ class Reader:
 
     def network(self, check: dict) -> Network:
         """What was read, if it is whole."""
-        there = {raised(it.name) for it in self.switches}
+        there = {upcase(it.name) for it in self.switches}
         for own, row in self.own.items():
             if own not in there:
                 raise self.wrong(row['id'], 'this switch of the bay is in no [[between]]: add it, '
@@ -239,7 +239,7 @@ class Reader:
             if name not in joined:
                 raise self.wrong(f'node {name}', 'no switch leads to it: leave it out')
             if node.kind == JUNCTION and ends < 2:
-                raise self.wrong(f'node {name}', f'it is a junction of {counted(ends, "switch")}: '
+                raise self.wrong(f'node {name}', f'it is a junction of {quantity(ends, "switch")}: '
                                  'add the others, or give it the kind of what it is')
         if not any(it.is_source for it in self.nodes.values()):
             raise self.wrong('[[node]]', 'no node is a source: add source = true to each node that '
@@ -258,7 +258,7 @@ def diagram_at(path, bay: dict) -> Network:
     return read_diagram(text_of(path, 'diagram'), getattr(path, 'name', str(path)), bay)
 
 
-def written(network: Network) -> str:
+def file_text(network: Network) -> str:
     """A diagram as a file."""
     asked = [f'{key} = true' for key, is_asked in (
         ('live_parts', network.live_parts), ('fed_earths', network.fed_earths)) if is_asked]

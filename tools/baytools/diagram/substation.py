@@ -11,7 +11,7 @@ import re
 import xml.etree.ElementTree as ET
 from dataclasses import dataclass, field
 
-from baytools.common.texts import raised
+from baytools.common.texts import upcase
 
 from .diagram_file import Reader, suggested_name
 from .network import (BREAKER, BUSBAR, CABLE, DISCONNECTOR, EARTH, EARTHING, JUNCTION, LINE,
@@ -92,7 +92,7 @@ class Substation:
 
     def __init__(self, title: str, text: str, bay: dict) -> None:
         self.title, self.bay = title, bay
-        self.inputs = {raised(it['name']): it['name'] for it in bay.get('input', [])}
+        self.inputs = {upcase(it['name']): it['name'] for it in bay.get('input', [])}
         try:
             self.all = equipment_of(ET.fromstring(text))
         except ET.ParseError as error:
@@ -104,7 +104,7 @@ class Substation:
     def network(self, name: str, dead: dict[str, str], left_out: set[str]) -> Network:
         """The diagram of the bay of this name, or path."""
         own_bay = self.bay_called(name)
-        kept = [it for it in self.all if not {raised(it.name), raised(it.path())} & left_out]
+        kept = [it for it in self.all if not {upcase(it.name), upcase(it.path())} & left_out]
         rows, ends = [], []
         for one in kept:
             if one.kind not in SWITCHES:
@@ -121,7 +121,7 @@ class Substation:
 
     def bay_called(self, name: str) -> str:
         bays = list(dict.fromkeys(it.bay for it in self.all))
-        found = [it for it in bays if raised(name) in (raised(it), raised(it.rpartition('/')[2]))]
+        found = [it for it in bays if upcase(name) in (upcase(it), upcase(it.rpartition('/')[2]))]
         if len(found) > 1:
             raise self.wrong(f'bay {name}', f'there are several: name one of {", ".join(found)}')
         if not found:
@@ -131,12 +131,12 @@ class Substation:
 
     def check_switches(self, own_bay: str, own: list[Equipment]) -> None:
         """Refuses a file that has other switches of the bay than the bay file."""
-        names = {raised(it['id']): it['id'] for it in self.bay['switch']}
+        names = {upcase(it['id']): it['id'] for it in self.bay['switch']}
         for one in own:
-            if raised(one.name) not in names:
+            if upcase(one.name) not in names:
                 raise self.wrong(one.path(), 'it is no switch of the bay file: add it there, or '
                                  f'leave it out by --without {one.name}')
-        for name in names.keys() - {raised(it.name) for it in own}:
+        for name in names.keys() - {upcase(it.name) for it in own}:
             raise self.wrong(own_bay, f'it has no equipment {names[name]} of type CBR or DIS, as '
                              'the bay file has: give both one name')
 
@@ -144,9 +144,9 @@ class Substation:
         """By which inputs a switch of another bay is known; nothing where by none."""
         bay = one.bay.rpartition('/')[2]
         for name in (f'{bay}_{one.name}', one.name):
-            found = {key: self.inputs[raised(f'{name}_{ending}')]
+            found = {key: self.inputs[upcase(f'{name}_{ending}')]
                      for key, ending in (('closed', 'CLOSED'), ('open', 'OPEN'))
-                     if raised(f'{name}_{ending}') in self.inputs}
+                     if upcase(f'{name}_{ending}') in self.inputs}
             if found:
                 return {'name': re.sub('[^A-Za-z0-9_]', '_', name), **found}
         return {}
@@ -170,7 +170,7 @@ class Substation:
             if not row:
                 live |= self.leads_away(one, [joined.of(it) for it in one.nodes], there)
         called = self.called(there, names)
-        if unknown := sorted(dead.keys() - {raised(it) for it in called.values()}):
+        if unknown := sorted(dead.keys() - {upcase(it) for it in called.values()}):
             raise self.wrong('--dead', f'{unknown[0]} is no node: '
                              f'{suggested_name(unknown[0], list(called.values()))}')
         tables = {'node': [], 'between': []}
@@ -180,7 +180,7 @@ class Substation:
             is_end = kind == JUNCTION and (node in live or ways < 2)
             row = {'name': called[node], 'kind': LINE if is_end else kind,
                    'source': node in live and node != GROUNDED or is_end}
-            told = dead.get(raised(called[node]))
+            told = dead.get(upcase(called[node]))
             tables['node'].append(row | ({'dead': told} if told else {}))
         for one, row in rows:
             if row:
@@ -209,11 +209,11 @@ class Substation:
                 node.split('/')[-1:])
             name = re.sub('[^A-Za-z0-9_]', '_', parts[0])
             name = name if re.match('[A-Za-z]', name) else f'N{name}'
-            taken = {raised(it) for it in found.values()}
-            if raised(name) in taken and '/' in node:
+            taken = {upcase(it) for it in found.values()}
+            if upcase(name) in taken and '/' in node:
                 name = re.sub('[^A-Za-z0-9_]', '_', '_'.join(node.split('/')[-2:]))
             count, plain = 1, name
-            while raised(name) in taken:
+            while upcase(name) in taken:
                 count += 1
                 name = f'{plain}_{count}'
             found[node] = name[:32]

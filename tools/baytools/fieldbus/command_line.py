@@ -11,7 +11,7 @@ from baytools.audit.blocking_inputs import needed_of
 from baytools.bay.accepted import accepted_bay_at
 from baytools.bay.files import bay_at, check_writable, octets_of
 from baytools.common.ending import DONE, UNREACHED, Failed, Parser
-from baytools.common.texts import raised
+from baytools.common.texts import upcase
 from baytools.report.bayctl import usual
 from baytools.wire.process import key_of
 from baytools.wire.sockets import port_of
@@ -76,7 +76,7 @@ async def all_off(modules: list[Module]) -> bool:
 
 def key_warnings(modules: Modules, bay: dict[str, Any]) -> list[str]:
     """Switches whose key only the server asks for, and such whose key nobody reports."""
-    keys = {raised(one['id']): raised(one['remote']) for one in bay['switch'] if 'remote' in one}
+    keys = {upcase(one['id']): upcase(one['remote']) for one in bay['switch'] if 'remote' in one}
     found = [f'{one.id} has a key in the bay file, and no remote here: a pulse begins, and goes '
              'on, even if the key has just been turned to local.'
              for module in modules for one in module.switches
@@ -98,7 +98,7 @@ def warnings(modules: Modules, chosen: argparse.Namespace, bay: dict[str, Any]) 
     faults = {one.name: one.fault for module in modules for one in module.inputs}
     told = unseen + [one.warning() for one in found if one.false]
     for one in found:
-        fault = faults.get(raised(one.name))
+        fault = faults.get(upcase(one.name))
         released = () if fault is None else one.true if fault else one.false
         if released:
             told.append(f'{one.name} has fault = {str(fault).lower()}, and so a lost module '

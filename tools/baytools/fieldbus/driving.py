@@ -3,7 +3,7 @@ import asyncio
 import time
 from collections.abc import Callable
 
-from baytools.common.texts import raised
+from baytools.common.texts import upcase
 from baytools.wire.process import Different
 
 from .bus import CLOSED as CONNECTION_CLOSED, ModuleFault, ModuleRefused
@@ -136,11 +136,11 @@ class Driver:
     def receive_line(self, line: str) -> None:
         match line.split(' '):
             case [moment, 'command', name, way] if way in WAYS and moment.isdecimal():
-                self.command(Command(int(moment), raised(name), way, self.process.number))
-            case [_, 'over', name] if raised(name) in self.pulses:
-                self.pulses[raised(name)][0].over()
+                self.command(Command(int(moment), upcase(name), way, self.process.number))
+            case [_, 'over', name] if upcase(name) in self.pulses:
+                self.pulses[upcase(name)][0].over()
             case [word] if word[-3:-2] == '=' and set(word[-2:]) <= {'0', '1'}:
-                self.releases[raised(word[:-3])] = word[-2] == '1', word[-1] == '1'
+                self.releases[upcase(word[:-3])] = word[-2] == '1', word[-1] == '1'
                 self.wake()
                 for pulse, _ in self.pulses.values():
                     pulse.unit.news.set()

@@ -120,11 +120,11 @@ class GpioLink:
             low = {kind: ACTIVE_LOW for kind in self.chip.low}
             if self.inputs:
                 flags = INPUT | BIASES[self.chip.bias] | low.get('contacts', 0)
-                self.of_inputs = requested(chip, self.inputs, flags, b'', 0)
+                self.of_inputs = descriptor_of(chip, self.inputs, flags, b'', 0)
             if self.outputs:
                 off = ATTRIBUTE.pack(OUTPUT_VALUES, 0, 0, (1 << len(self.outputs)) - 1)
-                self.of_outputs = requested(chip, self.outputs, OUTPUT | low.get('coils', 0), off,
-                                            1)
+                flags = OUTPUT | low.get('coils', 0)
+                self.of_outputs = descriptor_of(chip, self.outputs, flags, off, 1)
         finally:
             KERNEL.close(chip)
 
@@ -172,7 +172,8 @@ class GpioLink:
         raise ModuleFault('a chip has no registers')
 
 
-def requested(chip: int, lines: tuple[int, ...], flags: int, attribute: bytes, count: int) -> int:
+def descriptor_of(chip: int, lines: tuple[int, ...], flags: int, attribute: bytes,
+                  count: int) -> int:
     """A descriptor of lines of a chip."""
     offsets = struct.pack(f'={len(lines)}I', *lines)
     data = bytearray(REQUEST.pack(offsets, CONSUMER, flags, count, b'', attribute, len(lines), 0,

@@ -8,7 +8,7 @@ import struct
 from collections.abc import Sequence
 from dataclasses import dataclass
 
-from baytools.wire.sockets import RESET, unconnected
+from baytools.wire.sockets import RESET, why_unconnected
 
 from .bus import CLOSED, Bus, Lines, ModuleFault, ModuleRefused
 from .keyed import Table
@@ -166,4 +166,4 @@ def why(error: BaseException) -> str:
     """Why there is no connection."""
     if isinstance(error, EOFError):
         return 'the module ended it'
-    return unconnected(error) if isinstance(error, OSError) else type(error).__name__
+    return why_unconnected(error) if isinstance(error, OSError) else type(error).__name__

@@ -5,7 +5,7 @@ from collections.abc import Callable
 
 from baytools.common import positions
 from baytools.common.ending import UsageError
-from baytools.common.texts import raised
+from baytools.common.texts import upcase
 
 from .wiring import TYPES, Measure, Module, Switch
 
@@ -126,7 +126,7 @@ class Plant:
 
     def typed(self, line: str) -> None:
         """What a typed line does to the bay."""
-        match [raised(word) for word in line.split()]:
+        match [upcase(word) for word in line.split()]:
             case [name, way] if name in self.moving:
                 self.hand(name, way.lower())
             case [name, value] if value in TRUTHS and self.is_input(name, TRUTHS[value]):

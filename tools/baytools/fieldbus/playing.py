@@ -10,7 +10,7 @@ import time
 from baytools.bay.accepted import accepted_bay_at
 from baytools.common.ending import DONE, Failed
 from baytools.common.keyboard import Keyboard
-from baytools.common.texts import raised
+from baytools.common.texts import upcase
 
 from .command_line import say, until_interrupted
 from .keyed import Miswired
@@ -29,7 +29,7 @@ class Refusal(Exception):
     """An exception that a module answers, by its code."""
 
 
-def packed(bits: list[bool]) -> bytes:
+def pack_bits(bits: list[bool]) -> bytes:
     """Bits in octets, the first in the lowest place."""
     octets = bytearray((len(bits) + 7) // 8)
     for at, bit in enumerate(bits):
@@ -46,9 +46,9 @@ def read(module: PlayedModule, function: int, first: int, count: int) -> bytes:
         raise Refusal(ILLEGAL_ADDRESS)
     numbers = range(first, first + count)
     if function == READ_COILS:
-        found = packed([at in module.on for at in numbers])
+        found = pack_bits([at in module.on for at in numbers])
     elif function == READ_INPUTS:
-        found = packed([module.contact(at) for at in numbers])
+        found = pack_bits([module.contact(at) for at in numbers])
     else:
         words = [module.register(at) if function == READ_REGISTERS else module.holding.get(at, 0)
                  for at in numbers]
@@ -155,12 +155,12 @@ class Played:
             place = address.host, address.port
             station = self.stations.setdefault(place, Station(*place))
             station.units[address.unit] = one
-            self.of_module[raised(one.module.name)] = station
+            self.of_module[upcase(one.module.name)] = station
 
     def typed(self, line: str) -> None:
         """What a typed line does to a module or to the plant."""
         words = line.split()
-        station = self.of_module.get(raised(words[0])) if len(words) == 2 else None
+        station = self.of_module.get(upcase(words[0])) if len(words) == 2 else None
         match words[1:]:
             case ['off'] if station:
                 station.switch_off()

@@ -8,8 +8,8 @@ from collections.abc import Callable
 from dataclasses import dataclass
 
 from baytools.wire.process import (DEMANDED, NO_KEY, Greeting, Life, ServerClock, greeting_of,
-                                   moment_of, same_bay, ungreeted, untimely)
-from baytools.wire.sockets import RESET, is_taken, unconnected
+                                   moment_of, same_bay, no_greeting, untimely)
+from baytools.wire.sockets import RESET, is_taken, why_unconnected
 
 LONGEST, AGAIN, LOOK = 65_536, 0.2, 0.02  # octets of a line; seconds until the next connection
 
@@ -125,7 +125,7 @@ class ProcessLink:
                 is_waiting = is_taken(it) is False
                 demanded = 0.0 if is_waiting else demanded or time.monotonic() + DEMANDED
                 if not line.done() and not is_waiting and time.monotonic() > demanded:
-                    raise ungreeted(self.port)
+                    raise no_greeting(self.port)
                 if is_waiting and not is_told and time.monotonic() > begun + 25 * LOOK:
                     self.say('the server takes one process at a time, and has another: waiting')
                     is_told = True
@@ -136,7 +136,7 @@ class ProcessLink:
             raise EOFError('the server has closed the connection')
         greeting = greeting_of(found)
         if greeting is None:
-            raise ungreeted(self.port)
+            raise no_greeting(self.port)
         same_bay(greeting, self.port, *self.named)
         return greeting
 
@@ -183,4 +183,4 @@ class ProcessLink:
 
 def loss_text(error: Exception) -> str:
     """Why the connection was lost, or is none."""
-    return unconnected(error) if isinstance(error, OSError) else str(error)
+    return why_unconnected(error) if isinstance(error, OSError) else str(error)

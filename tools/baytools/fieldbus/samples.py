@@ -41,7 +41,7 @@ def double_point(is_open: bool, is_closed: bool) -> int:
     return (BAD if is_closed else OPEN) if is_open else CLOSED if is_closed else INTERMEDIATE
 
 
-def measured(one: Measure, registers: dict[int, int]) -> Value:
+def measured_value(one: Measure, registers: dict[int, int]) -> Value:
     """The number of a measure, or None where it is out of its range."""
     words = [registers[one.at + word] for word in range(one.words())]
     raw = 0
@@ -109,7 +109,7 @@ class Sampled:
         return found | self.measures
 
     def take_measure(self, one: Measure, registers: dict[int, int]) -> None:
-        point, value = ('measure', one.meter, one.field), measured(one, registers)
+        point, value = ('measure', one.meter, one.field), measured_value(one, registers)
         last = self.measures.get(point)
         if value is None or last is None or abs(value - last) > one.deadband:
             self.measures[point] = value

@@ -3,7 +3,7 @@ HTML that needs no other file."""
 import html
 from dataclasses import dataclass
 
-from baytools.common.texts import counted, in_line
+from baytools.common.texts import quantity, in_line
 
 from .bus import Bus
 from .wiring import WHOLE, Contact, Module, Modules, Switch
@@ -138,16 +138,16 @@ def sheet(modules: list[Module], bus: Bus) -> list[str]:
 
 def summary(modules: Modules) -> str:
     """How much is wired."""
-    counts = [counted(len(modules), 'module'),
-              counted(sum(len(one.switches) for one in modules), 'switch', 'switches'),
-              counted(sum(len(one.inputs) for one in modules), 'input'),
-              counted(sum(len(one.measures) for one in modules), 'measure')]
+    counts = [quantity(len(modules), 'module'),
+              quantity(sum(len(one.switches) for one in modules), 'switch', 'switches'),
+              quantity(sum(len(one.inputs) for one in modules), 'input'),
+              quantity(sum(len(one.measures) for one in modules), 'measure')]
     terminals = sum(len({(row.kind, row.number) for row in rows_of(one)}) for one in modules)
     rest = f'; on none: {", ".join(modules.not_wired)}' if modules.not_wired else ''
-    return f'{", ".join(counts)}: {counted(terminals, "terminal")}{rest}'
+    return f'{", ".join(counts)}: {quantity(terminals, "terminal")}{rest}'
 
 
-def escaped(text: str) -> str:
+def as_html(text: str) -> str:
     return html.escape(in_line(text))
 
 
@@ -157,7 +157,7 @@ def table(module: Module, bus: Bus) -> str:
                     for at, name in enumerate(HEADS) if at != 1 or bus.references)
     lines = []
     for row in rows_of(module):
-        shown = ''.join(f'<td class="{CLASSES[at]}">{escaped(cell)}</td>'
+        shown = ''.join(f'<td class="{CLASSES[at]}">{as_html(cell)}</td>'
                         for at, cell in enumerate(cells(row, bus)) if at != 1 or bus.references)
         lines.append(f'<tr>{shown}<td class="tried"><span class="box"></span></td></tr>')
     return ('<div class="wide"><table class="terminals">\n'
@@ -168,17 +168,17 @@ def table(module: Module, bus: Bus) -> str:
 def page(modules: Modules, bus: Bus, named: tuple[str, str], files: list[tuple[str, str]],
          ) -> str:
     """The whole page. `files` are the names of the files with their SHA-256."""
-    title = f'Terminals of bay {escaped(named[0])}'
+    title = f'Terminals of bay {as_html(named[0])}'
     parts = [f'<!DOCTYPE html>\n<html lang="en"><head><meta charset="utf-8">\n'
              f'<meta name="viewport" content="width=device-width, initial-scale=1">\n'
              f'<title>{title}</title><style>{STYLE}</style></head><body>',
              f'<h1>{title}</h1>',
-             f'<p>Revision {escaped(named[1])}: {escaped(summary(modules))}.</p>']
-    parts += [f'<p class="quiet">{escaped(name)}: SHA-256 {digest[:16]}..</p>'
+             f'<p>Revision {as_html(named[1])}: {as_html(summary(modules))}.</p>']
+    parts += [f'<p class="quiet">{as_html(name)}: SHA-256 {digest[:16]}..</p>'
               for name, digest in files]
     for module in modules:
-        parts.append(f'<h2>Module {escaped(module.name)}</h2>')
-        parts += [f'<p>{escaped(told)}</p>' for told in head_of(module)]
+        parts.append(f'<h2>Module {as_html(module.name)}</h2>')
+        parts += [f'<p>{as_html(told)}</p>' for told in head_of(module)]
         parts.append(table(module, bus))
     parts.append('<table class="sign"><tr><td>Tried by</td><td>Date</td><td>Signature</td></tr>'
                  '</table></body></html>\n')

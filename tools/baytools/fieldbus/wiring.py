@@ -5,7 +5,7 @@ from dataclasses import dataclass, field
 from typing import Any
 
 from baytools.bay.files import text_of
-from baytools.common.texts import raised
+from baytools.common.texts import upcase
 from baytools.diagnosis.language import FIELDS
 
 from .bus import Address, Bus, Lines
@@ -127,10 +127,10 @@ class Reading:
         self.bus = bus
         self.modules: dict[str, Module] = {}
         self.tables: dict[str, Table] = {}
-        self.switches = {raised(one['id']): one for one in bay['switch']}
-        self.inputs = {raised(one['name']) for one in bay.get('input', [])}
-        self.meters = {raised(one['id']) for one in bay.get('meter', [])}
-        self.keys = {raised(one['remote']): raised(one['id']) for one in bay['switch']
+        self.switches = {upcase(one['id']): one for one in bay['switch']}
+        self.inputs = {upcase(one['name']) for one in bay.get('input', [])}
+        self.meters = {upcase(one['id']) for one in bay.get('meter', [])}
+        self.keys = {upcase(one['remote']): upcase(one['id']) for one in bay['switch']
                      if 'remote' in one}  # the inputs that are keys, and a switch of each
         self.wired: set[tuple[str, ...]] = set()
         self.left_out: list[str] = []
@@ -167,7 +167,7 @@ class Reading:
 
     def known(self, table: Table, key: str, what: str, names: Collection[str]) -> str:
         """The name of something of the bay."""
-        found = raised(table.text(key))
+        found = upcase(table.text(key))
         if found not in names:
             raise table.wrong(f'the bay has no {what} {found}: write one of '
                               f'{", ".join(sorted(names)) or "none: it has no " + what}', key)
@@ -238,7 +238,7 @@ class Reading:
         if not self.bus.has_registers:
             raise table.wrong('these modules have no registers: leave it out')
         meter = self.known(table, 'meter', 'meter', self.meters)
-        name = raised(table.text('field'))
+        name = upcase(table.text('field'))
         if name not in FIELDS:
             raise table.wrong(f'the field is {name}: write one of {", ".join(FIELDS)}', 'field')
         table.where = f'measure {meter} {name}'
@@ -268,7 +268,7 @@ class Reading:
                 raise table.wrong('it has measures, which keep their last number when it fails: '
                                   'name an input of the bay as alive, and ask for it beside them')
             return
-        module.alive = raised(module.alive)
+        module.alive = upcase(module.alive)
         if module.alive not in self.inputs:
             raise table.wrong(f'the bay has no input {module.alive}: write one of '
                               f'{", ".join(sorted(self.inputs)) or "none: it has no input"}',
@@ -281,8 +281,8 @@ class Reading:
     def leave_out(self, table: Table) -> None:
         """What the file says to hang on no module."""
         for told in table.texts('not_wired'):
-            self.left_out.append(raised(told))
-            match raised(told).split():
+            self.left_out.append(upcase(told))
+            match upcase(told).split():
                 case [name] if name in self.inputs:
                     self.once(table, 'input', name)
                 case [meter, name] if meter in self.meters and name in FIELDS:

@@ -2,10 +2,10 @@
 from collections.abc import Sequence
 
 from baytools.common import page_head
-from baytools.common.html_page import escaped, page, table
-from baytools.common.texts import counted
+from baytools.common.html_page import as_html, page, table
+from baytools.common.texts import quantity
 
-from .digest import BAD, GOOD, Digest, stamped
+from .digest import BAD, GOOD, Digest, dated_text
 
 MARKS = {GOOD: '<span class="good" title="done">✓</span>',
          BAD: '<span class="bad" title="refused, closed or lost">✕</span>'}
@@ -39,14 +39,14 @@ def page_of(digest: Digest, bay: str = NOT_NAMED, files: Sequence[page_head.Sour
              *page_head.head('tools/log', digest.time_text(),
                             [('Bay', bay), ('Logged by', digest.programs())],
                             [*digest.files, *files]),
-             *(f'<p class="warning">{escaped(it)}</p>' for it in digest.warnings()),
+             *(f'<p class="warning">{as_html(it)}</p>' for it in digest.warnings()),
              *controls_section(digest), *refused_section(digest), '<h2>The process</h2>',
-             f'<p>{escaped(digest.process())}</p>', *happened(digest)]
+             f'<p>{as_html(digest.process())}</p>', *event_rows(digest)]
     return page(title, STYLE, parts)
 
 
 def table_html(heads: list[str], rows: Sequence[Sequence[object]], none: str) -> str:
-    cells = [[escaped(it) for it in row] for row in rows]
+    cells = [[as_html(it) for it in row] for row in rows]
     return table(heads, cells) if rows else f'<p>{none}</p>'
 
 
@@ -68,11 +68,11 @@ def refused_section(digest: Digest) -> list[str]:
     return ['<h2>Who was not let in</h2>', table_html(['Why', 'From', '#Times'], rows, 'Nobody.')]
 
 
-def happened(digest: Digest) -> list[str]:
+def event_rows(digest: Digest) -> list[str]:
     """All events."""
     rows = digest.rows()
-    cells = [[escaped(stamped(it.moment)), MARKS.get(it.kind, '·'), escaped(it.told),
-              escaped(it.who)] for it in rows]
-    return [f'<h2>What happened <span class="quiet">({counted(len(rows), "line")})</span></h2>',
+    cells = [[as_html(dated_text(it.moment)), MARKS.get(it.kind, '·'), as_html(it.told),
+              as_html(it.who)] for it in rows]
+    return [f'<h2>What happened <span class="quiet">({quantity(len(rows), "line")})</span></h2>',
             table(['!Time', '', 'What', 'Who'], cells) if rows else '<p>Nothing.</p>']
 

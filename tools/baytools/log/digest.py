@@ -5,7 +5,7 @@ from collections.abc import Callable
 from dataclasses import dataclass
 
 from baytools.common import moments
-from baytools.common.texts import counted, in_line
+from baytools.common.texts import quantity, in_line
 
 from . import server_lines as lines
 from .entries import Entry
@@ -130,8 +130,8 @@ class Digest:
             return 'no process was lost'
         away = sum(self.within(first, last) for first, last in losses if last is not None)
         still = [it for it in losses if it[1] is None]
-        more = f', and it has not come back {counted(len(still), "time")}' if still else ''
-        return f'a process was lost {counted(len(losses), "time")}, for {away / 1000:g} s{more}'
+        more = f', and it has not come back {quantity(len(still), "time")}' if still else ''
+        return f'a process was lost {quantity(len(losses), "time")}, for {away / 1000:g} s{more}'
 
     def within(self, first: int, last: int) -> int:
         """How much of a time lies in the span."""
@@ -148,13 +148,13 @@ class Digest:
         unjoined = [it for it in self.strangers() if it.local]
         if unjoined and events:
             fit = 'fits' if len(unjoined) == 1 else 'fit'
-            found.append(f'{counted(len(unjoined), "connection")} that stunnel let in {fit} no '
+            found.append(f'{quantity(len(unjoined), "connection")} that stunnel let in {fit} no '
                          'association of bayctl: do both logs belong together, and is this the '
                          'time zone of that machine (TZ)?')
         if not events:
             found.append('no line of bayctl: what was asked is not told')
         if self.others:
-            found.append(f'{counted(self.others, "line")} of other programs left out')
+            found.append(f'{quantity(self.others, "line")} of other programs left out')
         return found
 
     def programs(self) -> str:
@@ -173,7 +173,7 @@ class Digest:
     def times(self, rows: list[Row]) -> Callable[[int], str]:
         """How the moments of rows are told: with the date where there are several days."""
         days = {moments.date_of(it.moment).date() for it in rows if moments.is_clock(it.moment)}
-        return stamped if len(days) > 1 else moments.moment_text
+        return dated_text if len(days) > 1 else moments.moment_text
 
     def rows(self) -> list[Row]:
         """All of the span in its order."""
@@ -185,7 +185,7 @@ class Digest:
         return sorted((it for it in found if self.span.has(it.moment)), key=lambda it: it.moment)
 
 
-def stamped(moment: int) -> str:
+def dated_text(moment: int) -> str:
     """A moment with its date, where it is of our days."""
     return moments.stamp_text(moment) if moments.is_clock(moment) else moments.moment_text(moment)
 
@@ -261,7 +261,7 @@ def without_link(event: Event) -> tuple[str, str]:
         case lines.RULES:
             return f'each of the {event.code} rules holds', QUIET
         case lines.DIAGRAM:
-            return (f'none of {counted(int(event.code), "operation")} is released while it is a '
+            return (f'none of {quantity(int(event.code), "operation")} is released while it is a '
                     'hazard in the diagram'), QUIET
         case lines.SUM:
             return f'the server serves: {event.words}', QUIET
@@ -281,17 +281,17 @@ def text_of(digest: Digest) -> list[str]:
     rows = digest.rows()
     told = digest.times(rows)
     found = [f'{digest.span.text()}', '', 'Who asked']
-    found += [f'  {it.who}: {counted(it.links, "association")}, {it.done} done, {it.refused} '
+    found += [f'  {it.who}: {quantity(it.links, "association")}, {it.done} done, {it.refused} '
               f'refused{", from " + it.places if it.places else ""}' for it in digest.askers()
               ] or ['  nobody']
     found += ['', 'Why controls were refused']
-    found += [f'  {counted(count, "time")}: {why}' for why, count in digest.refusals()
+    found += [f'  {quantity(count, "time")}: {why}' for why, count in digest.refusals()
               ] or ['  none was']
     if ends := digest.ends():
-        found += ['', 'How operates ended', *(f'  {counted(count, "time")}: {how}'
+        found += ['', 'How operates ended', *(f'  {quantity(count, "time")}: {how}'
                                               for how, count in ends)]
     found += ['', 'Who was not let in']
-    found += [f'  {counted(count, "time")} from {hosts}: {why}'
+    found += [f'  {quantity(count, "time")} from {hosts}: {why}'
               for why, count, hosts in digest.refused_clients()] or ['  nobody']
     found += ['', 'The process', f'  {digest.process()}', '', 'What happened']
     found += [f'  {told(it.moment)}  {f"[{it.who}] " if it.who else ""}{it.told}'

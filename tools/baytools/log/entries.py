@@ -87,10 +87,10 @@ def local(text: str, form: str) -> int | None:
 
 def of_iso(found: re.Match[str], now: int) -> int | None:
     """A time such as 2026-11-28T10:00:00+0100."""
-    return zoned(re.sub(r'([+-]\d\d)(\d\d)$', r'\1:\2', found['iso'].replace(',', '.')))
+    return moment_with_zone(re.sub(r'([+-]\d\d)(\d\d)$', r'\1:\2', found['iso'].replace(',', '.')))
 
 
-def zoned(text: str) -> int | None:
+def moment_with_zone(text: str) -> int | None:
     """The moment of a time with its zone, as ISO 8601 has it."""
     try:
         return round(datetime.datetime.fromisoformat(text).timestamp() * 1000)
@@ -104,7 +104,7 @@ def of_full(found: re.Match[str], now: int) -> int | None:
     if found['zone'] != 'UTC':
         moment = local(found['full'], form)
     else:
-        moment = zoned(found['full'].replace(' ', 'T') + '+00:00')
+        moment = moment_with_zone(found['full'].replace(' ', 'T') + '+00:00')
     return moment if moment is None else moment + thousandths(found['part'])
 
 

@@ -7,7 +7,7 @@ from dataclasses import dataclass
 
 from baytools.common.positions import WAYS
 
-from .entries import Entry, zoned
+from .entries import Entry, moment_with_zone
 
 OPEN, CLOSED, CONTROL, COMMAND, REFUSED = 'open', 'closed', 'control', 'command', 'refused'
 CONNECTED, PARTED, LOADED, BEGUN = 'process open', 'process closed', 'loaded', 'begun'
@@ -85,15 +85,15 @@ def event_of(entry: Entry, before: int) -> Event | None:
     before, for lines that have none."""
     for kind, pattern in STAMPED:
         if found := pattern.fullmatch(entry.text):
-            moment = zoned(found['time']) if found['time'] else int(found['moment'])
-            return None if moment is None else made(entry, kind, found, moment)
+            moment = moment_with_zone(found['time']) if found['time'] else int(found['moment'])
+            return None if moment is None else make_event(entry, kind, found, moment)
     for kind, pattern in BARE:
         if found := pattern.fullmatch(entry.text):
-            return made(entry, kind, found, before if entry.moment is None else entry.moment)
+            return make_event(entry, kind, found, before if entry.moment is None else entry.moment)
     return None
 
 
-def made(entry: Entry, kind: str, found: re.Match[str], moment: int) -> Event:
+def make_event(entry: Entry, kind: str, found: re.Match[str], moment: int) -> Event:
     parts = {name: text for name, text in found.groupdict().items() if text is not None}
     number = parts.get('association')
 

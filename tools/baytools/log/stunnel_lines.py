@@ -88,7 +88,7 @@ class Door:
         if STARTED.match(found['text']):
             self.current = {key: it for key, it in self.current.items() if key[0] != entry.source}
         if moment is not None:
-            self.notes += noted(moment, found)
+            self.notes += notes_in_line(moment, found)
             self.reads(entry.source, found['number'], moment, found['text'])
         return True
 
@@ -101,7 +101,7 @@ class Door:
             note_line(self.current[source, number], moment, text)
 
 
-def noted(moment: int, found: re.Match[str]) -> list[Note]:
+def notes_in_line(moment: int, found: re.Match[str]) -> list[Note]:
     """What a line says of stunnel itself: that it starts or ends, and errors of its own."""
     told = next((words for pattern, words in OWN if pattern.match(found['text'])), '')
     if told:

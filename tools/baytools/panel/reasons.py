@@ -4,23 +4,34 @@ from baytools.audit.proofs import Derived
 from baytools.bay.conditions import Condition
 from baytools.bay.names import UNIT
 from baytools.common.positions import POSITIONS
-from baytools.common.texts import raised
+from baytools.common.texts import upcase
 
 STILL = 'the program does not release it'
 
 
 class Seen:
-    """What a client sees of a bay: positions and measured values, by names in upper case. Inputs
-    are shown to no client, and may have the name of a switch."""
+    """What a client sees of a bay: positions, measured values and inputs, by names in upper case.
+    Inputs are seen in profile 2 alone, and may have the name of a switch."""
 
-    def __init__(self, positions: dict[str, str], measures: dict[str, int]) -> None:
-        self.positions = positions
+    def __init__(self, positions: dict[str, str], measures: dict[str, int],
+                 inputs: dict[str, bool] | None = None,
+                 units: dict[str, str] | None = None) -> None:
+        self.positions, self.units = positions, units or {}
         self.measures = {name: str(value) for name, value in measures.items()}
+        self.inputs = {name: str(int(value)) for name, value in (inputs or {}).items()}
 
     def value(self, variable) -> str | None:
         is_position = set(variable.values) <= set(POSITIONS)
-        value = (self.positions if is_position else self.measures).get(raised(variable.name))
+        known = self.positions if is_position else (
+            self.inputs if variable.is_truth else self.measures)
+        value = known.get(upcase(variable.name))
         return value if value is None else variable.word_of(value)
+
+    def unit(self, variable) -> str:
+        """The unit of a variable that is a measured value, behind its value; else nothing."""
+        if variable.is_truth or set(variable.values) <= set(POSITIONS):
+            return ''
+        return ' ' + (self.units.get(upcase(variable.name)) or UNIT)
 
     def missing(self, product: list) -> tuple[list[str], list[str]]:
         """What of a product does not hold, and what of it nobody sees here, in words."""
@@ -30,7 +41,7 @@ class Seen:
             if value is None:
                 unseen.append(input_text(variable, allowed))
             elif value not in allowed:
-                broken.append(fact_text(variable, value, allowed))
+                broken.append(fact_text(variable, value + self.unit(variable), allowed))
         return broken, unseen
 
 
@@ -39,8 +50,8 @@ def fact_text(variable, value, allowed) -> str:
     lead, named = 'be', allowed
     if 2 * len(allowed) > len(variable.values):
         lead, named = 'not be', [word for word in variable.values if word not in allowed]
-    unit = '' if set(variable.values) <= set(POSITIONS) else f' {UNIT}'
-    return f'{variable.name} is {value}{unit} and must {lead} {" or ".join(named)}'
+    kind = 'input ' if variable.is_truth else ''
+    return f'{kind}{variable.name} is {value} and must {lead} {" or ".join(named)}'
 
 
 def input_text(variable, allowed) -> str:

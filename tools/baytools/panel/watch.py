@@ -5,16 +5,16 @@ import json
 import threading
 import time
 
-from baytools.bay.names import Names
+from baytools.bay.names import INPUTS, Names, unit_text
 from baytools.common import moments
 from baytools.common.ending import Failed
-from baytools.common.texts import raised
+from baytools.common.texts import upcase
 from baytools.diagnosis.language import FIELDS
 from baytools.wire import mms, words
 from baytools.wire.client import Client, Lost
 from baytools.wire.mms import Failure
-from baytools.wire.same_bay import compared
-from baytools.wire.sockets import unconnected
+from baytools.wire.same_bay import compare_with_server
+from baytools.wire.sockets import why_unconnected
 from baytools.wire.tls import server_of
 
 from .broadcast import Publisher
@@ -33,6 +33,8 @@ POSITION = {'stVal': mms.BITS, 'q': mms.BITS, 't': mms.TIME}
 POSITIONS = POSITION | {'stSeld': mms.BOOLEAN}, POSITION
 MEASURED = {'mag': {'i': mms.INTEGER}, 'q': mms.BITS, 't': mms.TIME}
 PHASE = {'cVal': {'mag': {'i': mms.INTEGER}}, 'q': mms.BITS, 't': mms.TIME}
+BEHAVIOUR = {'stVal': mms.INTEGER, 'q': mms.BITS, 't': mms.TIME}
+INPUT = {'stVal': mms.BOOLEAN, 'q': mms.BITS, 't': mms.TIME}
 METER = {**dict.fromkeys(('TotW', 'TotVAr', 'Hz'), MEASURED),
          'A': dict.fromkeys(('phsA', 'phsB', 'phsC'), PHASE)}
 
@@ -53,14 +55,15 @@ class Watcher(Publisher):
     def __init__(self, file, text, host, port, anyway=False, tls=None) -> None:
         super().__init__()
         self.file, self.text, self.host, self.port = file, text, host, port
+        self.inputs = Names(text).inputs
         self.anyway, self.differs, self.tls = anyway, [], tls
         self.conditions, self.lock, self.client = None, threading.RLock(), None
         self.last_read: int | None = None
         self.events = collections.deque(maxlen=KEPT)
         self.on_said, self.on_read = [], []
         self.state = {'bay': file['bay']['domain'], 'connected': False, 'told': 'connecting',
-                      'switches': [], 'measures': [], 'control': None, 'barred': '', 'read': '',
-                      'process': '', 'lost': False}
+                      'switches': [], 'measures': [], 'inputs': [], 'control': None, 'barred': '',
+                      'read': '', 'process': '', 'lost': False}
 
     # ---- those who look
 
@@ -103,7 +106,7 @@ class Watcher(Publisher):
         client = Client(self.host, self.port, Names(self.text), on_report=lambda told: None,
                         tls=self.tls)
         client.on_said = self.on_report
-        held = compared(client, self.file)
+        held = compare_with_server(client, self.file)
         if any(node.startswith(READ) for node in held.absent):
             client.close()
             raise Lost('; '.join(held.lines()))
@@ -125,7 +128,7 @@ class Watcher(Publisher):
         self.differs = found
 
     def lose(self, error) -> None:
-        told = unconnected(error) if isinstance(error, OSError) else str(error)
+        told = why_unconnected(error) if isinstance(error, OSError) else str(error)
         with self.lock:
             if self.client:
                 self.client.socket.close()
@@ -153,16 +156,19 @@ class Watcher(Publisher):
                      for name in (f'CSWI{at}$ST$Pos', f'CILO{at}$ST$EnaOpn$stVal',
                                   f'CILO{at}$ST$EnaCls$stVal')]
             names += [f'MMXU{at}$MX' for at in range(1, len(meters) + 1)]
+            names += [f'{INPUTS}$ST'] if self.inputs else []
             values = [value for _, value in self.client.read(names)]
             if any(isinstance(value, Failure) for value in values):
                 raise Lost('the server has other names than the bay file')
             measures = [it for meter, value in zip(meters, values[3 * len(switches):])
                         for it in measures_of(meter, value)]
+            inputs = inputs_of(self.inputs, values[-1]) if self.inputs else []
             found = [switch_of(switch, *values[3 * at:3 * at + 3])
                      for at, switch in enumerate(switches)]
-            self.explain(found, measures)
+            self.explain(found, measures, inputs)
             self.compare(found)
-            self.state.update(switches=found, measures=measures,
+            self.compare_inputs(inputs)
+            self.state.update(switches=found, measures=measures, inputs=inputs,
                               process=process_text(found, measures),
                               lost=is_process_lost(found, measures))
             self.last_read = now()
@@ -171,10 +177,12 @@ class Watcher(Publisher):
             last = self.events and self.events[-1]
             return before != (json.dumps(self.state), len(self.events), last)
 
-    def explain(self, found, measures) -> None:
+    def explain(self, found, measures, inputs=()) -> None:
         """Says why something may not be done."""
-        seen = Seen({raised(it['id']): it['position'] for it in found},
-                    {raised(it['name']): it['value'] for it in measures})
+        seen = Seen({upcase(it['id']): it['position'] for it in found},
+                    {upcase(it['name']): it['value'] for it in measures},
+                    {upcase(it['name']): it['value'] for it in inputs},
+                    {upcase(it['name']): it['unit'] for it in measures})
         is_lost = is_process_lost(found, measures)
         for it in found:
             for way, name in enumerate(('open', 'close')):
@@ -198,6 +206,13 @@ class Watcher(Publisher):
                 self.event(f'{new["id"]} is {"" if new["selected"] else "no longer "}selected')
             for told in may_text(old, new) if old else ():
                 self.event(f'{new["id"]} {told}')
+
+    def compare_inputs(self, found) -> None:
+        """Notes which inputs have changed since the last read."""
+        for old, new in zip(self.state['inputs'] or [{}] * len(found), found):
+            if (old.get('value'), old.get('quality')) != (new['value'], new['quality']):
+                told = f'is {truth_text(new)}' if new['quality'] == 'good' else 'is not known'
+                self.event(f'input {new["name"]} {told}', 'position', new['moment'])
 
     def stop(self) -> None:
         """Ends the reading; a server that doesn't let go is left."""
@@ -261,5 +276,26 @@ def measures_of(meter, value) -> list:
     found += [(part.value[0].value[0].value[0].value, part.value[1].value)
               for part in phases.value]
     return [{'name': f'{meter["id"]}_{field}', 'value': number,
+             'unit': unit_text(field, meter.get('scale')),
              'quality': words.VALIDITIES[quality[:2]]}
             for field, (number, quality) in zip(FIELDS, found)]
+
+
+def inputs_of(names, value) -> list:
+    """The inputs, as they were read."""
+    shape = {'Beh': BEHAVIOUR} | {f'Ind{at}': INPUT for at in range(1, len(names) + 1)}
+    if not words.fits(shape, value):
+        raise Lost(f'the server gives the inputs values of another type than {INPUTS} has')
+    return [input_of(name, *(part.value for part in it.value))
+            for name, it in zip(names, value.value[1:])]
+
+
+def input_of(name, value, quality, moment) -> dict:
+    is_moment = isinstance(moment, int)
+    return {'name': name, 'value': value, 'quality': words.VALIDITIES[quality[:2]],
+            'moment': moment if is_moment else 0,
+            'time': time_text(moment) if is_moment and moment else ''}
+
+
+def truth_text(it) -> str:
+    return 'TRUE' if it['value'] else 'FALSE'

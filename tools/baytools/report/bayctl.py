@@ -111,10 +111,10 @@ def run_from_sources(asks: Sequence[Ask]) -> list[Answer]:
     if not USUAL.is_said:
         complain(SAID)
     USUAL.is_said = True
-    return tried(asks)
+    return answers_by_try(asks)
 
 
-def tried(asks: Sequence[Ask]) -> list[Answer]:
+def answers_by_try(asks: Sequence[Ask]) -> list[Answer]:
     """The answers to several asks, by one run of `rt try`."""
     for ask in asks:
         if ask.words[:1] and ask.words[0] in NEVER:

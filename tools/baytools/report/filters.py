@@ -6,7 +6,7 @@ from dataclasses import dataclass
 
 from baytools.common import moments
 from baytools.common.ending import Parser, UsageError
-from baytools.common.texts import raised
+from baytools.common.texts import upcase
 
 
 @dataclass(frozen=True)
@@ -27,7 +27,7 @@ class Picked:
         return not self.clients or place == '' or int(str(place)) in self.clients
 
     def has_switch(self, name: str) -> bool:
-        return not self.switches or raised(name) in self.switches
+        return not self.switches or upcase(name) in self.switches
 
     def lines(self, lines: Sequence[str]) -> list[str]:
         """Of the lines of one thing that happened those that name a switch, behind the first."""
@@ -35,7 +35,7 @@ class Picked:
         return found if not found or found[0] is lines[0] or len(lines) == 1 else [lines[0], *found]
 
     def names_one(self, line: str) -> bool:
-        return not self.switches or any(raised(word) in self.switches for word in
+        return not self.switches or any(upcase(word) in self.switches for word in
                                         re.findall(r'[A-Za-z0-9]+', line))
 
 
@@ -58,12 +58,12 @@ def picked_by(chosen: argparse.Namespace, known: Sequence[str] = ()) -> Picked:
     odd = next((it for it in clients if not re.fullmatch('[0-9]{1,9}', it)), None)
     if odd:
         raise UsageError(f'--client {odd}: it is the number of an association, as 2')
-    names = {raised(it) for it in known}
-    unknown = next((it for it in switches if known and raised(it) not in names), None)
+    names = {upcase(it) for it in known}
+    unknown = next((it for it in switches if known and upcase(it) not in names), None)
     if unknown:
         raise UsageError(f'--switch {unknown}: the bay has no such switch; it has '
                          f'{", ".join(known)}')
     if None not in (chosen.first, chosen.behind) and chosen.first >= chosen.behind:
         raise UsageError('--from is not before --to')
-    return Picked(frozenset(map(raised, switches)), frozenset(map(int, clients)), chosen.first,
+    return Picked(frozenset(map(upcase, switches)), frozenset(map(int, clients)), chosen.first,
                   chosen.behind)

@@ -1,8 +1,9 @@
 """What became of a scenario or of a captured session over time: positions, releases, inputs,
 measures, clients, commands and refusals."""
+from baytools.bay.names import unit_text
 from baytools.common import moments
 from baytools.common.positions import POSITIONS, WAYS
-from baytools.common.texts import raised
+from baytools.common.texts import upcase
 from baytools.diagnosis.trace import BAD
 from baytools.wire.captured import continue_after_gap, conversation_of, first_stream
 from baytools.wire.conversation import Conversation, got_of
@@ -11,6 +12,8 @@ from baytools.wire.words import cause_text
 from .clients import Client, Mark, Track
 from .filters import Picked
 from .replay import CODES, REASONS
+
+PROCESS_UNIT = 'process unit'  # of a measured value for which the bay file names none
 
 
 class History:
@@ -22,9 +25,10 @@ class History:
     def __init__(self, bay, report='', picked=Picked()) -> None:
         self.picked, self.is_begun = picked, picked.first is None
         self.bay, self.report, self.ending, self.falling = bay, report, '', 0
-        self.switches = {raised(s['id']): Track(s['id'], s['kind']) for s in bay['switch']}
-        self.inputs = {raised(i['name']): Track(i['name'], 'input') for i in bay.get('input', [])}
-        self.meters = {raised(m['id']): m['id'] for m in bay.get('meter', [])}
+        self.switches = {upcase(s['id']): Track(s['id'], s['kind']) for s in bay['switch']}
+        self.inputs = {upcase(i['name']): Track(i['name'], 'input') for i in bay.get('input', [])}
+        self.meters = {upcase(m['id']): m['id'] for m in bay.get('meter', [])}
+        self.scales = {m['id']: m.get('scale') for m in bay.get('meter', [])}
         self.opens = {key: Track('may be opened') for key in self.switches}
         self.closes = {key: Track('may be closed') for key in self.switches}
         self.commands = {key: [] for key in self.switches}
@@ -152,7 +156,7 @@ class History:
 
     def event(self, moment, words) -> None:
         """A contact, an input or a measure."""
-        key = raised(words[1])
+        key = upcase(words[1])
         if words[0] == 'contact':
             self.switches[key].set(moment, POSITIONS[int(words[2])])
         elif words[0] == 'input':
@@ -164,7 +168,9 @@ class History:
         """A measured value, or that it is bad: then it stays what it was. Before the first one it
         is invalid anyway."""
         if value != BAD:
-            self.measures.setdefault(label, Track(label, 'process unit')).set(moment, int(value))
+            meter, _, field = label.rpartition('_')
+            unit = unit_text(field, self.scales.get(meter)) or PROCESS_UNIT
+            self.measures.setdefault(label, Track(label, unit)).set(moment, int(value))
         if label in self.measures:
             self.doubts.setdefault(label, Track(label)).set(moment, value == BAD)
 
@@ -199,7 +205,7 @@ class History:
             self.control(step.moment, place, said, place)
         if step.command:
             name, way = step.command
-            self.commands[raised(name)].append((step.moment, WAYS[way]))
+            self.commands[upcase(name)].append((step.moment, WAYS[way]))
         if step.scan:
             self.scan(step.moment, step.scan)
         if step.closed and self.picked.has_client(step.closed[0]):
@@ -234,6 +240,6 @@ class History:
         self.scans.append(moment)
         for part in line.split(' ')[2:]:
             name, _, digits = part.partition('=')
-            if raised(name) in self.switches:
-                self.opens[raised(name)].set(moment, digits[:1] == '1')
-                self.closes[raised(name)].set(moment, digits[1:2] == '1')
+            if upcase(name) in self.switches:
+                self.opens[upcase(name)].set(moment, digits[:1] == '1')
+                self.closes[upcase(name)].set(moment, digits[1:2] == '1')

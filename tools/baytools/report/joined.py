@@ -75,7 +75,7 @@ def read_lines(text: str) -> list[tuple[int, str]]:
     return found
 
 
-def merged(parts: list) -> str:
+def merge_traces(parts: list) -> str:
     """One trace of several, each a list of moments and lines, in the order of their moments. Where
     some count from 1970, the lines of others come first, when the session begins."""
     clocks = [moment for part in parts for moment, _ in part if is_clock(moment)]
@@ -88,10 +88,10 @@ def merged(parts: list) -> str:
 def trace_of(events: list, told: str) -> str:
     """All lines of a session, joined with those of the process."""
     check_whole(events)
-    return merged([read_lines(told), list(lines_of(events))]) + '\n'
+    return merge_traces([read_lines(told), list(lines_of(events))]) + '\n'
 
 
-def renumbered(parts: list) -> list:
+def renumber(parts: list) -> list:
     """The same lines, the associations of each part with numbers of their own."""
     numbers, found = {}, []
     for at, part in enumerate(parts):

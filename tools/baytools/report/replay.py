@@ -7,7 +7,7 @@ from dataclasses import dataclass, field
 from baytools.bay.files import octets_of, tables_of
 from baytools.bay.names import Names
 from baytools.common.ending import FOUND, UNREACHED, Failed
-from baytools.common.texts import raised
+from baytools.common.texts import upcase
 from baytools.diagnosis.trace import Known, number_of
 from baytools.wire.conversation import Conversation, replies_to, report_in
 
@@ -64,9 +64,9 @@ class Replay:
         self.lines = [line.split(' ') for line in reversed(lines)]
         self.trace, self.last, self.ending = trace, 0, ''
         self.conversations, self.forms = {}, Known(self.file, is_replay=True)
-        self.known = {'contact': {raised(s['id']) for s in self.file['switch']},
-                      'input': {raised(i['name']) for i in self.file.get('input', [])},
-                      'measure': {raised(m['id']) for m in self.file.get('meter', [])}}
+        self.known = {'contact': {upcase(s['id']) for s in self.file['switch']},
+                      'input': {upcase(i['name']) for i in self.file.get('input', [])},
+                      'measure': {upcase(m['id']) for m in self.file.get('meter', [])}}
 
     def ending_text(self) -> str:
         """How the replay ended where that was early: what happened, and where."""
@@ -131,7 +131,7 @@ class Replay:
             if not 1 <= place <= 8 or (verb != 'open' and place not in self.conversations):
                 return 111
             return 112 if verb == 'open' and place in self.conversations else None
-        return 113 if verb in self.known and raised(rest[0]) not in self.known[verb] else None
+        return 113 if verb in self.known and upcase(rest[0]) not in self.known[verb] else None
 
     def take(self, step) -> None:
         """What was printed for an accepted event."""
@@ -179,7 +179,7 @@ class Replay:
             self.take_sent(step)
         if self.is_next(step, 'command'):
             step.command = tuple(self.line('command')[2:])
-            if raised(step.command[0]) not in self.known['contact']:
+            if upcase(step.command[0]) not in self.known['contact']:
                 raise LookupError(step.command[0])
         ends = replies or any(got.kind in ENDINGS for got in step.heard)
         if ends and self.is_next(step, 'closed', str(place)):
@@ -212,7 +212,7 @@ class NotLoaded(Failed):
         self.status = FOUND if is_refusal else UNREACHED
 
 
-def replayed(octets: bytes | None, bayctl, report=None) -> tuple[str, int]:
+def report_of_replay(octets: bytes | None, bayctl, report=None) -> tuple[str, int]:
     """What bayctl prints for a scenario: the report in a file, or a run of the program."""
     if report:
         if str(report) == '-' and sys.stdin is None:

@@ -12,7 +12,7 @@ import textwrap
 from collections.abc import Iterable, Iterator
 from dataclasses import dataclass, field
 
-from baytools.common.texts import raised
+from baytools.common.texts import upcase
 from baytools.diagram.network import (BREAKER, DISCONNECTOR, EARTHING, NOT_DEAD, TERMINALS,
                                       TRANSFORMER, BadDiagram, Network, Part, Switch)
 
@@ -59,7 +59,7 @@ class Demand:
 
     def covers(self, other: 'Demand') -> bool:
         """Whether whatever breaks the other rule breaks this one."""
-        return (raised(self.switch) == raised(other.switch) and set(self.ways) >= set(other.ways)
+        return (upcase(self.switch) == upcase(other.switch) and set(self.ways) >= set(other.ways)
                 and all(it.follows(other.parts) for it in self.parts)
                 and all(any(it.is_against(other.parts) for it in mine)
                         or any(set(its) <= set(mine) for its in other.unless)
@@ -268,7 +268,7 @@ def inputs_of_other_bays(network: Network) -> list[str]:
                               for it in path.switches if not it.is_own))
 
 
-def noted(text: str, mark: str = '# ') -> list[str]:
+def as_comment(text: str, mark: str = '# ') -> list[str]:
     """A comment of a file of rules."""
     return textwrap.wrap(text, WIDTH, initial_indent=mark, subsequent_indent=mark,
                          break_long_words=False, break_on_hyphens=False)
@@ -276,20 +276,23 @@ def noted(text: str, mark: str = '# ') -> list[str]:
 
 def text_of(network: Network, domain: str) -> str:
     """The rules as a file for tools/audit and `bayctl audit`."""
-    lines = noted(f'What the single line diagram {network.title} asks of bay {domain}; written by '
-                  'tools/rules. A position that is not known counts as the worse of both, and only '
-                  'an open disconnector keeps apart.')
+    lines = as_comment(
+        f'What the single line diagram {network.title} asks of bay {domain}; written by '
+        'tools/rules. A position that is not known counts as the worse of both, and only '
+        'an open disconnector keeps apart.')
     inputs = inputs_of_other_bays(network)
     if inputs:
-        lines += noted('While a disconnector of this bay moves beside a closed path, the programs '
-                       f'of other bays must keep it closed: {", ".join(inputs)}.')
+        lines += as_comment(
+            'While a disconnector of this bay moves beside a closed path, the programs '
+            f'of other bays must keep it closed: {", ".join(inputs)}.')
     if network.selects_more():
-        lines += noted('The diagram selects hazards by the keys live_parts, fed_earths, synchro '
-                       'or coupler: no rule covers these. An audit with --diagram judges them.')
+        lines += as_comment(
+            'The diagram selects hazards by the keys live_parts, fed_earths, synchro '
+            'or coupler: no rule covers these. An audit with --diagram judges them.')
     head = ''
     for one in demands_of(network):
         if one.head != head:
             head = one.head
-            lines += ['', *noted(head)]
-        lines += [*(line for why in one.why for line in noted(why, '#   ')), one.text()]
+            lines += ['', *as_comment(head)]
+        lines += [*(line for why in one.why for line in as_comment(why, '#   ')), one.text()]
     return '\n'.join(lines) + '\n'

@@ -6,7 +6,7 @@ from typing import Any
 
 from baytools.audit.hazards import Judgement, rows_of
 from baytools.common import page_head
-from baytools.common.html_page import A4, code, escaped, page, signatures, table
+from baytools.common.html_page import A4, code, as_html, page, signatures, table
 from baytools.diagram.network import Network
 
 from .demands import demands_of, inputs_of_other_bays
@@ -21,7 +21,7 @@ def page_of(network: Network, bay: dict[str, Any], picture: str,
     about = [('Bay', bay['domain']),
              ('Device', f'{bay["vendor"]} {bay["model"]}, {bay["revision"]}'),
              ('Diagram', network.title)]
-    parts = [f'<h1>{escaped(title)}</h1>', *page_head.head('tools/rules', moment, about, sources),
+    parts = [f'<h1>{as_html(title)}</h1>', *page_head.head('tools/rules', moment, about, sources),
              '<p>What the diagram asks of the interlocking. No program was asked whether it keeps '
              'the rules: tools/audit does that. A position that is not known counts as the worse '
              'of both.</p>', *elsewhere(network), signatures(),
@@ -42,6 +42,6 @@ def rules(network: Network) -> list[str]:
     """The rules under what each of them is for."""
     found = []
     for head, some in itertools.groupby(demands_of(network), lambda it: it.head):
-        rows = [(code(it.text()), '<br>'.join(escaped(why) for why in it.why)) for it in some]
-        found += [f'<h2>{escaped(head)}</h2>', table(['Rule', 'Why, and by which path'], rows)]
+        rows = [(code(it.text()), '<br>'.join(as_html(why) for why in it.why)) for it in some]
+        found += [f'<h2>{as_html(head)}</h2>', table(['Rule', 'Why, and by which path'], rows)]
     return found

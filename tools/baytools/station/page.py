@@ -2,7 +2,7 @@
 import socket
 
 from baytools.common.paths import DATA
-from baytools.common.texts import counted
+from baytools.common.texts import quantity
 from baytools.panel import web
 
 from .servers import Station
@@ -18,4 +18,4 @@ class StationPages(web.Site):
 
     def parts(self) -> dict[str, str]:
         return {**super().parts(), 'HOST': socket.gethostname(),
-                'COUNT': counted(self.count, 'bay')}
+                'COUNT': quantity(self.count, 'bay')}

@@ -3,7 +3,8 @@ from baytools.bay.names import UNIT
 from baytools.common import moments
 from baytools.common.positions import POSITIONS
 from baytools.common.svg import COMMAND, FAINT, FREE, GRID, INK, SMALL, WARN, Picture, room
-from baytools.common.texts import counted
+from baytools.common.texts import quantity
+from baytools.report.history import PROCESS_UNIT
 
 UNKNOWN = 'not yet reported'
 
@@ -149,7 +150,7 @@ def draw_client(picture, history, client) -> None:
     """When a client was connected, a tick where it was in talk with the server, a bar for reads
     that repeat, and its controls, granted or refused."""
     scale, line, label = picture.scale, picture.y + 8, f'Client {client.name()}'
-    picture.lane(label, counted(len(client.marks), 'control'), line)
+    picture.lane(label, quantity(len(client.marks), 'control'), line)
     for start, end, value in client.open.spells(scale.start, scale.end):
         if value:
             picture.path([(scale.x(start), line), (scale.x(end), line)], INK, 1.5,
@@ -301,7 +302,8 @@ def draw_measure(picture, track, doubt) -> None:
     picture.path([(scale.x(scale.start), base), (scale.x(scale.end), base)], GRID, 1)
     picture.path([(scale.x(scale.start), zero), (first, zero)], '#6a3d9a', dash='2 3',
                  tip=f'{track.label}, not yet measured')
-    picture.path(points, '#6a3d9a', tip=f'{track.label}, {UNIT}')
+    unit = UNIT if track.note == PROCESS_UNIT else track.note
+    picture.path(points, '#6a3d9a', tip=f'{track.label}, {unit}')
     picture.y += height + 26
 
 
@@ -396,8 +398,9 @@ def page_of(picture, history, heading, top, bottom) -> str:
 def all_text(history) -> str:
     """The description for readers."""
     names = ', '.join(track.label for track in history.switches.values())
+    scans = quantity(len(history.scans), 'scan')
     told = (f'Positions of {names} over time, what the interlocking of each allowed after each of '
-            f'{counted(len(history.scans), "scan")}, inputs and measures') if names else 'A session'
+            f'{scans}, inputs and measures') if names else 'A session'
     return told + talk_text(history)
 
 
@@ -407,7 +410,7 @@ def talk_text(history) -> str:
     controls = sum(len(it.marks) for it in history.clients.values())
     clients, what = '', 'events'
     if history.clients:
-        done = counted(commands, 'command') if history.switches else counted(controls, 'control')
-        clients = f', what {counted(len(history.clients), "client")} asked, and {done}'
+        done = quantity(commands, 'command') if history.switches else quantity(controls, 'control')
+        clients = f', what {quantity(len(history.clients), "client")} asked, and {done}'
         what = 'events and requests'
     return f'{clients}. Refused {what}: {len(history.refusals)}.'

@@ -55,7 +55,7 @@ def field(octets: bytes, tag: int, default: bytes | None = None) -> bytes | None
     return next((content for t, content in elements(octets) if t == tag), default)
 
 
-def needed(octets: bytes, tag: int) -> bytes:
+def need(octets: bytes, tag: int) -> bytes:
     content = field(octets, tag)
     if content is None:
         raise Unreadable(f'no element {tag:02X}')

@@ -11,8 +11,8 @@ from . import mms, stream, words
 from .ber import Unreadable
 from .conversation import Conversation, Description
 from .mms import Data, Failure
-from .sockets import is_taken, unconnected
-from .tls import ALERT, Tls, connected, refusal_in
+from .sockets import is_taken, why_unconnected
+from .tls import ALERT, Tls, open_connection, refusal_in
 
 TOGETHER, PATIENCE, PARTING = 32, 10, 2  # variables of a request; seconds for an answer, at the end
 SHOWN, COUNTS = 12, 256  # octets that are told; values of a ctlNum
@@ -57,7 +57,7 @@ class Client:
         self.waiting, self.invoke, self.size, self.cause, self.controls = [], 0, 8192, None, 0
         self.came, self.is_lost, self.end = b'', False, time.monotonic() + timeout
         self.on_said = lambda said: None
-        self.socket = connected(host, port, timeout, tls)
+        self.socket = open_connection(host, port, timeout, tls)
         try:
             self.open()
         except BaseException:
@@ -69,7 +69,7 @@ class Client:
         self.note('open')
         self.size = self.confirmed().size or 65_531
         self.begin()
-        self.send(stream.wrapped(stream.association_request(mms.initiate_request()), self.size))
+        self.send(stream.tpkt_frames(stream.association_request(mms.initiate_request()), self.size))
         try:
             self.next('accept')
         except TimeoutError:
@@ -84,7 +84,7 @@ class Client:
         except (ConnectionError, ssl.SSLEOFError) as error:
             what = f'port {self.port} of {self.host}'
             if self.tls is None:
-                raise Lost(f'{what}: {unconnected(error)}: a port of TLS needs --tls') from None
+                raise Lost(f'{what}: {why_unconnected(error)}: a port of TLS needs --tls') from None
             raise Lost(f'{what}: {refusal_in(self.socket, error)}') from None
 
     def first_answer(self) -> stream.Got:
@@ -160,7 +160,7 @@ class Client:
             self.begin()
         self.conversation.describe_mms(octets)
         try:
-            self.send(stream.wrapped(stream.data_tsdu(octets), self.size))
+            self.send(stream.tpkt_frames(stream.data_tsdu(octets), self.size))
             pdu = self.response()
         except TimeoutError:
             raise self.lost(f'gave no whole answer within {self.timeout:g} s') from None
@@ -223,12 +223,13 @@ class Client:
     def full(self, item: str) -> str:
         return item if '/' in item else f'{self.domain()}/{item}'
 
-    def names(self) -> list[str]:
-        """All names of the logical device, page by page."""
+    def names(self, of_class: int = mms.VARIABLES) -> list[str]:
+        """All names of a class in the logical device, page by page."""
         found, more, domain = {}, True, self.domain()
         self.begin()
         while more:
-            page = self.ask(mms.names_request, domain, next(reversed(found), None), is_begun=True)
+            page = self.ask(mms.names_request, domain, next(reversed(found), None), of_class,
+                            is_begun=True)
             before, more = len(found), page.more
             found |= dict.fromkeys(page.names)
             if more and len(found) == before:
@@ -280,7 +281,7 @@ class Client:
         try:
             if not self.is_lost:
                 self.end = time.monotonic() + min(self.timeout, PARTING)
-                self.send(stream.wrapped(stream.release_request(), self.size))
+                self.send(stream.tpkt_frames(stream.release_request(), self.size))
                 self.next('released')
         except (OSError, Failed):
             self.note('close')
@@ -310,4 +311,4 @@ def silence_text(is_taken_there: bool | None, is_tls: bool) -> str:
 
 def connection_text(error: OSError, host: str, port: int) -> str:
     """Why there is no connection."""
-    return f'port {port} of {host}: {unconnected(error)}'
+    return f'port {port} of {host}: {why_unconnected(error)}'

@@ -37,11 +37,22 @@ class Control:
             raise Refused(f'{switch} is not a switch: give its control as CSWI1, or its id with '
                           '--bay FILE')
         self.name = client.bay.ids.get(self.node, self.node)
-        item = f'{self.node}$CF$Pos$ctlModel'
-        (_, model), = client.read([item])
+        self.is_described = client.bay.profile == 2 and self.node in client.bay.ids
+        item, plate = f'{self.node}$CF$Pos$ctlModel', f'{self.node}$DC$NamPlt$d'
+        (_, model), *told = client.read([item, plate] if self.is_described else [item])
         if isinstance(model, Failure):
             raise Refused(f'{self.name}: {words.value_text("", model)}')
         self.model = client.typed(item, model, mms.INTEGER)
+        for _, found in told:
+            self.compare_name(found)
+
+    def compare_name(self, found: mms.Data | Failure) -> None:
+        """Refuses where the server says that this control is of another switch than the one that
+        was named. A server of profile 1 says nothing of it."""
+        told = None if isinstance(found, Failure) else found.value
+        if told not in (None, self.name):
+            raise Refused(f'{self.name}: the server says that {self.node} is {told}, so nothing is '
+                          'operated')
 
     def item(self, word: str) -> str:
         return f'{self.node}$CO$Pos${word}'
@@ -133,9 +144,19 @@ class Control:
         there = ' already' if position == ENDS[on] else ''
         told = f'{self.name} is {words.POSITIONS[position]}{there}, {" and ".join(ways)}'
         if (key := self.client.bay.key(self.name)) and not self.has_termination():
-            told += f'; its key {key} must be at remote, which is not seen here'
+            told += f'; its key {key} {self.key_text()}'
         moving = [name for name, found in others.items() if found == (INTERMEDIATE, GOOD)]
         return told + (f'; still moving: {", ".join(moving)}' if moving else '')
+
+    def key_text(self) -> str:
+        """Whether the key of the switch is at remote, which only a server of profile 2 says."""
+        own = next((node for node, name in self.client.bay.ids.items()
+                    if name == self.name and node.startswith(('XCBR', 'XSWI'))), None)
+        if self.is_described and own:
+            (_, local), = self.client.read([f'{own}$ST$Loc$stVal'])
+            if isinstance(local, mms.Data):
+                return f'is at {"local" if local.value else "remote"}'
+        return 'must be at remote, which is not seen here'
 
     def others(self) -> dict[str, tuple[str, str]]:
         """The positions of the other switches with their validities: before its first report a

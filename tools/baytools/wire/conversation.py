@@ -9,6 +9,7 @@ from .mms import Failure
 from .stream import CC, Got, Stream
 
 ASKED = {'SBO': 'select', 'SBOw': 'select', 'Oper': 'operate', 'Cancel': 'cancel'}
+CLASSES = {0: '', 2: ', data sets', 8: ', logs', 9: ', domains'}  # of a getNameList
 REFUSED_READ = mms.Data(mms.TEXT, '')
 
 
@@ -73,9 +74,9 @@ class Conversation:
         """A message of the client, in words."""
         if got.kind == 'CR':
             return Description('connect', 'asks for',
-                               [f'a transport connection, {sized(got.size)}'])
+                               [f'a transport connection, {tpdu_size_text(got.size)}'])
         if got.kind == 'associate':
-            return Description('connect', 'asks for', ['an association' + proposed(got.octets)])
+            return Description('connect', 'asks for', ['an association' + proposal(got.octets)])
         if got.kind == 'mms':
             return self.describe_mms(got.octets)
         told = {'finish': ('ends', 'its association (FINISH)'),
@@ -101,17 +102,18 @@ class Conversation:
         if pdu.kind == 'conclude':
             return Description('end', 'asks', ['to conclude'])
         if pdu.kind != 'request':
-            return Description('read', f'asks{numbered(pdu)}', [pdu.service or pdu.kind],
+            return Description('read', f'asks{number_in(pdu)}', [pdu.service or pdu.kind],
                                pdu.invoke)
         switch, kind = self.controlled(pdu)
         if switch:
-            return Description(kind, f'asks{numbered(pdu)}', [self.control_text(kind, switch, pdu)],
-                               pdu.invoke, switch, operation_word(pdu))
+            return Description(kind, f'asks{number_in(pdu)}',
+                               [self.control_text(kind, switch, pdu)], pdu.invoke, switch,
+                               operation_word(pdu))
         tell = {'names': self.names_lines, 'read': self.read_lines, 'write': self.write_lines,
                 'attributes': self.type_lines}.get(pdu.service)
         lines = tell(pdu) if tell else ['who the server is' if pdu.service == 'identify'
                                         else pdu.service]
-        return Description(pdu.service, f'asks{numbered(pdu)}', lines, pdu.invoke)
+        return Description(pdu.service, f'asks{number_in(pdu)}', lines, pdu.invoke)
 
     def controlled(self, pdu) -> tuple:
         """The switch and the kind of a request that selects, operates or cancels, and asks nothing
@@ -144,16 +146,16 @@ class Conversation:
 
     def names_lines(self, pdu) -> list:
         what = f'the names of {pdu.names[0]}' if pdu.names else 'the names of the server'
-        kind = {0: '', 9: ', domains'}.get(pdu.code[0], f', class {pdu.code[0]}')
+        kind = CLASSES.get(pdu.code[0], f', class {pdu.code[0]}')
         return [what + kind + (f', behind {pdu.after}' if pdu.after is not None else '')]
 
     def read_lines(self, pdu) -> list:
-        return listed('read', [self.bay.titled(name) for name in pdu.names])
+        return list_lines('read', [self.bay.titled(name) for name in pdu.names])
 
     def write_lines(self, pdu) -> list:
-        return listed('write',
-                      [f'{self.bay.titled(name)} := {words.value_text(self.bay.item(name), value)}'
-                       for name, value in zip(pdu.names, pdu.data)])
+        values = [f'{self.bay.titled(name)} := {words.value_text(self.bay.item(name), value)}'
+                  for name, value in zip(pdu.names, pdu.data)]
+        return list_lines('write', values)
 
     def type_lines(self, pdu) -> list:
         return [f'the type of {self.bay.titled(pdu.names[0])}']
@@ -163,9 +165,9 @@ class Conversation:
         if got is None:
             return Description('end', 'is sent', ['a part of a message'], good=False)
         if got.kind == 'CC':
-            return Description('connect', 'is connected,', [sized(got.size)])
+            return Description('connect', 'is connected,', [tpdu_size_text(got.size)])
         if got.kind == 'accept':
-            return Description('connect', 'is given', ['an association' + proposed(got.octets)])
+            return Description('connect', 'is given', ['an association' + proposal(got.octets)])
         if got.kind == 'mms':
             return self.answers_mms(got.octets)
         if got.kind == 'released':
@@ -188,13 +190,13 @@ class Conversation:
         if asked:
             kind, *control = asked.kind, asked.switch, asked.way
         if pdu.kind in ('error', 'reject'):
-            return Description(kind, f'is answered{numbered(pdu)}',
+            return Description(kind, f'is answered{number_in(pdu)}',
                                [words.error_text(pdu.kind, pdu.code)],
                                pdu.invoke, *control, False)
         if request and request.service == pdu.service:
             self.on_answer(request, pdu)
         lines, good = self.response_text(pdu, request, asked)
-        return Description(kind, f'is answered{numbered(pdu)}', lines, pdu.invoke, *control, good)
+        return Description(kind, f'is answered{number_in(pdu)}', lines, pdu.invoke, *control, good)
 
     def response_text(self, pdu, request, asked) -> tuple:
         """A response in words, and whether it is what was wanted."""
@@ -204,7 +206,7 @@ class Conversation:
             return [names_text(pdu)], True
         if pdu.service == 'identify':
             named = zip(('vendor', 'model', 'revision'), pdu.names)
-            return [', '.join(f'{word} {words.quoted(name)}' for word, name in named)], True
+            return [', '.join(f'{word} {words.in_quotes(name)}' for word, name in named)], True
         if pdu.service == 'attributes':
             return [type_text(pdu.shape)], True
         names = [''] * len(pdu.data)
@@ -216,9 +218,9 @@ class Conversation:
         else:
             told = [words.value_text(self.bay.item(name), value)
                     for name, value in zip(names, pdu.data)]
-        return listed('',
-                      [f'{self.bay.titled(name)} = {value}' if name else value
-                       for name, value in zip(names, told)]), good
+        return list_lines('',
+                          [f'{self.bay.titled(name)} = {value}' if name else value
+                           for name, value in zip(names, told)]), good
 
     def reported(self, pdu) -> 'Description':
         """A LastApplError, or the end of an operate."""
@@ -266,7 +268,7 @@ def cause_in(value) -> tuple | None:
     return control.value, cause.value
 
 
-def proposed(initiate) -> str:
+def proposal(initiate) -> str:
     """The PDU size in an initiate or its answer."""
     try:
         pdu = mms.read_pdu(initiate)
@@ -292,15 +294,15 @@ def type_text(shape) -> str:
     return '{' + ', '.join(f'{name} {type_text(part)}' for name, part in shape) + '}'
 
 
-def sized(size) -> str:
+def tpdu_size_text(size) -> str:
     return f'TPDUs of {size} octets' if size else 'no TPDU size'
 
 
-def numbered(pdu) -> str:
+def number_in(pdu) -> str:
     return ':' if pdu.invoke is None else f' {pdu.invoke}:'
 
 
-def listed(verb, items) -> list:
+def list_lines(verb, items) -> list:
     """One thing on the line of its verb, several on lines of their own."""
     if len(items) == 1:
         return [f'{verb} {items[0]}'.lstrip()]

@@ -7,7 +7,7 @@ import socket
 LONGEST = 64  # octets of an orIdent
 
 
-def clipped(name: str) -> str:
+def clip_identity(name: str) -> str:
     """A name as far as an orIdent takes it."""
     return name.encode()[:LONGEST].decode(errors='ignore')
 
@@ -25,4 +25,4 @@ def own_name() -> str:
         user = pwd.getpwuid(os.getuid()).pw_name
     except KeyError:
         user = str(os.getuid())
-    return clipped(f'{user}@{socket.gethostname()}')
+    return clip_identity(f'{user}@{socket.gethostname()}')

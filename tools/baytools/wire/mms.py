@@ -67,7 +67,7 @@ def name_of(octets) -> str:
 
 def names_of(content) -> list:
     """The names of a list of variables."""
-    return [name_of(ber.needed(variable, 0xA0)) for _, variable in ber.elements(content)]
+    return [name_of(ber.need(variable, 0xA0)) for _, variable in ber.elements(content)]
 
 
 def data_of(tag, content, depth=1) -> 'Data':
@@ -151,15 +151,15 @@ def request_of(content) -> 'Pdu':
 
 
 def fill_names(pdu, content) -> None:
-    (scope, domain), = several(ber.needed(content, 0xA1), 1)
-    pdu.code = (ber.integer(ber.needed(ber.needed(content, 0xA0), 0x80)),)
+    (scope, domain), = several(ber.need(content, 0xA1), 1)
+    pdu.code = (ber.integer(ber.need(ber.need(content, 0xA0), 0x80)),)
     pdu.names = [text(domain)] if scope == 0x81 else []
     after = ber.field(content, 0x82)
     pdu.after = None if after is None else text(after)
 
 
 def fill_read(pdu, content) -> None:
-    pdu.names = names_of(ber.needed(ber.needed(content, 0xA1), 0xA0))
+    pdu.names = names_of(ber.need(ber.need(content, 0xA1), 0xA0))
 
 
 def fill_write(pdu, content) -> None:
@@ -168,7 +168,7 @@ def fill_write(pdu, content) -> None:
 
 
 def fill_attributes(pdu, content) -> None:
-    pdu.names = [name_of(ber.needed(content, 0xA0))]
+    pdu.names = [name_of(ber.need(content, 0xA0))]
 
 
 def result_of(tag, content) -> Data | Failure:
@@ -181,15 +181,15 @@ def response_of(content) -> 'Pdu':
     pdu = Pdu('response', ber.integer(invoke),
               SERVICES.get(tag if tag != 0xA2 else 0x82, f'service {tag & 0x1f}'))
     if pdu.service == 'read':
-        pdu.data = [result_of(*result) for result in ber.elements(ber.needed(content, 0xA1))]
+        pdu.data = [result_of(*result) for result in ber.elements(ber.need(content, 0xA1))]
     elif pdu.service == 'write':
         pdu.data = [None if t == 0x81 else Failure(ber.integer(c))
                     for t, c in ber.elements(content)]
     elif pdu.service == 'names':
-        pdu.names = [text(name) for _, name in ber.elements(ber.needed(content, 0xA0))]
+        pdu.names = [text(name) for _, name in ber.elements(ber.need(content, 0xA0))]
         pdu.more = any(ber.field(content, 0x81, b'\xff'))
     elif pdu.service == 'attributes':
-        pdu.shape = type_of(*several(ber.needed(content, 0xA2), 1)[0])
+        pdu.shape = type_of(*several(ber.need(content, 0xA2), 1)[0])
     elif pdu.service == 'identify':
         pdu.names = [text(part) for _, part in ber.elements(content)]
     return pdu
@@ -200,15 +200,15 @@ def type_of(tag, content, depth=1) -> str | list:
     if depth > DEEPEST:
         raise Unreadable('a type more than 10 deep')
     if tag == STRUCTURE:
-        parts = (part for _, part in ber.elements(ber.needed(content, 0xA1)))
-        return [(text(ber.needed(part, 0x80)),
-                 type_of(*several(ber.needed(part, 0xA1), 1)[0], depth + 1)) for part in parts]
+        parts = (part for _, part in ber.elements(ber.need(content, 0xA1)))
+        return [(text(ber.need(part, 0x80)),
+                 type_of(*several(ber.need(part, 0xA1), 1)[0], depth + 1)) for part in parts]
     size = ber.integer(content) if content else None
     return KINDS.get(tag, f'{tag:02X}') + (f' {size}' if size is not None else '')
 
 
 def error_of(content) -> 'Pdu':
-    invoke, error = ber.needed(content, 0x80), ber.needed(ber.needed(content, 0xA2), 0xA0)
+    invoke, error = ber.need(content, 0x80), ber.need(ber.need(content, 0xA2), 0xA0)
     (tag, code), = several(error, 1)
     return Pdu('error', ber.integer(invoke), code=(tag & 0x1f, ber.integer(code)))
 
@@ -221,7 +221,7 @@ def reject_of(content) -> 'Pdu':
 
 
 def report_of(content) -> 'Pdu':
-    (_, variables), (_, values) = several(ber.needed(content, 0xA0), 2)
+    (_, variables), (_, values) = several(ber.need(content, 0xA0), 2)
     return Pdu('report', names=names_of(variables),
                data=[result_of(*value) for value in ber.elements(values)])
 
@@ -249,11 +249,15 @@ def variables(names) -> bytes:
     return element(0xA0, *(element(0x30, name_octets(name)) for name in names))
 
 
-def names_request(invoke, domain=None, after=None) -> bytes:
-    """The names of a domain, or the domains, behind a name if there is one."""
+VARIABLES, LISTS, DOMAINS = 0, 2, 9  # classes of a getNameList
+
+
+def names_request(invoke, domain=None, after=None, of_class=VARIABLES) -> bytes:
+    """The names of a class in a domain, or the domains, behind a name if there is one."""
     scope = element(0x81, domain.encode()) if domain else element(0x80)
     behind = [element(0x82, after.encode())] if after else []
-    return request_octets(invoke, 0xA1, element(0xA0, number(0x80, 0 if domain else 9)),
+    return request_octets(invoke, 0xA1,
+                          element(0xA0, number(0x80, of_class if domain else DOMAINS)),
                           element(0xA1, scope), *behind)
 
 

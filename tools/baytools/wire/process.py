@@ -55,7 +55,7 @@ def same_bay(greeting: Greeting, port: int, domain: str, revision: str) -> None:
                         f'{greeting.revision}, the bay file {domain}, {revision}')
 
 
-def ungreeted(port: int) -> Different:
+def no_greeting(port: int) -> Different:
     """What is said of a server that does not greet."""
     return Different(f'port {port}: the server does not greet: it is no supervised port')
 

@@ -14,15 +14,15 @@ TABLES = {socket.AF_INET: '/proc/net/tcp', socket.AF_INET6: '/proc/net/tcp6'}
 
 def port_of(text: str) -> int:
     """The number of a port, for an option."""
-    return bounded(text, 1, 65_535, 'a port')
+    return number_within(text, 1, 65_535, 'a port')
 
 
 def free_port_of(text: str) -> int:
     """The number of a port, or 0 for a free one."""
-    return bounded(text, 0, 65_535, 'a port')
+    return number_within(text, 0, 65_535, 'a port')
 
 
-def bounded(text: str, least: int, most: int, what: str) -> int:
+def number_within(text: str, least: int, most: int, what: str) -> int:
     is_number = text.isascii() and text.isdigit() and len(text) < 20
     if not is_number or not least <= int(text) <= most:
         raise argparse.ArgumentTypeError(f'{text[:20]} is not {what} from {least} to {most}')
@@ -76,7 +76,7 @@ def is_taken(connection: socket.socket) -> bool | None:
     return None
 
 
-def unconnected(error: OSError) -> str:
+def why_unconnected(error: OSError) -> str:
     """Why there is no connection."""
     if isinstance(error, ConnectionRefusedError):
         return 'no server listens there'

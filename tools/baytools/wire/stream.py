@@ -171,23 +171,23 @@ def tsdu_meaning(tsdu) -> 'Got':
 
 def association(code, content) -> 'Got':
     """A request for an association or its answer: the initiate in it."""
-    fields = ber.needed(ber.only(content, 0x31), 0xA2)
-    value = presented(ber.needed(fields, 0x61))
+    fields = ber.need(ber.only(content, 0x31), 0xA2)
+    value = presentation_value(ber.need(fields, 0x61))
     tag, acse, _ = ber.read(value)
     if tag != (0x60 if code == CONNECT else 0x61):
         raise Unreadable(f'ACSE value {tag:02X}')
     return Got('associate' if code == CONNECT else 'accept',
-               ber.needed(ber.needed(ber.needed(acse, 0xBE), 0x28), 0xA0))
+               ber.need(ber.need(ber.need(acse, 0xBE), 0x28), 0xA0))
 
 
-def presented(content) -> bytes:
+def presentation_value(content) -> bytes:
     """The value in user data of the presentation, whatever its context."""
-    return ber.needed(ber.needed(content, 0x30), 0xA0)
+    return ber.need(ber.need(content, 0x30), 0xA0)
 
 
 def user_data(octets) -> 'Got':
     """Data of a session: MMS, or a release."""
-    value = presented(ber.only(octets, 0x61))
+    value = presentation_value(ber.only(octets, 0x61))
     if value[:1] == b'\x62':
         return Got('release')
     if value[:1] == b'\x63':
@@ -199,19 +199,19 @@ def connection_request(size=13) -> bytes:
     """The octets of a CR that asks for TPDUs of 2^size octets."""
     body = bytes.fromhex('E000000001 00') + bytes([TPDU_SIZE, 1, size])
     body += bytes.fromhex('C2020001 C1020001')
-    return framed(bytes([len(body)]) + body)
+    return tpkt_frame(bytes([len(body)]) + body)
 
 
-def framed(tpdu) -> bytes:
+def tpkt_frame(tpdu) -> bytes:
     return b'\x03\x00' + (len(tpdu) + 4).to_bytes(2) + tpdu
 
 
-def wrapped(tsdu, size=8192) -> bytes:
+def tpkt_frames(tsdu, size=8192) -> bytes:
     """The frames of a TSDU, in TPDUs of at most a size."""
     room = size - 3
     parts = [tsdu[at:at + room] for at in range(0, len(tsdu), room)] or [b'']
     marks = [0x00] * (len(parts) - 1) + [0x80]
-    return b''.join(framed(bytes([2, DT, mark]) + part) for mark, part in zip(marks, parts))
+    return b''.join(tpkt_frame(bytes([2, DT, mark]) + part) for mark, part in zip(marks, parts))
 
 
 def data_tsdu(pdu, context=3) -> bytes:

@@ -10,7 +10,7 @@ from baytools.common.ending import Failed, UsageError
 from baytools.common.texts import in_line
 
 from . import ber
-from .identity import clipped
+from .identity import clip_identity
 
 LEAST = ssl.TLSVersion.TLSv1_2
 CIPHERS = 'ECDHE+AESGCM:DHE+AESGCM'  # of TLS 1.2: forward secrecy and authenticated encryption
@@ -61,7 +61,7 @@ class Tls:
 
     def identity(self) -> str:
         """The CN of the own certificate, as far as an orIdent takes it; or nothing."""
-        return clipped(next((value for name, value in self.subject if name == 'CN'), ''))
+        return clip_identity(next((value for name, value in self.subject if name == 'CN'), ''))
 
 
 def add_options(found: argparse.ArgumentParser) -> None:
@@ -130,7 +130,7 @@ def trust(context: ssl.SSLContext, path: str) -> None:
         raise Failed(f'{path}: {error.strerror}') from None
 
 
-def connected(host: str, port: int, timeout: float, tls: Tls | None = None) -> socket.socket:
+def open_connection(host: str, port: int, timeout: float, tls: Tls | None = None) -> socket.socket:
     """A connection to a server, by TLS where that is given. What is written goes out at once: else
     the first request would wait for the acknowledgement of a handshake of TLS 1.3."""
     plain = socket.create_connection((host, port), timeout)
@@ -185,7 +185,7 @@ def subject_in(path: str) -> list[tuple[str, str]]:
 
 def subject_of(der: bytes) -> list[tuple[str, str]]:
     """The names and the values of a certificate's subject (X.509, RFC 5280 4.1), in their order."""
-    signed = ber.needed(ber.only(der, 0x30), 0x30)
+    signed = ber.need(ber.only(der, 0x30), 0x30)
     fields = [content for tag, content in ber.elements(signed) if tag != VERSION]
     if len(fields) <= SUBJECT:
         raise ber.Unreadable('a certificate without a subject')
@@ -205,10 +205,10 @@ def attribute(octets: bytes) -> tuple[str, str]:
 
 def subject_text(subject: list[tuple[str, str]]) -> str:
     """A subject in one line, as openssl and stunnel have it: O=Station, CN=operator."""
-    return ', '.join(f'{name}={quoted(in_line(value))}' for name, value in subject)
+    return ', '.join(f'{name}={quote_value(in_line(value))}' for name, value in subject)
 
 
-def quoted(value: str) -> str:
+def quote_value(value: str) -> str:
     """A value, in quotes where it would not end at its end."""
     if not SPECIAL.search(value):
         return value

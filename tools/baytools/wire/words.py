@@ -43,8 +43,11 @@ CONTROL_MODELS = {0: 'status only', 1: 'direct', 2: 'select before operate', 3: 
                   4: 'select before operate, enhanced'}
 CHECKS = {'00': 'none', '10': 'synchrocheck', '01': 'interlocking',
           '11': 'synchrocheck and interlocking'}
-STATES = {'Mod': {1: 'on'}, 'Beh': {1: 'on'}, 'Health': {1: 'ok'}, 'PhyHealth': {1: 'ok'},
-          'SwTyp': {2: 'disconnector', 3: 'earthing switch'}}
+HEALTH = {1: 'ok', 2: 'warning', 3: 'alarm'}
+STATES = {'Mod': {1: 'on'}, 'Beh': {1: 'on'}, 'Health': HEALTH, 'PhyHealth': HEALTH,
+          'SwTyp': {2: 'disconnector', 3: 'earthing switch'}, 'CBOpCap': {2: 'open'},
+          'SwOpCap': {2: 'open'}}
+UNITS = {5: 'A', 33: 'Hz', 62: 'W', 63: 'VAr'}  # numbers of SIUnit (IEC 61850-7-3)
 
 # The names below each name, down to leaves: None, or the tag that a leaf has.
 VALUE = dict.fromkeys(('stVal', 'q', 't'))
@@ -58,29 +61,69 @@ CANCEL = {'ctlVal': mms.BOOLEAN, 'origin': ORIGIN, 'ctlNum': mms.UNSIGNED, 'T': 
 OPER = CANCEL | {'Check': mms.BITS}
 LAST_APPL_ERROR = {'CntrlObj': mms.TEXT, 'Error': mms.INTEGER, 'Origin': ORIGIN,
                    'ctlNum': mms.UNSIGNED, 'AddCause': mms.INTEGER}
-NODES = {
-    'LLN0': {'ST': dict.fromkeys(('Mod', 'Beh', 'Health'), VALUE),
-             'CF': {'Mod': {'ctlModel': None}},
-             'DC': {'NamPlt': dict.fromkeys(('vendor', 'swRev', 'd'))}},
-    'LPHD': {'ST': dict.fromkeys(('PhyHealth', 'Proxy'), VALUE),
-             'DC': {'PhyNam': {'vendor': None}}},
-    'XCBR': SWITCH,
-    'XSWI': SWITCH | {'ST': SWITCH['ST'] | {'SwTyp': VALUE}},
-    'CILO': {'ST': dict.fromkeys(('EnaOpn', 'EnaCls'), VALUE)},
-    'MMXU': {'MX': dict.fromkeys(('TotW', 'TotVAr', 'Hz'), MEASURED)
-             | {'A': dict.fromkeys(('phsA', 'phsB', 'phsC'), CURRENT)}}}
+DEVICE = {'ST': dict.fromkeys(('Mod', 'Beh', 'Health'), VALUE),
+          'CF': {'Mod': {'ctlModel': None}},
+          'DC': {'NamPlt': dict.fromkeys(('vendor', 'swRev', 'd'))}}
+INTERLOCKING = {'ST': dict.fromkeys(('EnaOpn', 'EnaCls'), VALUE)}
+METER = {'MX': dict.fromkeys(('TotW', 'TotVAr', 'Hz'), MEASURED)
+         | {'A': dict.fromkeys(('phsA', 'phsB', 'phsC'), CURRENT)}}
 POSITION = {'ST': {'Pos': VALUE | {'stSeld': None}}}
 SETTINGS = {'CF': {'Pos': dict.fromkeys(('ctlModel', 'sboTimeout'))}}
-CONTROLS = {'direct': {'Oper': OPER}, 'sbo': {'SBO': None, 'Oper': OPER, 'Cancel': CANCEL},
+CONTROLS = {'status': {}, 'direct': {'Oper': OPER},
+            'sbo': {'SBO': None, 'Oper': OPER, 'Cancel': CANCEL},
             'sbo-enhanced': {'SBOw': OPER, 'Oper': OPER, 'Cancel': CANCEL}}
-CONTROL_NODES = [POSITION | SETTINGS, *(POSITION | {'CO': {'Pos': control}} | SETTINGS
-                                        for control in CONTROLS.values())]
+
+# What profile 2 adds, in the order of IEC 61850-7-4.
+BEHAVIOUR = {'Beh': VALUE}
+PLATE = {'DC': {'NamPlt': dict.fromkeys(('vendor', 'swRev', 'd'))}}
+FULL_PLATE = {'DC': {'NamPlt': dict.fromkeys(('vendor', 'swRev', 'd', 'configRev', 'ldNs'))}}
+UNIT = {'units': dict.fromkeys(('SIUnit', 'multiplier'))}
+METER_UNITS = {'CF': dict.fromkeys(('TotW', 'TotVAr', 'Hz'), UNIT)
+               | {'A': dict.fromkeys(('phsA', 'phsB', 'phsC'), UNIT)}}
+MOST_INPUTS = 64
+
+
+def switch_shape(*own) -> dict:
+    """The shape of XCBR or XSWI in profile 2; `own` is what only one of the two has."""
+    values = ('Beh', 'Loc', 'OpCnt', *own, 'Pos', 'BlkOpn', 'BlkCls')
+    return {'ST': dict.fromkeys(values, VALUE)} | {'CF': SWITCH['CF']} | PLATE
+
+
+def control_shapes(behaviour, plate) -> list:
+    """The shapes of CSWI, one for each kind of control."""
+    status = {'ST': behaviour | POSITION['ST']}
+    return [status | ({'CO': {'Pos': parts}} if parts else {}) | SETTINGS | plate
+            for parts in CONTROLS.values()]
+
+
+def inputs_shape(count) -> dict:
+    """The shape of GGIO1 of a bay with so many inputs."""
+    names = [f'Ind{number}' for number in range(1, count + 1)]
+    return {'ST': BEHAVIOUR | dict.fromkeys(names, VALUE),
+            'DC': PLATE['DC'] | dict.fromkeys(names, {'d': None})}
+
+
+NODES = {  # the shapes that a node may have, those of profile 1 first
+    'LLN0': [DEVICE, DEVICE | FULL_PLATE],
+    'LPHD': [{'ST': dict.fromkeys(('PhyHealth', 'Proxy'), VALUE),
+              'DC': {'PhyNam': {'vendor': None}}}],
+    'XCBR': [SWITCH, switch_shape('CBOpCap')],
+    'XSWI': [SWITCH | {'ST': SWITCH['ST'] | {'SwTyp': VALUE}}, switch_shape('SwTyp', 'SwOpCap')],
+    'CSWI': [*control_shapes({}, {}), *control_shapes(BEHAVIOUR, PLATE)],
+    'CILO': [INTERLOCKING, {'ST': BEHAVIOUR | INTERLOCKING['ST']} | PLATE],
+    'MMXU': [METER, {'ST': BEHAVIOUR} | METER | PLATE, {'ST': BEHAVIOUR} | METER | METER_UNITS
+             | PLATE],
+    'GGIO': [inputs_shape(count) for count in range(1, MOST_INPUTS + 1)]}
+
+
+def class_of(node) -> str:
+    """The class of a logical node: its name without its number."""
+    return node if node == 'LLN0' else node.rstrip('0123456789')
 
 
 def nodes_of(node) -> list:
-    """The shapes that a logical node may have; which one a control's has goes by the bay."""
-    kind = node if node == 'LLN0' else node.rstrip('0123456789')
-    return CONTROL_NODES if kind == 'CSWI' else [NODES[kind]] if kind in NODES else []
+    """The shapes that a logical node may have; which one it has goes by the bay."""
+    return NODES.get(class_of(node), [])
 
 
 def below(shape, words) -> dict | None:
@@ -106,16 +149,16 @@ def value_text(item, value) -> str:
         return f'{ACCESS_ERRORS.get(value.code, "error")} ({value.code})'
     node, *words = item.split('$')
     shapes = [below(shape, words) for shape in nodes_of(node)]
-    return shaped(words, value,
-                  next((shape for shape in shapes if shape and fits(shape, value)), None))
+    return shape_text(words, value,
+                      next((shape for shape in shapes if shape and fits(shape, value)), None))
 
 
-def shaped(words, value, shape) -> str:
+def shape_text(words, value, shape) -> str:
     """A value in words, its parts by the names of its shape, where there is one."""
     if value.tag != mms.STRUCTURE:
         return leaf_text(words, value)
     names = list(shape) if shape else [''] * len(value.value)
-    parts = [f'{name} {shaped([*words, name], part, shape and shape[name])}'.lstrip()
+    parts = [f'{name} {shape_text([*words, name], part, shape and shape[name])}'.lstrip()
              for name, part in zip(names, value.value)]
     return '{' + ', '.join(parts) + '}'
 
@@ -131,10 +174,10 @@ def leaf_text(words, value) -> str:
     if tag == mms.TIME:
         return moment_text(it)
     if tag == mms.TEXT:
-        return quoted(it)
-    if tag == mms.INTEGER and word in ('ctlModel', 'orCat', 'stVal'):
+        return in_quotes(it)
+    if tag == mms.INTEGER and word in ('ctlModel', 'orCat', 'stVal', 'SIUnit'):
         named = {'ctlModel': CONTROL_MODELS, 'orCat': dict(enumerate(ORIGINATORS)),
-                 'stVal': STATES.get(owner, {})}[word].get(it)
+                 'stVal': STATES.get(owner, {}), 'SIUnit': UNITS}[word].get(it)
         return f'{it} ({named})' if named else str(it)
     return octets_text(it) if isinstance(it, bytes) else str(it)
 
@@ -163,12 +206,12 @@ def moment_text(moment) -> str:
 def octets_text(octets) -> str:
     printable = all(0x20 <= octet < 0x7f for octet in octets)
     if printable:
-        return quoted(octets.decode('ascii'))
+        return in_quotes(octets.decode('ascii'))
     return octets[:12].hex(' ').upper() + (f' .. ({len(octets)} octets)' if len(octets) > 12
                                            else '')
 
 
-def quoted(text) -> str:
+def in_quotes(text) -> str:
     return "'" + text.replace("'", "\\'") + "'"
 
 
