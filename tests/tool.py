@@ -15,7 +15,7 @@ from dataclasses import dataclass
 from unittest import mock
 
 from baytools.common.ending import show_plainly, status_of
-from devtools.commands import command, loaded
+from devtools.commands import command, load_command
 
 
 @dataclass
@@ -86,7 +86,7 @@ class Tools(unittest.TestCase):
     def call_tool(self, name: str, *words, given: str = '') -> Ran:
         """Runs a tool within this process, which is faster. An exception that is none of its own
         fails the test."""
-        main, out, error = loaded(name).main, stream(), stream()
+        main, out, error = load_command(name).main, stream(), stream()
         streams = mock.patch.multiple(sys, argv=[name, *map(str, words)], stdout=out, stderr=error,
                                       stdin=stream(given.encode()))
         environment = mock.patch.dict(os.environ, TOOLS_TRACEBACK='1')

@@ -8,7 +8,7 @@ from collections.abc import Iterator, Mapping
 from dataclasses import dataclass
 
 from baytools.bay.rules import INPUT, SWITCH
-from baytools.common.texts import raised
+from baytools.common.texts import upcase
 from baytools.diagram.network import (BREAKER, DISCONNECTOR, EARTH, EARTHING, TERMINALS,
                                       TRANSFORMER, Network, Switch)
 
@@ -32,10 +32,10 @@ def position_of(switch: Switch, values: Mapping) -> int:
     """What is known of a switch: of one of the bay by its position, of one of another bay by the
     input that alone is TRUE."""
     if switch.is_own:
-        value = values[SWITCH, raised(switch.name)]
+        value = values[SWITCH, upcase(switch.name)]
         return value if value in (IS_OPEN, IS_CLOSED) else UNKNOWN
     told = [position for position, name in ((IS_CLOSED, switch.closed), (IS_OPEN, switch.opened))
-            if name and values[INPUT, raised(name)]]
+            if name and values[INPUT, upcase(name)]]
     return told[0] if len(told) == 1 else UNKNOWN
 
 
@@ -79,9 +79,9 @@ class Diagram:
     def known(self, values: Mapping) -> Known:
         """What the values of a state show."""
         alive = sum(1 << at for at, it in enumerate(self.nodes) if it.is_source
-                    and not (it.dead and values[INPUT, raised(it.dead)]))
+                    and not (it.dead and values[INPUT, upcase(it.dead)]))
         agreed = sum(1 << at for at, it in enumerate(self.branches)
-                     if it.synchro and values[INPUT, raised(it.synchro)])
+                     if it.synchro and values[INPUT, upcase(it.synchro)])
         return known_by(tuple(position_of(it, values) for it in self.branches), alive, agreed)
 
     # ---- walks

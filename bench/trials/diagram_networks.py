@@ -4,7 +4,7 @@ import random
 from dataclasses import dataclass
 
 from baytools.bay.files import tables_of
-from baytools.diagram.diagram_file import written
+from baytools.diagram.diagram_file import file_text
 from baytools.diagram.network import (BREAKER, BUSBAR, CABLE, DISCONNECTOR, EARTH, EARTHING,
                                       JUNCTION, LINE, TRANSFORMER, Network, Node, Switch)
 
@@ -95,5 +95,5 @@ def random_bay(chance: random.Random, most: int) -> tuple[Network, dict, Texts]:
     """A network, the tables of its bay file, and its texts."""
     network, inputs = network_of(chance, most)
     text = bay_text(network, inputs)
-    return network, tables_of(text), Texts(text, written(network),
+    return network, tables_of(text), Texts(text, file_text(network),
                                            logic_text(chance, network, inputs))

@@ -8,7 +8,7 @@ from collections.abc import Iterator, Mapping
 from baytools.audit.answers import WAYS, Case
 from baytools.bay.files import bay_at, text_of
 from baytools.bay.rules import SWITCH
-from baytools.common.texts import raised
+from baytools.common.texts import upcase
 from baytools.diagram.diagram_file import diagram_at
 from baytools.diagram.network import Network
 from devtools.truths import States
@@ -27,7 +27,7 @@ class Bay:
     def __init__(self, file: Mapping, network: Network) -> None:
         self.file, self.states = file, States(file)
         self.diagram, self.network = Diagram(network), network
-        self.own = [(at, raised(it.name)) for at, it in enumerate(network.switches) if it.is_own]
+        self.own = [(at, upcase(it.name)) for at, it in enumerate(network.switches) if it.is_own]
         self.operations: list[Operation] = [(name, way) for _, name in self.own
                                             for way in range(len(WAYS))]
         self.known: list[Known] = []  # each once

@@ -201,7 +201,7 @@ def change_octets(rng: Random, octets: bytes, others: list[list[Value]]) -> byte
         return odd_octets(rng, octets)
     if rng.random() < 0.05:
         tsdu = odd_octets(rng, tsdu)
-    return stream.wrapped(tsdu, rng.choice((8192, 8192, 8192, 128, 4, 65_000))) + rest
+    return stream.tpkt_frames(tsdu, rng.choice((8192, 8192, 8192, 128, 4, 65_000))) + rest
 
 
 def change_line(rng: Random, line: str, donors: list[list[Value]]) -> str:

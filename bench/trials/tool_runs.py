@@ -15,7 +15,7 @@ from unittest import mock
 
 import shared  # (it lets a script import from tools/)
 from baytools.common.ending import OF_TOOLS, UNREACHED, show_plainly, status_of
-from devtools.commands import loaded
+from devtools.commands import load_command
 
 LIMIT, KEPT = 20, 20  # seconds for a run; wrong runs of a kind that are kept
 WARNED = ('times go back', 'not count from 1970', 'combination')
@@ -77,7 +77,7 @@ class Trial:
                     mock.patch('baytools.common.ending.stop_output', no_output), \
                     contextlib.chdir(self.folder):
                 show_plainly()
-                status = status_of(loaded(tool).main)
+                status = status_of(load_command(tool).main)
             signal.setitimer(signal.ITIMER_REAL, 0)
         except Late:
             return self.is_wrong(f'{tool} has no end', words, '')

@@ -15,7 +15,7 @@ def command(name: str) -> pathlib.Path:
 
 
 @functools.cache
-def loaded(name: str) -> types.ModuleType:
+def load_command(name: str) -> types.ModuleType:
     """A command as a module."""
     path = str(command(name))
     loader = importlib.machinery.SourceFileLoader(f'command_{name}', path)

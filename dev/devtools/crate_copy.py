@@ -33,7 +33,7 @@ def copy_of(crates: pathlib.Path, room: pathlib.Path, built: set[str]) -> None:
     shutil.copytree(crates, room / 'crates', copy_function=take, ignore=left_out)
 
 
-def applied(crate: pathlib.Path, edit: str) -> dict[str, str]:
+def texts_after_edit(crate: pathlib.Path, edit: str) -> dict[str, str]:
     """The texts that an edit makes of the files of a crate: each `old` stands in its file once."""
     path, old = '', ''
     texts: dict[str, str] = {}
@@ -51,9 +51,9 @@ def applied(crate: pathlib.Path, edit: str) -> dict[str, str]:
 
 
 @contextlib.contextmanager
-def edited(crate: pathlib.Path, edit: str) -> Iterator[None]:
+def edited_copy(crate: pathlib.Path, edit: str) -> Iterator[None]:
     """Applies an edit to a copy of a crate, and takes it back at the end of the block."""
-    texts = applied(crate, edit)
+    texts = texts_after_edit(crate, edit)
     before = {path: (crate / path).read_text(encoding='utf-8') for path in texts}
     try:
         for path, text in texts.items():

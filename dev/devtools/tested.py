@@ -13,8 +13,8 @@ import subprocess
 
 from baytools.common.paths import TOP
 
-from .commands import loaded
-from .crate_copy import KEPT, LIBRARY, applied, copy_of
+from .commands import load_command
+from .crate_copy import KEPT, LIBRARY, texts_after_edit, copy_of
 from .paths import CRATES
 
 FOLDER = 'tested-bodies'
@@ -65,7 +65,7 @@ def put_in(body: Body, room: pathlib.Path, built: set[str]) -> None:
     """Copies the crates with these folders of what was built, and applies the edit."""
     copy_of(CRATES, room, built)
     crate = room / 'crates' / body.crate
-    for name, text in applied(crate, body.text).items():
+    for name, text in texts_after_edit(crate, body.text).items():
         (crate / name).write_text(text, encoding='utf-8')
 
 
@@ -94,17 +94,17 @@ def part_of(name: str) -> object:
     return getattr(importlib.import_module(f'devtools.check.{module}'), part)
 
 
-def checked(program: pathlib.Path, body: Body, folder: pathlib.Path) -> str:
+def output_of_part(program: pathlib.Path, body: Body, folder: pathlib.Path) -> str:
     """What a part of dev/check prints of a program."""
     folder.mkdir()
-    checks = loaded('check').Checks(program.resolve(), folder)
+    checks = load_command('check').Checks(program.resolve(), folder)
     importlib.import_module('devtools.check.supervision').write_files(checks)
     with contextlib.redirect_stdout(io.StringIO()) as printed:
         checks.run_part(part_of(body.part))
     return printed.getvalue()
 
 
-def tried(body: Body, room: pathlib.Path, given: bytes) -> str:
+def output_of_cases(body: Body, room: pathlib.Path, given: bytes) -> str:
     """What `rt try` prints of a program of cases with the edit."""
     put_in(body, room, set())
     done = subprocess.run(['rt', 'try', '--steps', '1', '--seconds', str(SECONDS)],
@@ -115,14 +115,15 @@ def tried(body: Body, room: pathlib.Path, given: bytes) -> str:
 def failed_cases(body: Body, room: pathlib.Path) -> str | None:
     """Why a program of cases does not refuse an edit, or None."""
     crate = CRATES / body.part
-    given = loaded('try_all').given_to(crate, False)
-    printed = tried(body, room, given)
+    given = load_command('try_all').given_to(crate, False)
+    printed = output_of_cases(body, room, given)
     wanted = (crate / 'stdout').read_text(encoding='utf-8')
     is_run = re.search(r'(?m)^\d+ differ$', printed)
     return None if is_run and wanted.strip() not in printed.splitlines() else printed[-300:]
 
 
-def refused(body: Body, room: pathlib.Path, programs: pathlib.Path | None = None) -> str | None:
+def why_not_refused(body: Body, room: pathlib.Path,
+                    programs: pathlib.Path | None = None) -> str | None:
     """Why an edit is not refused by what it names, or None."""
     if body.kind == 'cases':
         return failed_cases(body, room)
@@ -133,7 +134,7 @@ def refused(body: Body, room: pathlib.Path, programs: pathlib.Path | None = None
         printed = subprocess.run([TRIALS / body.part], capture_output=True, text=True, env={
             **os.environ, 'BAYCTL': str(program.resolve())}).stdout
     else:
-        printed = checked(program, body, room / 'check')
+        printed = output_of_part(program, body, room / 'check')
     is_named = any(line.startswith(body.name) for line in printed.splitlines())
     return None if is_named else f'{body.part} does not say so: {printed[-300:]}'
 

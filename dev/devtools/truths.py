@@ -84,7 +84,7 @@ def forbidden(states: States, text: str) -> dict[tuple[str, int], list[tuple[int
     return found
 
 
-def joined(found: dict) -> dict[tuple[str, int], int]:
+def forbidden_states(found: dict) -> dict[tuple[str, int], int]:
     """All states in which some rule forbids each release."""
     result = {}
     for release, rows in found.items():

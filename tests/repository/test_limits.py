@@ -3,13 +3,13 @@ import re
 import unittest
 
 from baytools.common.paths import TOP
+from tests.repository.test_model import lines, node_lines
 
 ROW = re.compile(r'^\| ([^|]+) \| ([\d,]+)[^|]* \| ([^|]+) \|([\w ]*)\|([^|]*)\|([^|]*)\|$',
                  re.MULTILINE)
 NUMBER = re.compile(r'\b(?:0x[0-9A-Fa-f_]+|\d[\d_]*)\b')
 CONSTANT = re.compile(r'[A-Z_]+')
 FAULT = re.compile(r'^\w*code_of .*= (?:Some )?(\d+)$', re.MULTILINE)
-ROWS = re.compile(r'pub fn (\w+)_table\(.*?\n\{\n(.*?)\n\}\n', re.DOTALL)
 
 
 def place_of(crate, folder, ending, cell):
@@ -36,19 +36,15 @@ def faults_of(crate):
     return {number for path in files for number in FAULT.findall(path.read_text('utf-8'))}
 
 
-def rows_of_switches():
-    """How many rows the nodes of a breaker and of another switch have, with enhanced select, and
-    those of a meter and of the bay."""
-    text = (TOP / 'crates' / 'bay_nodes' / 'src' / 'tables.rt').read_text('utf-8')
-    count = {name: len(re.findall(r'(?m)^ *\(|\[\(|\), \(', part)) for name, part in
-             ROWS.findall(text)}
-    control = 1 + sum(count[name] for name in (
-        'control', 'group', 'select_with_value', 'operate', 'cancel'))
-    model = count['control_model'] // 4 + 1  # of one of four kinds, and sboTimeout
-    breaker = (1 + count['position'] + count['position_model'] + control + model
-               + 1 + count['interlocking'])
-    return (breaker, breaker + count['type'] // 2, 1 + count['meter'],
-            2 + count['device'] + count['physical'])
+def most_rows(profile):
+    """How many rows a bay has with as many breakers, or as many other switches, as it may have, all
+    with enhanced select, and as many meters and inputs."""
+    nodes = {name: 1 + len(lines) for name, lines in node_lines(profile).items()}
+    control = nodes['CSWIn'] + sum(map(len, map(lines, ('select_with_value', 'operate', 'cancel'))))
+    own = nodes['LLN0'] + nodes['LPHD1'] + 8 * nodes['MMXUn']
+    if profile == 2:
+        own += nodes['GGIO1'] + 63 * (len(lines('input')) + len(lines('input_description')))
+    return [own + 32 * (nodes[name] + control + nodes['CILOn']) for name in ('XCBRn', 'XSWIn')]
 
 
 def numbers(text):
@@ -102,19 +98,21 @@ class Limits(unittest.TestCase):
     def test_a_bay_at_all_its_limits(self):
         """Its file has as many bytes as DECISIONS says, and its rows are those of RESULTS."""
         names = ''.join(f'[[input]]\nname = "I{at:015}"\n' for at in range(64)) + ''.join(
-            f'[[meter]]\nid = "M{at:015}"\n' for at in range(8)) + ''.join(
+            f'[[meter]]\nid = "M{at:015}"\nscale = -6\n' for at in range(8)) + ''.join(
             f'[[switch]]\nid = "S{at:015}"\nkind = "breaker"\ncontrol = "sbo-enhanced"\n'
             f'sbo_timeout_ms = 600000\ntravel_ms = 600000\nremote = "I{at:015}"\n'
             'synchrocheck = "refuse"\n' for at in range(32))
         texts = ''.join(f'{key} = "{"x" * 64}"\n' for key in ('vendor', 'model', 'revision'))
-        file = f'[bay]\ndomain = "{"D" * 32}"\n{texts}scan_max_age_ms = 600000\n{names}'
+        file = (f'[bay]\ndomain = "{"D" * 32}"\n{texts}scan_max_age_ms = 600000\nprofile = 2\n'
+                + names)
         page = (TOP / 'docs' / 'DECISIONS.md').read_text(encoding='utf-8')
         self.assertIn(f'a bay at all its limits has {len(file):,} bytes', ' '.join(page.split()))
-        breaker, other, meter, device = rows_of_switches()
-        page = (TOP / 'bench' / 'RESULTS.md').read_text(encoding='utf-8')
-        for told, switch in (('{:,} rows;', breaker), ('a bay has {:,} at most', other)):
-            count = device + 8 * meter + 32 * switch
-            self.assertIn(told.format(count), ' '.join(page.split()))
+        breakers, others = most_rows(1)
+        page = ' '.join((TOP / 'bench' / 'RESULTS.md').read_text(encoding='utf-8').split())
+        for told, count in (('{:,} rows of profile 1;', breakers),
+                            ('a bay has {:,} at most', others),
+                            ('and {:,} rows of profile 2', max(most_rows(2)))):
+            self.assertIn(told.format(count), page)
 
     def test_constants(self):
         """Each limit of the code that is called one by its name has a row."""

@@ -6,7 +6,7 @@ from unittest import mock
 
 from baytools.common.paths import TOP
 from devtools import tested
-from devtools.crate_copy import applied
+from devtools.crate_copy import texts_after_edit
 from devtools.paths import CRATES
 from tests.tool import Tools
 
@@ -18,7 +18,7 @@ class Listed(unittest.TestCase):
         for body in tested.bodies():
             with self.subTest(body.key):
                 crate = CRATES / body.crate
-                for name, text in applied(crate, body.text).items():
+                for name, text in texts_after_edit(crate, body.text).items():
                     self.assertNotEqual(text, (crate / name).read_text(encoding='utf-8'))
 
     def test_what_refuses_each_is_there(self) -> None:
@@ -69,7 +69,7 @@ class Refused(Tools):
             room = pathlib.Path(self.folder / made.__name__.strip('<>'))
             room.mkdir()
             with mock.patch.object(tested, 'part_of', lambda name, it=made: it):
-                why = tested.refused(body, room, self.folder)
+                why = tested.why_not_refused(body, room, self.folder)
             self.assertEqual(why is None, is_refused, why)
 
     def test_one_that_is_not_proved_any_more(self) -> None:
@@ -79,14 +79,14 @@ class Refused(Tools):
         (self.folder / 'room' / 'crates' / 'bayctl').mkdir(parents=True)
         with mock.patch.object(tested, 'put_in'), \
                 mock.patch.dict('os.environ', PATH=f'{self.folder}:/usr/bin:/bin'):
-            self.assertEqual(tested.refused(body, self.folder / 'room'),
+            self.assertEqual(tested.why_not_refused(body, self.folder / 'room'),
                              'it is not proved, so it belongs into wrong-bodies: logic=not-proved')
 
     def test_cases(self) -> None:
         for answer, is_refused in (('not so: run 0\n13 differ', True), ('0 differ', False),
                                    ('error: it does not compile', False)):
-            with mock.patch.object(tested, 'tried', lambda *words, it=answer: it):
-                why = tested.refused(self.body('cases bayctl_cases'), self.folder)
+            with mock.patch.object(tested, 'output_of_cases', lambda *words, it=answer: it):
+                why = tested.why_not_refused(self.body('cases bayctl_cases'), self.folder)
             self.assertEqual(why is None, is_refused, answer)
 
 

@@ -17,7 +17,7 @@ from devtools.trace.definitions import Reader, scope_of_call, unfound
 from devtools.trace.edits import broken, edits_of, laws_about, refused_of
 from devtools.trace.lacking import key_of
 from devtools.trace.markdown import block, inline
-from devtools.trace.promises import PAGES, Promise, Resolver, borne_by, promises, registered
+from devtools.trace.promises import PAGES, Promise, Resolver, borne_by, promises, register
 from devtools.trace.refusals import Refusal
 from devtools.trace.trace_page import FIRST, Sheet, StandardSheet, breaks
 from tests.tool import Tools
@@ -126,7 +126,7 @@ class Reading(unittest.TestCase):
         with tempfile.TemporaryDirectory() as folder:
             path = pathlib.Path(folder) / 'One.antt'
             path.write_text(HEADED, encoding='utf-8')
-            found = [standards.stated(it) for it in Reader('bay_tree', path).read()]
+            found = [standards.clauses_of_definition(it) for it in Reader('bay_tree', path).read()]
         self.assertEqual(found, [
             [], [('X.690', '8.1.3')], [(standards.OWN, 'bay_tree')],
             [(standards.OWN, 'bay_tree: views')], [('X.690', '8.1.2.2'), ('X.690', '8.4')], []])
@@ -166,22 +166,22 @@ class Promises(unittest.TestCase):
         with_id = [it for it in promises() if it.page.name != 'README.md']
         for it in with_id:
             self.assertRegex(it.id, r'^P-\d{3}$', place_text(it))
-            self.assertEqual(registered().get(it.id), key_of(borne_by(it)) or 'every function',
+            self.assertEqual(register().get(it.id), key_of(borne_by(it)) or 'every function',
                              f'{place_text(it)}: {it.id}')
         ids = [it.id for it in with_id]
         self.assertEqual(len(ids), len(set(ids)))
-        gone = {it for it, told in registered().items() if told.startswith('gone')}
-        self.assertEqual(set(registered()) - set(ids), gone)
+        gone = {it for it, told in register().items() if told.startswith('gone')}
+        self.assertEqual(set(register()) - set(ids), gone)
 
     def test_no_id_has_left_the_register(self):
-        numbers = [int(it.removeprefix('P-')) for it in registered()]
+        numbers = [int(it.removeprefix('P-')) for it in register()]
         self.assertEqual(numbers, list(range(1, len(numbers) + 1)))
 
     def test_each_public_clause_belongs_to_a_promise_or_is_judged(self):
         self.assertGreater(len(inner.orphans()), 100)
-        lost = {call for call, _ in inner.orphans() if call not in inner.served()}
+        lost = {call for call, _ in inner.orphans() if call not in inner.inner_calls()}
         for call in lost:
-            self.assertTrue(inner.judged(call), f'{call.crate} {call.title}')
+            self.assertTrue(inner.reason_of_none(call), f'{call.crate} {call.title}')
         self.assertEqual(set(inner.JUDGED), {f'{it.crate} {it.title}' for it in lost})
         self.assertEqual([it.title for it in lost if it.is_law], [])
 
@@ -282,7 +282,8 @@ class Changed(Tools):
 class Standards(unittest.TestCase):
     def test_each_definition_names_its_clause_or_is_own(self):
         for it in (it for crate in standards.STATED for it in standards.definitions_of(crate)):
-            self.assertTrue(standards.stated(it), f'{it.path.relative_to(TOP)}:{it.line}: {it.name}'
+            place = f'{it.path.relative_to(TOP)}:{it.line}'
+            self.assertTrue(standards.clauses_of_definition(it), f'{place}: {it.name}'
                             ' names no clause, and does not say that it is own')
 
     def test_each_definition_is_counted_once(self):

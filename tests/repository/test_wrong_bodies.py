@@ -9,13 +9,14 @@ import unittest
 from unittest import mock
 
 from baytools.common.paths import TOP
-from devtools.commands import loaded
-from devtools.crate_copy import applied, edited
+from devtools.commands import load_command
+from devtools.crate_copy import texts_after_edit, edited_copy
 from devtools.trace import refusals
 from devtools.trace.calls import calls_of
 from devtools.trace.edits import edits_of, is_refused_at
 from devtools.trace.promises import borne_by, promises
-from devtools.trace.refusals import TRIED, Refusal, answers_in, completed, marked, read_table
+from devtools.trace.refusals import (TRIED, Refusal, answers_in, marked_goal, read_table,
+                                     whole_answer)
 from devtools.trace.trace_page import breaks
 from tests.tool import Tools
 
@@ -39,7 +40,7 @@ class Copy(Tools):
 
     def copied_files(self, names: list[str], with_gate: bool) -> set[str]:
         """What stands in the copy of the crate."""
-        loaded('wrong_bodies').copy_of(self.crates, self.room, names, with_gate, {'rlib'})
+        load_command('wrong_bodies').copy_of(self.crates, self.room, names, with_gate, {'rlib'})
         top = self.room / 'crates' / 'low'
         return {str(it.relative_to(top)) for it in top.rglob('*') if it.is_file()}
 
@@ -55,19 +56,19 @@ class Copy(Tools):
         self.assertEqual(self.copied_files([], True), {'src/lib.rt', 'out/rlib/stamp'})
 
     def test_those_that_are_wanted(self) -> None:
-        found = loaded('wrong_bodies').copy_of(self.crates, self.room, ['low'], True, set(),
-                                               lambda name: name == 'low/a')
+        found = load_command('wrong_bodies').copy_of(self.crates, self.room, ['low'], True, set(),
+                                                     lambda name: name == 'low/a')
         self.assertEqual(found, ['low'])
         self.assertEqual([it.name for it in (self.room / 'crates').glob('*/must-fail/*')],
                          ['a.edit'])
 
     def test_a_crate_without_one_that_is_wanted(self) -> None:
-        found = loaded('wrong_bodies').copy_of(self.crates, self.room, ['low'], True, set(),
-                                               lambda name: False)
+        found = load_command('wrong_bodies').copy_of(self.crates, self.room, ['low'], True, set(),
+                                                     lambda name: False)
         self.assertEqual(found, [])
 
     def test_a_twin_stands_where_the_gates_edits_did(self) -> None:
-        tool = loaded('wrong_bodies')
+        tool = load_command('wrong_bodies')
         self.assertEqual(tool.crates_with_twins(self.crates), [])
         (self.crates / 'low' / 'wrong-bodies' / 'b.twin').write_text('harmless')
         self.assertEqual(tool.crates_with_twins(self.crates), ['low'])
@@ -79,7 +80,7 @@ class Copy(Tools):
 
     def test_an_edit_is_taken_back(self) -> None:
         crate = self.crates / 'low'
-        with edited(crate, 'file: src/lib.rt\nold: lib\nnew: other\n'):
+        with edited_copy(crate, 'file: src/lib.rt\nold: lib\nnew: other\n'):
             self.assertEqual((crate / 'src' / 'lib.rt').read_text(), 'src/other.rt')
         self.assertEqual((crate / 'src' / 'lib.rt').read_text(), 'src/lib.rt')
 
@@ -95,7 +96,7 @@ class Tried(Tools):
         command.chmod(0o755)
         with mock.patch.dict(os.environ, CI='true', PATH=f'{self.folder}:{os.environ["PATH"]}'), \
                 contextlib.redirect_stdout(io.StringIO()):
-            self.assertEqual(loaded('wrong_bodies').run_rt('ci', ['low'], self.folder),
+            self.assertEqual(load_command('wrong_bodies').run_rt('ci', ['low'], self.folder),
                              (0, ' ci low\n'))
 
 
@@ -117,7 +118,8 @@ class Kept(Tools):
         pathlib.Path(self.file('rt', f'#!/bin/sh\n{script}\n')).chmod(0o755)
         printed = io.StringIO()
         with contextlib.redirect_stdout(printed):
-            status = loaded('wrong_bodies').try_edits('must-fail', list(crates), self.folder, False)
+            wrong_bodies = load_command('wrong_bodies')
+            status = wrong_bodies.try_edits('must-fail', list(crates), self.folder, False)
         return status, printed.getvalue().splitlines()[-1]
 
     def test_crate_after_crate(self) -> None:
@@ -169,7 +171,7 @@ class Twins(Tools):
         printed = io.StringIO()
         with mock.patch.dict(os.environ, PATH=f'{self.folder}:{os.environ["PATH"]}'), \
                 contextlib.redirect_stdout(printed):
-            status = loaded('wrong_bodies').try_twins('must-fail', ['low'], self.folder)
+            status = load_command('wrong_bodies').try_twins('must-fail', ['low'], self.folder)
         return status, printed.getvalue().splitlines()[-1]
 
     def test_one_that_is_proved(self) -> None:
@@ -238,11 +240,11 @@ class Answers(unittest.TestCase):
         cut = answers_in('must-fail bay_device/one.edit: refused, as it must be: '
                          f'{line[:160]}\n')['bay_device/one']
         self.assertTrue(cut.goal.endswith('values at which this goal is false ..'), cut.goal)
-        other = marked('error: the two types differ only where one ha')
+        other = marked_goal('error: the two types differ only where one ha')
         self.assertEqual(other, 'error: the two types differ only where one ha ..')
         told = dataclasses.replace(cut, goal='it is not proved that what the function ensures ..')
-        self.assertTrue(completed(told, f'so far\n{line}\n').goal.endswith('false: x = 1'))
-        self.assertEqual(completed(told, 'another line\n'), told)
+        self.assertTrue(whole_answer(told, f'so far\n{line}\n').goal.endswith('false: x = 1'))
+        self.assertEqual(whole_answer(told, 'another line\n'), told)
 
     def test_a_caveat_is_shown_and_counts_for_no_clause(self) -> None:
         edit = edits_of('bay_device')[0]
@@ -263,7 +265,7 @@ class Edits(unittest.TestCase):
             for path in CRATES.glob(f'*/{folder}/*'):
                 with self.subTest(path.relative_to(CRATES)):
                     crate = path.parent.parent
-                    texts = applied(crate, path.read_text(encoding='utf-8'))
+                    texts = texts_after_edit(crate, path.read_text(encoding='utf-8'))
                     self.assertTrue(texts)
                     for name, text in texts.items():
                         self.assertNotEqual(text, (crate / name).read_text(encoding='utf-8'))

@@ -184,7 +184,7 @@ class Replays(Tools):
         self.logic = self.file('logic', 'PROGRAM P\nEND_PROGRAM\n')
 
     def accept(self, steps, *more):
-        with mock.patch('baytools.acceptance.on_trace.replayed', replay):
+        with mock.patch('baytools.acceptance.on_trace.report_of_replay', replay):
             return self.call_tool('acceptance', self.file('steps', steps), '--bay', self.bay,
                                   '--logic', self.logic, *more)
 
@@ -307,7 +307,7 @@ class ServedBays(Tools):
         gear = Gear()
         port = Port(gear, greeting)
         with serve_once(Bay(gear)) as server, port.server, \
-                mock.patch('baytools.acceptance.on_server.compared',
+                mock.patch('baytools.acceptance.on_server.compare_with_server',
                            lambda *given: mock.Mock(lines=list)), \
                 mock.patch('baytools.acceptance.on_server.PATIENCE', 0.3):
             found = self.call_tool(

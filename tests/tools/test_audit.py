@@ -7,8 +7,8 @@ from unittest import mock
 from baytools.audit import rule_findings, matrix, program_inputs, replays, verdicts
 from baytools.audit.page import Report
 from baytools.audit.variables import bay_of, keys_of
-from baytools.bay.rules import (INPUT, MEASURE, SWITCH, BadOption, BadRule, Look, held, looked_at,
-                                read_looks, read_rules, time_of, value_of)
+from baytools.bay.rules import (INPUT, MEASURE, SWITCH, BadOption, BadRule, Look, looked_at,
+                                looks_of_option, read_looks, read_rules, time_of, value_of)
 from baytools.common.ending import UsageError
 from baytools.common.svg import SMALL
 from baytools.report.bayctl import TRY
@@ -163,7 +163,7 @@ class Values(unittest.TestCase):
         with self.assertRaisesRegex(BadRule, told):
             self.values('look SPARE open')
         with self.assertRaisesRegex(BadOption, 'SPARE=open: open is not a value of the input'):
-            looked_at(held('--inputs', 'SPARE=open', INPUT), self.KNOWN)
+            looked_at(looks_of_option('--inputs', 'SPARE=open', INPUT), self.KNOWN)
         with self.assertRaisesRegex(BadRule, 'open is not a value of the input'):
             read_rules('never QC1 close when SPARE open', self.KNOWN)
 
@@ -196,7 +196,7 @@ class Values(unittest.TestCase):
                                    ('--measures', 'M9_AA=0', 'M9_AA is not in the bay')):
             kind = {'--inputs': INPUT, '--switches': SWITCH, '--measures': MEASURE}[option]
             with self.assertRaisesRegex(BadOption, re.escape(f'{option} {text}: {told}')):
-                looked_at(held(option, text, kind), self.KNOWN)
+                looked_at(looks_of_option(option, text, kind), self.KNOWN)
 
     def test_a_switch_and_an_input_of_one_name(self):
         file = {**FILE, 'input': [{'name': 'QA1'}, {'name': 'VT_DEAD'}]}
@@ -314,7 +314,8 @@ class Audits(unittest.TestCase):
             found = audit_rules(rules)
         self.assertEqual((len(found.table), found.bay.count()), (50, 4800))
         self.assertIn('50 of 4,800 combinations were tried', verdicts.verdict(found))
-        self.assertEqual((verdicts.status(found), rule_findings.uncovered(found)), (4, None))
+        self.assertEqual((verdicts.status(found), rule_findings.uncovered_release(found)),
+                         (4, None))
         places = range(0, 4800, 7)
         whole = list(found.bay.combinations())
         self.assertEqual([found.bay.combination_at(it) for it in places],
@@ -332,11 +333,12 @@ class Audits(unittest.TestCase):
         self.assertIn('input VT_DEAD 1', '\n'.join(found.lines))
 
     def test_releases_that_no_rule_asks_for(self):
-        found = rule_findings.uncovered(audit_rules('never QC1 close when not VT_DEAD\n'))
+        found = rule_findings.uncovered_release(audit_rules('never QC1 close when not VT_DEAD\n'))
         told = {key: (count, it.text()) for key, (count, it) in found.items()}
         self.assertEqual(told, {('QA1', 0): (8, 'always'),
                                 ('QC1', 1): (1, 'QA1 open and VT_DEAD')})
-        self.assertEqual(rule_findings.uncovered(audit_rules('always QA1 open\n' + AFTER)), {})
+        found = audit_rules('always QA1 open\n' + AFTER)
+        self.assertEqual(rule_findings.uncovered_release(found), {})
 
 
 class Sampled(unittest.TestCase):

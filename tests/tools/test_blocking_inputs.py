@@ -4,7 +4,7 @@ import tomllib
 import unittest
 
 from baytools.audit.answers import read
-from baytools.audit.blocking_inputs import good_name, needed, warnings
+from baytools.audit.blocking_inputs import good_name, needs_of_inputs, warnings
 from baytools.audit.variables import keys_of
 from tests.tool import Tools
 from tests.tools.driven import BAY, WIRING
@@ -20,7 +20,7 @@ def answer(*lines):
 
 def need(*lines):
     """What the releases need of ES, FALSE and TRUE."""
-    found = {it.name: (it.false, it.true) for it in needed(answer(*lines), FILE)}
+    found = {it.name: (it.false, it.true) for it in needs_of_inputs(answer(*lines), FILE)}
     return found['ES']
 
 

@@ -116,7 +116,7 @@ class Captures(unittest.TestCase):
         since = time.monotonic()
         client, _, kinds = read_capture(pcap([session()[0], *parts[1:]]))
         self.assertEqual((len(client), kinds[1]), (50 * 19_999, 'gap'))
-        request = stream.wrapped(stream.data_tsdu(mms.read_request(7, ['D/A'])))
+        request = stream.tpkt_frames(stream.data_tsdu(mms.read_request(7, ['D/A'])))
         found = stream.Stream(connected=True).feed(request * 20_000)
         self.assertEqual(sum(1 for _ in found), 20_000)
         self.assertLess(time.monotonic() - since, 10)
@@ -144,7 +144,7 @@ class Captures(unittest.TestCase):
         self.assertEqual(read_capture(pcap(web), port=10_102)[2], ['open', 'client'])
 
     def test_who_is_the_client(self):
-        answer = stream.framed(bytes([6, stream.CC, 0, 1, 0, 1, 0]))
+        answer = stream.tpkt_frame(bytes([6, stream.CC, 0, 1, 0, 1, 0]))
         ends = (b'\x0a\x00\x00\x04', 40_102), (b'\x0a\x00\x00\x03', 40_000)
         events = Capture(pcap([segment(*ends, 5, ACK, answer)])).events()
         self.assertEqual([(it.kind, it.who) for it in events], [('middle', '10.0.0.3'),
@@ -231,12 +231,12 @@ class Talks(Tools):
 
     @staticmethod
     def wrap_pdu(pdu):
-        return stream.wrapped(stream.data_tsdu(pdu))
+        return stream.tpkt_frames(stream.data_tsdu(pdu))
 
     def capture(self, pieces):
         """The octets of a capture in which the answer comes in these pieces."""
         request = stream.connection_request()
-        answer = stream.framed(bytes([6, stream.CC, 0, 1, 0, 1, 0]))
+        answer = stream.tpkt_frame(bytes([6, stream.CC, 0, 1, 0, 1, 0]))
         found, at = [segment(CLIENT, SERVER, 0, SYN), segment(SERVER, CLIENT, 0, SYN | ACK),
                      segment(CLIENT, SERVER, 1, ACK, request + self.asked)], 1
         for piece in [answer, *pieces]:
@@ -268,7 +268,7 @@ class Talks(Tools):
         """A session whose client reads the same again and again."""
         events = [Event(0, 1, 'open', who='10.0.0.1'), Event(0, 1, 'client',
                                                              stream.connection_request()),
-                  Event(0, 1, 'server', stream.framed(bytes([6, stream.CC, 0, 1, 0, 1, 0])))]
+                  Event(0, 1, 'server', stream.tpkt_frame(bytes([6, stream.CC, 0, 1, 0, 1, 0])))]
         for at in range(1, times + 1):
             value = mms.octets_of(mms.Data(mms.INTEGER, at))
             answer = element(0xA1, number(2, at), element(0xA4, element(0xA1, value)))

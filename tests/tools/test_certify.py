@@ -5,7 +5,7 @@ import unittest
 from unittest import mock
 
 from baytools.certify import authority
-from devtools.commands import loaded
+from devtools.commands import load_command
 from tests.tool import Tools
 from tests.tools.trust import needs_openssl
 
@@ -132,7 +132,7 @@ class Certificates(Tools):
 
 class Days(unittest.TestCase):
     def test_days_of_openssl(self):
-        day_of = loaded('certify').day_of
+        day_of = load_command('certify').day_of
         self.assertEqual([day_of(it) for it in ('271128100705Z', '20501128100705Z',
                                                 '261128100707Z,keyCompromise')],
                          ['2027-11-28', '2050-11-28', '2026-11-28'])

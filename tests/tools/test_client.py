@@ -20,7 +20,7 @@ from tests.tools.loopback import needs_loopback, needs_waiting
 ACCEPT = stream.item(0x0E, stream.item(0xC1, element(0x31, element(0xA2, element(
     0x61, element(0x30, number(2, 1), element(0xA0, element(0x61, element(0xBE, element(
         0x28, element(0xA0, element(0xA9, number(0x80, 65_000)))))))))))))
-CONFIRM = stream.framed(bytes([6, stream.CC, 0, 1, 0, 1, 0]))
+CONFIRM = stream.tpkt_frame(bytes([6, stream.CC, 0, 1, 0, 1, 0]))
 GOOD = '0' * 13
 
 
@@ -111,14 +111,14 @@ class Bay:
         if got.kind == 'CR':
             return [CONFIRM]
         if got.kind == 'associate':
-            return [stream.wrapped(ACCEPT)]
+            return [stream.tpkt_frames(ACCEPT)]
         if got.kind == 'finish':
-            return [stream.wrapped(stream.item(stream.DISCONNECT))]
+            return [stream.tpkt_frames(stream.item(stream.DISCONNECT))]
         if got.kind != 'mms':
             return []
         pdu = mms.read_pdu(got.octets)
         self.requests.append(pdu)
-        return (stream.wrapped(stream.data_tsdu(it)) for it in self.answer(pdu))
+        return (stream.tpkt_frames(stream.data_tsdu(it)) for it in self.answer(pdu))
 
 
 @needs_loopback

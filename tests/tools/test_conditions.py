@@ -3,7 +3,8 @@ import itertools
 import random
 import unittest
 
-from baytools.bay.conditions import Products, TooLarge, Variable, cells, condition, fewest, reduced
+from baytools.bay.conditions import (Products, TooLarge, Variable, cells, condition, fewest,
+                                     reduce_variables)
 
 POSITIONS = ('intermediate', 'open', 'closed', 'bad')
 QA1, QB1, QC1 = (Variable(name, POSITIONS) for name in ('QA1', 'QB1', 'QC1'))
@@ -39,7 +40,7 @@ class Conditions(unittest.TestCase):
 
     def test_what_does_not_matter(self):
         holds = table([QA1, QB1, ES], lambda w: w['QB1'] == 'closed')
-        self.assertEqual(reduced([4, 4, 2], holds), ([1], '0010'))
+        self.assertEqual(reduce_variables([4, 4, 2], holds), ([1], '0010'))
 
     def test_an_exclusive_or(self):
         found = condition([ES, LR], table([ES, LR], lambda w: w['ES'] != w['LR']))
@@ -87,7 +88,7 @@ class Conditions(unittest.TestCase):
             of = {}
             truths = ''.join(of.setdefault(tuple(it[at] for at in needed), chance.choice('01'))
                              for it in itertools.product(*map(range, sizes)))
-            places, left = reduced(sizes, truths)
+            places, left = reduce_variables(sizes, truths)
             self.assertLessEqual(set(places), set(needed))
             kept = [it for it in itertools.product(*map(range, sizes))
                     if all(not it[at] for at in range(4) if at not in places)]

@@ -255,6 +255,30 @@ class Bays(unittest.TestCase):
             self.assertEqual(refusal_with(key + '\n', file=status)[:2], (
                 52, f'control = "status" has no {key.partition(" ")[0]}'))
 
+    def test_the_profile_of_the_model(self):
+        def told(line, more=''):
+            age = 'scan_max_age_ms = 1000\n'
+            return first_refusal(FILE.replace(age, f'{age}{line}\n') + more)
+
+        meter = '[[meter]]\nid = "M9"\nscale = '
+        self.assertIsNone(told('profile = 1'))
+        self.assertIsNone(told('profile = 2'))
+        for scale in ('-6', '0', '6'):
+            self.assertIsNone(told('profile = 2', f'{meter}{scale}\n'))
+        only = 'only a meter of profile 2 has a scale'
+        for line, more, code, why in (
+                ('profile = 0', '', 53, '0 is not from 1 to 2'),
+                ('profile = 3', '', 53, '3 is not from 1 to 2'),
+                ('profile = "1"', '', 53, 'the value must be a whole number'),
+                ('Profile = 1', '', 52, 'no key Profile here; is profile meant?'),
+                ('profile = 1', f'{meter}3\n', 52, only), ('', f'{meter}3\n', 52, only),
+                ('profile = 2', f'{meter}7\n', 53, '7 is not from -6 to 6'),
+                ('profile = 2', f'{meter}-7\n', 53, '-7 is not from -6 to 6'),
+                ('profile = 2', f'{meter}"3"\n', 53, 'the value must be a whole number')):
+            found = told(line, more)
+            self.assertEqual(found[0], code, line)
+            self.assertIn(why, found[1])
+
     def test_two_points_of_one_name(self):
         found = first_refusal(FILE.replace('QC9', 'qc2'))
         self.assertEqual(found[1], 'switch 1 (QC2) and switch 2 (qc2) would both have a point '

@@ -12,13 +12,13 @@ from baytools.audit.variables import keys_of
 from baytools.bay.files import bay_at
 from baytools.bay.rules import read_rules
 from baytools.common.paths import TOP
-from baytools.diagram.diagram_file import read_diagram, written
+from baytools.diagram.diagram_file import read_diagram, file_text
 from baytools.diagram.network import BadDiagram
 from baytools.rules.demands import ALONE, CURRENT, JOINS, MEETS, STAYS, SYSTEMS, demands_of, text_of
 from baytools.rules.paths import paths_between
 from devtools.check import diagrams
 from devtools.check.planted import read_faults
-from devtools.truths import States, forbidden, joined, releases
+from devtools.truths import States, forbidden, forbidden_states, releases
 from tests.tool import Tools
 
 FOLDER = TOP / 'examples' / '07_diagrams'
@@ -289,7 +289,7 @@ class Examples(Tools):
         for path in EXAMPLES:
             file = bay_at(path)[1]
             net = read_diagram(path.with_name('diagram.toml').read_text(), 'd', file)
-            again = read_diagram(written(net), 'd', file)
+            again = read_diagram(file_text(net), 'd', file)
             self.assertEqual((net.nodes, net.switches), (again.nodes, again.switches))
 
     def test_keys_that_ask_for_hazards(self):
@@ -301,7 +301,7 @@ class Examples(Tools):
         breaker = next(it for it in net.switches if it.name == 'QA1')
         self.assertEqual((net.live_parts, net.fed_earths), (True, True))
         self.assertEqual((breaker.synchro, breaker.is_coupler), ('CA1_CLOSED', True))
-        again = read_diagram(written(net), 'd', file)
+        again = read_diagram(file_text(net), 'd', file)
         self.assertEqual((net.nodes, net.switches, net.live_parts, net.fed_earths),
                          (again.nodes, again.switches, again.live_parts, again.fed_earths))
         plain = read_diagram(text, 'd', file)
@@ -323,7 +323,8 @@ class Examples(Tools):
     def test_each_rule_by_hand_follows_from_those_of_the_diagram(self):
         for path in EXAMPLES:
             states = States(bay_at(path)[1])
-            tools = joined(forbidden(states, path.with_name('rules_of_diagram').read_text()))
+            rules = path.with_name('rules_of_diagram').read_text()
+            tools = forbidden_states(forbidden(states, rules))
             for release, rows in forbidden(states, path.with_name('rules').read_text()).items():
                 for line, bits in rows:
                     self.assertFalse(bits & ~tools.get(release, 0), f'{path}: rules: line {line}')
@@ -332,7 +333,8 @@ class Examples(Tools):
         count = 0
         for path in EXAMPLES:
             states, logic = States(bay_at(path)[1]), path.with_name('logic.il').read_text()
-            tools = joined(forbidden(states, path.with_name('rules_of_diagram').read_text()))
+            rules = path.with_name('rules_of_diagram').read_text()
+            tools = forbidden_states(forbidden(states, rules))
             for fault in read_faults(path.with_name('faults').read_text()):
                 given = releases(states, fault.planted(logic))
                 broken = {release for release in given if given[release] & tools.get(release, 0)}

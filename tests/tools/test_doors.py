@@ -12,7 +12,7 @@ from baytools.common.paths import TOP
 from baytools.wire.tls import CIPHERS
 from devtools import guarded
 from devtools.check import doors, reachable
-from devtools.commands import loaded
+from devtools.commands import load_command
 
 PAGE_OF_ALL = TOP / 'packaging' / 'units' / 'bayctl-station.service'
 PAGE = TOP / 'examples' / '11_networked' / 'README.md'
@@ -94,7 +94,7 @@ class Used(unittest.TestCase):
             reachable.with_users('')
 
     def test_what_is_not_installed_is_told_and_counted(self):
-        checks = loaded('check').Checks(None, None)
+        checks = load_command('check').Checks(None, None)
         with mock.patch('shutil.which', lambda name: None), \
                 contextlib.redirect_stdout(io.StringIO()) as told:
             doors.all_of(checks)

@@ -13,7 +13,7 @@ from unittest import mock
 
 from baytools.common.ending import OF_TOOLS, STATUSES, status_of
 from baytools.common.paths import TOOLS, TOP
-from baytools.common.texts import counted, escaped, in_line, raised
+from baytools.common.texts import quantity, visible_text, in_line, upcase
 from tests.tool import Tools, interruptible
 
 BAY = '''[bay]
@@ -36,16 +36,17 @@ PLAIN = ('', 'switch = [5]\n', '[bay]\ndomain = 5\nswitch = []\n')  # TOML that 
 
 class Texts(unittest.TestCase):
     def test_names(self):
-        self.assertEqual(raised('q\u017f1_\u0131\u00e9'), 'Q\u017f1_\u0131\u00e9')
+        self.assertEqual(upcase('q\u017f1_\u0131\u00e9'), 'Q\u017f1_\u0131\u00e9')
 
     def test_what_can_not_be_seen(self):
-        self.assertEqual(escaped('a\x1b[2J\n\x00\u202eb\u00e9\ud800'),
+        self.assertEqual(visible_text('a\x1b[2J\n\x00\u202eb\u00e9\ud800'),
                          'a\\x1b[2J\n\\x00\\u202eb\u00e9\\ud800')
         self.assertEqual(in_line('a\nb\tc'), 'a\\nb\\tc')
 
     def test_counts(self):
-        self.assertEqual([counted(1, 'line'), counted(2, 'line'), counted(0, 'switch', 'switches')],
-                         ['1 line', '2 lines', '0 switches'])
+        self.assertEqual(
+            [quantity(1, 'line'), quantity(2, 'line'), quantity(0, 'switch', 'switches')],
+            ['1 line', '2 lines', '0 switches'])
 
 
 class Statuses(Tools):

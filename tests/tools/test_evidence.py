@@ -27,7 +27,7 @@ class Heads(Tools):
         text = page.read_text()
         self.assertEqual(text.count('<table class="evidence">'), 2, tool)
         made_by = command(tool).relative_to(TOP)
-        for told in ('>Machine<', page_head.escaped(page_head.machine()), f'>{made_by} of ',
+        for told in ('>Machine<', page_head.as_html(page_head.machine()), f'>{made_by} of ',
                      'commit ', '>Made at<', '>Time<', 'SHA-256'):
             self.assertIn(told, text, tool)
         for path in sources:

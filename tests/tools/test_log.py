@@ -9,7 +9,7 @@ from html.parser import HTMLParser
 
 from baytools.log import server_lines
 from baytools.log.digest import Span, without_link
-from baytools.log.entries import Entry, entries_of, entry_of, zoned
+from baytools.log.entries import Entry, entries_of, entry_of, moment_with_zone
 from baytools.log.server_lines import event_of
 from tests.tool import Tools, zone
 
@@ -228,7 +228,7 @@ class Logs(Tools):
     def test_logs_of_earlier_versions(self):
         """They have milliseconds since 1970, on and off, and no more than links and controls."""
         earlier = re.sub(r'(?m)^\S+ (position|release|operate of|process lost).*\n', '', SERVER)
-        earlier = re.sub(r'(?m)^\S+Z(?= )', lambda it: str(zoned(it[0])), earlier)
+        earlier = re.sub(r'(?m)^\S+Z(?= )', lambda it: str(moment_with_zone(it[0])), earlier)
         earlier = earlier.replace('QB1 close', 'QB1 on').replace('QB1 open o', 'QB1 off o')
         _, out, door = self.both()
         found = self.run_log(self.file('server', earlier), out, door)

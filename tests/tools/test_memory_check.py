@@ -9,9 +9,9 @@ LACK = 'return Err(AllocError);'
 # What is wrong, the source, a line of it that stands there once, and what stands there instead.
 WRONG = (
     ('a bay of many inputs', 'bay_config/src/read.rt',
-     'let rows = rows_of(alloc, &sections.nameplate, switches, meters)?;',
+     'let rows = rows_of(alloc, &sections.nameplate, switches, inputs, meters)?;',
      'if sections.inputs.as_slice().len() > 60 { return Err(BayFault::OutOfMemory); }'
-     ' let rows = rows_of(alloc, &sections.nameplate, switches, meters)?;'),
+     ' let rows = rows_of(alloc, &sections.nameplate, switches, inputs, meters)?;'),
     ('an image behind the first event', 'bay_device/src/device.rt',
      'encode(self.alloc, self.state.machine.verified().image())',
      f'if self.state.moment > 0 {{ {LACK} }}'

@@ -4,14 +4,14 @@ import unittest
 from baytools.bay.names import Names
 from baytools.common import moments
 from baytools.report.history import History
-from baytools.report.joined import BadTrace, lines_of, merged, read_lines, renumbered
+from baytools.report.joined import BadTrace, lines_of, merge_traces, read_lines, renumber
 from baytools.wire import stream
 from baytools.wire.capture import Event
 from tests.tool import Tools, zone
 
 DAY = 1_795_000_000_000
 REQUEST = stream.connection_request()
-RELEASE = stream.wrapped(stream.release_request())
+RELEASE = stream.tpkt_frames(stream.release_request())
 
 
 class Moments(unittest.TestCase):
@@ -42,18 +42,18 @@ class Moments(unittest.TestCase):
 
 class Joined(Tools):
     def test_lines_of_a_trace_come_first(self):
-        found = merged([[(0, 'contact QA1 2'), (9, 'scan')], [(DAY, 'open 1')]])
+        found = merge_traces([[(0, 'contact QA1 2'), (9, 'scan')], [(DAY, 'open 1')]])
         self.assertEqual(found, f'{DAY} contact QA1 2\n{DAY} scan\n{DAY} open 1')
 
     def test_moments_are_kept_where_none_is_of_our_days(self):
-        self.assertEqual(merged([[(5, 'scan')], [(3, 'contact QA1 1')]]),
+        self.assertEqual(merge_traces([[(5, 'scan')], [(3, 'contact QA1 1')]]),
                          '3 contact QA1 1\n5 scan')
 
     def test_clients_have_numbers_of_their_own(self):
-        found = renumbered([[(1, 'open 1'), (2, 'recv 1 03'), (3, 'scan')], [(1, 'open 1')]])
+        found = renumber([[(1, 'open 1'), (2, 'recv 1 03'), (3, 'scan')], [(1, 'open 1')]])
         self.assertEqual(found, [[(1, 'open 1'), (2, 'recv 1 03'), (3, 'scan')], [(1, 'open 2')]])
         with self.assertRaises(BadTrace):
-            renumbered([[(1, f'open {n}')] for n in range(9)])
+            renumber([[(1, f'open {n}')] for n in range(9)])
 
     def test_lines_that_are_none(self):
         for text in ('scan', '5', 'x scan', '-1 scan'):

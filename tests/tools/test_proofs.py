@@ -311,7 +311,7 @@ class Verdicts(unittest.TestCase):
         look = 'look M1_AA ' + '|'.join(map(str, range(10_000))) + '\n'
         found = prove(look + 'always QA1 open\n', LOADED + 'rule 2 QA1 open holds cases=1\n')
         self.assertEqual((len(found.table), verdicts.status(found)), (0, 0))
-        self.assertEqual(rule_findings.uncovered(found), {})
+        self.assertEqual(rule_findings.uncovered_release(found), {})
         with mock.patch.multiple('baytools.audit.rule_findings', USUAL=4, WHOLE=100):
             rules, answer = 'always QA1 open\n', LOADED + 'rule 1 QA1 open holds cases=2\n'
             self.assertEqual([len(prove(rules, answer, is_table_asked=it).table)
@@ -375,9 +375,9 @@ class Verdicts(unittest.TestCase):
 class Scenarios(unittest.TestCase):
     def test_a_state_of_a_case(self):
         case = Case({QA1: ((2, 2), (3, 3)), AA: ((5, 9),)})
-        self.assertEqual(proofs.completed(case, list(all_things(FILE)))[QA1], 2)
-        self.assertEqual(proofs.completed(case, list(all_things(FILE)))[AA], 5)
-        self.assertEqual(proofs.completed(Case({}), list(all_things(FILE)))[QC1], 1)
+        self.assertEqual(proofs.complete_state(case, list(all_things(FILE)))[QA1], 2)
+        self.assertEqual(proofs.complete_state(case, list(all_things(FILE)))[AA], 5)
+        self.assertEqual(proofs.complete_state(Case({}), list(all_things(FILE)))[QC1], 1)
 
     def test_a_case_in_words(self):
         case = Case({QA1: ((0, 0), (2, 3)), DEAD: ((1, 1),), AA: ((-2 ** 31, -1), (6, 9))})
@@ -439,7 +439,7 @@ class Conditions(unittest.TestCase):
         held = ''.join(f'rule {line} {way} holds cases=1\n' for line, way in (
             (1, 'QA1 open'), (2, 'QC1 close'), (3, 'QC1 close')))
         found = prove(rules, LOADED + held + ANSWER[ANSWER.index('release'):])
-        bare = rule_findings.uncovered(found)
+        bare = rule_findings.uncovered_release(found)
         self.assertEqual({key: (count, it.lines()) for key, (count, it) in bare.items()}, {
             ('QC1', 1): (None, ['QA1 open and M1_AA <= -1 (depends on t1, LOCK)',
                                 'QA1 open and not VT_DEAD and (M1_AA <= -1 or M1_AA >= 6) '
@@ -455,7 +455,7 @@ class Conditions(unittest.TestCase):
             text = ''.join(f'always QC1 close when {rng.choice(words)} and {rng.choice(words)}\n'
                            for _ in range(rng.randrange(3)))
             rules = read_rules(text, KEYS)
-            told = proofs.derived(answers.Release('QC1', 1, cases), FILE, rules)
+            told = proofs.derive_release(answers.Release('QC1', 1, cases), FILE, rules)
             for _ in range(40):
                 state = {QA1: rng.randrange(4), QC1: rng.randrange(4), DEAD: rng.randrange(2),
                          AA: rng.randrange(-1, 9)}

@@ -11,7 +11,7 @@ from baytools.common.ending import Failed
 from baytools.common.paths import TOP
 from devtools.paths import CRATES, DATA
 from devtools.release import evidence
-from devtools.release.package import COMMANDS, laid_out, listed, moved, package
+from devtools.release.package import COMMANDS, laid_out, files_below, packaged_unit, package
 from devtools.trace.definitions import Definition
 from devtools.trusted.checked import axioms_in, counts_in, libraries_in, verdict_in
 from devtools.trusted.sizes import definitions, kind_of
@@ -30,7 +30,7 @@ logic=proved functions=1 sum=00
 
 class Package(Tools):
     def test_the_places(self):
-        text = moved('ExecStart=/usr/local/bin/bayctl x /usr/local/lib/bayctl/tools/log\n')
+        text = packaged_unit('ExecStart=/usr/local/bin/bayctl x /usr/local/lib/bayctl/tools/log\n')
         self.assertEqual(text, 'ExecStart=/usr/bin/bayctl x /usr/share/bayctl/tools/log\n')
 
     def test_what_is_installed(self):
@@ -84,9 +84,10 @@ class Package(Tools):
         self.assertEqual(listed_there.replace('\\', ' ').split(), list(COMMANDS))
 
     def test_what_checks_the_examples_is_left_out(self):
-        found = listed('examples')
+        found = files_below('examples')
         self.assertTrue([it for it in found if it.endswith('/bay.toml')])
-        self.assertEqual([it for it in found if it.endswith(('/check', '/run'))], [])
+        checks = '/check', '/run', '/try', '/serve'
+        self.assertEqual([it for it in found if it.endswith(checks)], [])
 
     @unittest.skipUnless(shutil.which('dpkg-deb'), 'dpkg-deb is not there')
     def test_the_package(self):
@@ -130,17 +131,17 @@ class Completions(Tools):
 class Evidence(Tools):
     def test_a_count(self):
         log = '1 passed, 0 failed\nci: 3 passed, 1 failed\n12 passed, 0 failed\n'
-        self.assertEqual(evidence.counted(log), (12, 0, 0, 0, 0))
-        self.assertEqual(evidence.counted('no count\n'), (0, 0, 0, 0, 0))
-        self.assertEqual(evidence.counted('9 passed, 0 failed, 4 not tried\n'), (9, 0, 4, 0, 0))
+        self.assertEqual(evidence.last_count(log), (12, 0, 0, 0, 0))
+        self.assertEqual(evidence.last_count('no count\n'), (0, 0, 0, 0, 0))
+        self.assertEqual(evidence.last_count('9 passed, 0 failed, 4 not tried\n'), (9, 0, 4, 0, 0))
 
     def test_a_row_says_what_was_proved_anew(self):
         log = ('rt: low is kept: an earlier run on this machine proved the same files\n'
                'rt: mid proved\nrt: top: trying its must-fail edits (2)\nrt: top proved\n'
                'rt: mid is kept: an earlier run on this machine proved the same files\n'
                '9 passed, 0 failed\n')
-        self.assertEqual(evidence.counted(log), (9, 0, 0, 2, 1))
-        gate = evidence.Run(0, 3.4, *evidence.counted(log))
+        self.assertEqual(evidence.last_count(log), (9, 0, 0, 2, 1))
+        gate = evidence.Run(0, 3.4, *evidence.last_count(log))
         with mock.patch.object(evidence, 'output_of', return_value='x'):
             row = evidence.summary('1.2.3', gate, None)
         self.assertTrue(row.endswith('| 9 passed, 0 failed, 3 minutes, 2 crates proved and 1 taken '

@@ -11,7 +11,7 @@ from baytools.wire.ber import element, number
 from baytools.wire.client import Client
 from baytools.wire.conversation import Conversation
 from baytools.wire.mms import BITS, BOOLEAN, INTEGER, STRUCTURE, TEXT, TIME, UNSIGNED, Data
-from baytools.wire.same_bay import Comparison, compared
+from baytools.wire.same_bay import Comparison, compare_with_server
 from tests.tool import Tools
 from tests.tools.loopback import needs_loopback
 from tests.tools.test_capture import ACK, CLIENT, SERVER, pcap, segment
@@ -99,7 +99,7 @@ def compare_bays(text, file=FILE):
     asked = Server(Model(text))
     with serve_once(asked) as server:
         client = Client(*server.getsockname(), Names(file))
-        found = compared(client, tomllib.loads(file)).lines()
+        found = compare_with_server(client, tomllib.loads(file)).lines()
         client.close()
     return found, asked.requests
 
@@ -151,7 +151,7 @@ class Differences(unittest.TestCase):
         model.rows['LLN0$DC'].value[0].value.append(Data(TEXT, 'more'))
         with serve_once(Server(model)) as server:
             client = Client(*server.getsockname(), Names(FILE))
-            found = compared(client, tomllib.loads(FILE)).lines()
+            found = compare_with_server(client, tomllib.loads(FILE)).lines()
             client.close()
         self.assertEqual(found, ['the server\'s LLN0$DC has other parts'])
 
@@ -272,7 +272,7 @@ class Captures(Tools):
                                                                 'revision = "2"'))
         requests = [mms.read_request(at, [f'B1/{item}']) for at, item in enumerate(asked, 1)]
         answers = [octets for it in requests for octets in model(mms.read_pdu(it))]
-        return ([stream.wrapped(stream.data_tsdu(it)) for it in side]
+        return ([stream.tpkt_frames(stream.data_tsdu(it)) for it in side]
                 for side in (requests, answers))
 
     def test_what_the_answers_tell(self):

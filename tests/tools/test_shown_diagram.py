@@ -13,7 +13,7 @@ from baytools.bay.rules import INPUT, SWITCH
 from baytools.diagram.diagram_file import diagram_at
 from baytools.diagram.drawing import draw, in_service, usual_positions
 from baytools.panel.web import Pages
-from devtools.commands import loaded
+from devtools.commands import load_command
 from tests.tool import Tools
 from tests.tools import test_proofs
 from tests.tools.loopback import needs_loopback
@@ -101,7 +101,7 @@ class Reports(Tools):
 
 class Panels(Tools):
     def picture(self, *words) -> str:
-        panel = loaded('panel')
+        panel = load_command('panel')
         chosen = panel.options().parse_args(['--bay', str(LINE), '1', *map(str, words)])
         return panel.picture_of(chosen, bay_at(LINE)[1])
 

@@ -7,7 +7,7 @@ from baytools.fieldbus.gpio_lines import GPIO
 from baytools.fieldbus.keyed import Miswired
 from baytools.fieldbus.modbus_tcp import MODBUS
 from baytools.fieldbus.samples import (BAD, CLOSED, ENDS, INTERMEDIATE, OPEN, Held, Sampled,
-                                       double_point, line_of, measured, rank)
+                                       double_point, line_of, measured_value, rank)
 from baytools.fieldbus.terminals import page, sheet
 from baytools.fieldbus.wiring import wiring_of
 from tests.tool import Tools
@@ -249,7 +249,7 @@ class Samples(unittest.TestCase):
     def measure(self, more, registers):
         text = edit('type = "int16"', more)
         module, = wiring_of(text, BAY, MODBUS)
-        return measured(module.measures[0], dict(enumerate(registers)))
+        return measured_value(module.measures[0], dict(enumerate(registers)))
 
     def test_measures(self):
         for more, registers, value in (

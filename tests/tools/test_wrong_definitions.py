@@ -10,10 +10,10 @@ from devtools.paths import CRATES, DATA
 from devtools.trace.calls import calls_of
 from devtools.trace.definitions import Definition, definitions_in
 from devtools.trace.inner import all_below
-from devtools.wrong_definitions.anchors import read_table, keep, merged, row
+from devtools.wrong_definitions.anchors import read_table, keep, merge_tables, row
 from devtools.wrong_definitions.changes import (PRELUDE, Change, Changer, changes_of, lines_of,
                                                 text_of)
-from devtools.wrong_definitions.headline import citing, reached
+from devtools.wrong_definitions.headline import citing, definitions_of_headline
 from devtools.wrong_definitions.laws import Room, answer_of, laws_on
 from devtools.wrong_definitions.trying import (BROKEN, PROVES, UNKNOWN, UNREAD, Answer, answer_in,
                                                title_of)
@@ -132,7 +132,7 @@ class Texts(unittest.TestCase):
                       change(text, 'arm'))
 
     def test_each_change_of_the_headline_is_at_one_place(self):
-        found = [change for it in reached() for change in changes_of(it)]
+        found = [change for it in definitions_of_headline() for change in changes_of(it)]
         self.assertGreater(len(found), 2000)
         self.assertEqual(len({it.id for it in found}), len(found))
         for it in found:
@@ -149,10 +149,11 @@ class Texts(unittest.TestCase):
 
 class Reached(unittest.TestCase):
     def test_what_the_headline_rests_on(self):
-        names = {f'{it.crate}.{it.name}' for it in reached()}
+        names = {f'{it.crate}.{it.name}' for it in definitions_of_headline()}
         self.assertLessEqual({'bay_control.rows_of_operate', 'bay_control.IsBacked',
                               'bay_device.HasScan', 'bay_device.is_fresh', 'il_image.act'}, names)
-        self.assertLessEqual({it.crate for it in reached()}, {it.name for it in CRATES.iterdir()})
+        self.assertLessEqual({it.crate for it in definitions_of_headline()},
+                             {it.name for it in CRATES.iterdir()})
 
     def test_what_cites_it(self):
         self.assertEqual(list(itertools.islice(citing(only('selection_at')), 2)),
@@ -231,7 +232,8 @@ class Laws(Tools):
         taken = {kind: [it.partition('=')[0].partition(':')[0]
                         for flag, it in itertools.pairwise(words) if flag == kind]
                  for kind in ('--lib', '--extern')}
-        self.assertEqual(taken['--lib'], ['bay_control', 'bay_mms_services', 'bay_device'])
+        self.assertEqual(taken['--lib'], ['bay_control', 'bay_process', 'bay_mms_services',
+                                          'bay_device'])
         self.assertLessEqual({'std', 'toml', 'bay_tree', 'bay_ber'}, set(taken['--extern']))
         self.assertFalse(set(taken['--lib']) & set(taken['--extern']))
 
@@ -255,7 +257,7 @@ class Tables(Tools):
     def test_rows_are_added_and_replaced(self):
         old = {it: row('1', '2', Answer(PROVES, ('x',))) for it in ('b', 'gone', 'a')}
         new = {'a': row('1', '2', Answer(BROKEN, ('x', 'y'), 'y', 'g/c', 'goal'))}
-        table = merged(old, new, {'a': ('1', '2'), 'b': ('1', '2'), 'gone': ('1', '3')})
+        table = merge_tables(old, new, {'a': ('1', '2'), 'b': ('1', '2'), 'gone': ('1', '3')})
         self.assertEqual([(name, it['verdict']) for name, it in table.items()],
                          [('a', BROKEN), ('b', PROVES)])
         path = self.folder / 'table.json'
@@ -299,7 +301,7 @@ class Tool(Tools):
                          (3, f'wrong_definitions: {self.folder}/odd: it is no table of answers\n'))
 
     def test_the_table_is_of_changes_that_are_there(self):
-        there = lines_of(change for it in reached() for change in changes_of(it))
+        there = lines_of(change for it in definitions_of_headline() for change in changes_of(it))
         for table in ('anchors.json', 'laws.json'):
             self.assertEqual([name for name, it in read_table(DATA / table).items()
                               if there.get(name) != (it['before'], it['after'])], [])

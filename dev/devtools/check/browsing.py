@@ -125,7 +125,7 @@ class Bench:
             which.run.send_signal(signal.SIGCONT)
 
 
-def held(bench: Bench, page: Page) -> None:
+def hold_keys(bench: Bench, page: Page) -> None:
     """Enter and the space bar are held on a switch and on Open, with answers at once and late."""
     for key in ('Enter', ' '):
         for start in (QA1, '#button-open'):
@@ -261,7 +261,7 @@ def deliberate(bench: Bench, page: Page) -> None:
     page.key('Escape')
 
 
-def restarted(bench: Bench, page: Page) -> None:
+def restart_panel(bench: Bench, page: Page) -> None:
     """The panel is started anew, with a page open."""
     bench.panel.kill()
     is_told = Page.comes(lambda: 'panel gone' in page.text('#connection'))
@@ -352,11 +352,11 @@ def browsing(checks) -> None:
     with Browser() as browser, contextlib.ExitStack() as room:
         diagrams(checks, browser)
         bench = Bench(checks, browser, room)
-        for part in (held, twice, slow, stood, panel_stopped):
+        for part in (hold_keys, twice, slow, stood, panel_stopped):
             page = bench.page()
             run_part(bench, part, page)
             with contextlib.suppress(Broken):
                 page.closes()
         page = bench.page()
-        for part in (six, deliberate, restarted, process_lost, server_lost):
+        for part in (six, deliberate, restart_panel, process_lost, server_lost):
             run_part(bench, part, page)

@@ -8,7 +8,7 @@ import subprocess
 from baytools.common.paths import TOP
 from devtools.served import Server, free_port
 
-from .by_rules import logged, reached
+from .by_rules import is_port_reached, line_of_file
 
 FOLDER = TOP / 'examples' / '07_diagrams' / 'single'
 BAY, LOGIC, DIAGRAM = FOLDER / 'bay.toml', FOLDER / 'logic.il', FOLDER / 'diagram.toml'
@@ -34,9 +34,9 @@ EDITS = (
 def holding(checks) -> None:
     """A server of whose releases none is a hazard prints their number and serves; its log has the
     sum of the diagram after those of the other files."""
-    bay, program = logged(BAY, 'bay'), logged(LOGIC, 'program')
-    rules = logged(RULES, 'rules', ', 17 hold')
-    diagram = logged(DIAGRAM, 'diagram', f', {COUNT} hold')
+    bay, program = line_of_file(BAY, 'bay'), line_of_file(LOGIC, 'program')
+    rules = line_of_file(RULES, 'rules', ', 17 hold')
+    diagram = line_of_file(DIAGRAM, 'diagram', f', {COUNT} hold')
     for name, words, printed, sums in (
             ('a diagram', ['--diagram', DIAGRAM], LOAD + HELD, [bay, program, diagram]),
             ('rules and a diagram', ['--diagram', DIAGRAM, '--rules', RULES], LOAD + KEPT + HELD,
@@ -55,7 +55,7 @@ def holding(checks) -> None:
         client.close()
 
 
-def started(checks, files: dict, port: int, *more: object) -> subprocess.Popen:
+def start_server(checks, files: dict, port: int, *more: object) -> subprocess.Popen:
     """A server of these files."""
     return subprocess.Popen([checks.bayctl, 'serve', '--bay', files[BAY], '--logic', files[LOGIC],
                              '--diagram', files[DIAGRAM], '--port', str(port), '--turns', '1000000',
@@ -64,7 +64,7 @@ def started(checks, files: dict, port: int, *more: object) -> subprocess.Popen:
 
 
 # Shows P-146, P-154.
-def edited(checks) -> None:
+def check_edited_files(checks) -> None:
     """A file that was edited after the audit is not served: nobody reaches the port, and a port
     that another program has is not even tried."""
     for name, path, old, new, status, wanted in EDITS:
@@ -73,14 +73,15 @@ def edited(checks) -> None:
         files = {it: it for it in (BAY, LOGIC, DIAGRAM)}
         files[path] = checks.file(f'edited_{path.name}', text.replace(old, new, 1))
         port = free_port()
-        run = started(checks, files, port, '--process', free_port())
-        checks.holds(f'a port is opened though {name} was edited', not reached(port, run), name)
+        run = start_server(checks, files, port, '--process', free_port())
+        checks.holds(f'a port is opened though {name} was edited',
+                     not is_port_reached(port, run), name)
         told, error = run.communicate(timeout=60)
         checks.holds(f'{name} was edited, and the server tells otherwise',
                      (run.returncode, error) == (status, '') and re.fullmatch(wanted, told),
                      f'{run.returncode} {told!r} {error!r}')
         with socket.create_server(('127.0.0.1', 0)) as taken:
-            run = started(checks, files, taken.getsockname()[1])
+            run = start_server(checks, files, taken.getsockname()[1])
             told = run.communicate(timeout=60)[0]
             checks.holds(f'{name} was edited, and a port is tried first',
                          run.returncode == status and re.fullmatch(wanted, told),
@@ -111,4 +112,4 @@ def in_order(checks) -> None:
         checks.holds(f'{name} is told otherwise', told == (status, out, error), str(told))
 
 
-PARTS = (holding, edited, in_order)
+PARTS = (holding, check_edited_files, in_order)

@@ -30,7 +30,7 @@ EDITS = (
      LOAD + 'rules refused 141 line 2\n'))
 
 
-def logged(path: pathlib.Path, what: str, more: str = '') -> str:
+def line_of_file(path: pathlib.Path, what: str, more: str = '') -> str:
     """The line of the log for a file that is served, without its moment."""
     return f' {what} SHA-256 {hashlib.sha256(path.read_bytes()).hexdigest()}{more}\n'
 
@@ -42,13 +42,13 @@ def holding(checks) -> None:
     image = checks.folder / 'ruled.image'
     subprocess.run([checks.bayctl, 'compile', '--bay', BAY, '--logic', LOGIC, '--out', image],
                    check=True, capture_output=True)
-    bay, rules = logged(BAY, 'bay'), logged(RULES, 'rules', f', {COUNT} hold')
+    bay, rules = line_of_file(BAY, 'bay'), line_of_file(RULES, 'rules', f', {COUNT} hold')
     for name, words, printed, sums in (
             ('rules', ['--logic', LOGIC, '--rules', RULES], LOAD + HELD,
-             [bay, logged(LOGIC, 'program'), rules]),
+             [bay, line_of_file(LOGIC, 'program'), rules]),
             ('an image', ['--image', image, '--rules', RULES], LOAD + HELD,
-             [bay, logged(image, 'image'), rules]),
-            ('no rules', ['--logic', LOGIC], LOAD, [bay, logged(LOGIC, 'program')])):
+             [bay, line_of_file(image, 'image'), rules]),
+            ('no rules', ['--logic', LOGIC], LOAD, [bay, line_of_file(LOGIC, 'program')])):
         done = subprocess.run([checks.bayctl, 'serve', '--log', '--bay', BAY, *words, '--port',
                                str(free_port()), '--turns', '1'], capture_output=True, text=True,
                               timeout=60)
@@ -63,7 +63,7 @@ def holding(checks) -> None:
         client.close()
 
 
-def reached(port: int, run: subprocess.Popen) -> bool:
+def is_port_reached(port: int, run: subprocess.Popen) -> bool:
     """Whether a port is open at any time while a program runs."""
     while run.poll() is None:
         with socket.socket() as one:
@@ -73,7 +73,7 @@ def reached(port: int, run: subprocess.Popen) -> bool:
     return False
 
 
-def started(checks, files: dict, port: int, *more: str) -> subprocess.Popen:
+def start_server(checks, files: dict, port: int, *more: str) -> subprocess.Popen:
     """A server of these files."""
     return subprocess.Popen([checks.bayctl, 'serve', '--bay', files[BAY], '--logic', files[LOGIC],
                              '--rules', files[RULES], '--port', str(port), '--turns', '1000000',
@@ -81,7 +81,7 @@ def started(checks, files: dict, port: int, *more: str) -> subprocess.Popen:
 
 
 # Shows P-146.
-def edited(checks) -> None:
+def check_edited_files(checks) -> None:
     """A file that was edited after the audit is not served: nobody reaches the port, and a port
     that another program has is not even tried."""
     for name, path, old, new, status, wanted in EDITS:
@@ -90,14 +90,15 @@ def edited(checks) -> None:
         files = {it: it for it in (BAY, LOGIC, RULES)}
         files[path] = checks.file(f'edited_{path.name}', text.replace(old, new, 1))
         port = free_port()
-        run = started(checks, files, port, '--process', str(free_port()))
-        checks.holds(f'a port is opened though {name} was edited', not reached(port, run), name)
+        run = start_server(checks, files, port, '--process', str(free_port()))
+        checks.holds(f'a port is opened though {name} was edited',
+                     not is_port_reached(port, run), name)
         told, error = run.communicate(timeout=60)
         checks.holds(f'{name} was edited, and the server tells otherwise',
                      (run.returncode, error) == (status, '') and re.fullmatch(wanted, told),
                      f'{run.returncode} {told!r} {error!r}')
         with socket.create_server(('127.0.0.1', 0)) as taken:
-            run = started(checks, files, taken.getsockname()[1])
+            run = start_server(checks, files, taken.getsockname()[1])
             told = run.communicate(timeout=60)[0]
             checks.holds(f'{name} was edited, and a port is tried first',
                          run.returncode == status and re.fullmatch(wanted, told),
@@ -121,4 +122,4 @@ def unread(checks) -> None:
         checks.holds(f'{name} are told otherwise', told == wanted, str(told))
 
 
-PARTS = (holding, edited, unread)
+PARTS = (holding, check_edited_files, unread)

@@ -49,13 +49,13 @@ def tell_takes_releases(checks) -> None:
     words = [checks.bayctl, 'serve', '--bay', 'b', '--logic', 'l', '--port', '7', '--turns', '0']
     for more, wrong in ((['--process', '8', '--tell', 'Releases'], '[possible values: releases]'),
                         (['--tell', 'releases'], '--process <P>')):
-        told = printed([*words, *more])
+        told = output_of([*words, *more])
         checks.holds('words that tell a process nothing are taken',
                      told[:2] == (2, '') and told[2].startswith('error: ') and wrong in told[2],
                      str(told))
 
 
-def printed(words: list, **more) -> tuple[int, str, str]:
+def output_of(words: list, **more) -> tuple[int, str, str]:
     """The status of a program, and what it prints on both outputs."""
     done = subprocess.run(words, capture_output=True, text=True, timeout=60, **more)
     return done.returncode, done.stdout, done.stderr
@@ -75,21 +75,21 @@ def files(checks) -> None:
         out.write_bytes(b'old')
         words = [checks.bayctl, 'compile', '--bay', checks.file('bay.toml', bay()), '--logic',
                  checks.file('logic.il', LOGIC), '--out', out]
-        told = printed(words, preexec_fn=full)
+        told = output_of(words, preexec_fn=full)
         checks.holds('a failed write removes the file that was there',
-                     told[0] == 3 and told[2] == 'fault 122\n' and left(out.parent) == OLD,
-                     f'{told}, {left(out.parent)}')
-        told = printed(words)
+                     told[0] == 3 and told[2] == 'fault 122\n' and files_of(out.parent) == OLD,
+                     f'{told}, {files_of(out.parent)}')
+        told = output_of(words)
         checks.holds('no file is ever written',
                      told[0] == 0 and out.read_bytes()[:4] == b'ILBC', str(told))
 
 
-def left(folder: pathlib.Path) -> list[tuple[str, bytes]]:
+def files_of(folder: pathlib.Path) -> list[tuple[str, bytes]]:
     """The files of a folder."""
     return [(it.name, it.read_bytes()) for it in sorted(folder.iterdir())]
 
 
-def closed(checks) -> None:
+def closed_files(checks) -> None:
     """A file that may not be read, and a folder that may not be written, by a user who may not do
     everything."""
     user = {'user': NOBODY, 'group': NOBODY, 'extra_groups': []} if os.geteuid() == 0 else {}
@@ -102,7 +102,7 @@ def closed(checks) -> None:
             (folder / bay_file).write_text(bay(), encoding='utf-8')
             (folder / bay_file).chmod(mode)
         try:
-            printed([program, 'replay'], stdin=subprocess.DEVNULL, **user)
+            output_of([program, 'replay'], stdin=subprocess.DEVNULL, **user)
         except OSError as error:
             checks.left_out('no other user can be had here', f'files that are closed ({error})')
             return
@@ -111,14 +111,14 @@ def closed(checks) -> None:
         (shut / 'out.image').write_bytes(b'old')
         shut.chmod(0o555)
         words = ['--logic', 'logic.il', '--bay']
-        told = printed([program, 'check', *words, 'closed.toml'], cwd=folder, **user)
+        told = output_of([program, 'check', *words, 'closed.toml'], cwd=folder, **user)
         checks.holds('a file that may not be read wants memory', told == (3, 'fault 121\n', ''),
                      str(told))
-        told = printed([program, 'compile', *words, 'bay.toml', '--out', shut / 'out.image'],
-                       cwd=folder, **user)
+        told = output_of([program, 'compile', *words, 'bay.toml', '--out', shut / 'out.image'],
+                         cwd=folder, **user)
         checks.holds('a write changes a folder that may not be written',
-                     told[0] == 3 and told[2] == 'fault 122\n' and left(shut) == OLD,
-                     f'{told}, {left(shut)}')
+                     told[0] == 3 and told[2] == 'fault 122\n' and files_of(shut) == OLD,
+                     f'{told}, {files_of(shut)}')
         shut.chmod(0o755)
 
 
@@ -130,7 +130,7 @@ def ends(checks) -> None:
     none, wrong = (checks.folder / 'absent.il',
                    checks.file('wrong.il', 'PROGRAM P\nLD A\nEND_PROGRAM\n'))
     right = [*load, checks.file('logic.il', LOGIC)]
-    report = printed([checks.bayctl, 'check', *right])[1]
+    report = output_of([checks.bayctl, 'check', *right])[1]
     with socket.create_server(('127.0.0.1', 0)) as taken:
         port = taken.getsockname()[1]
         for name, words, wanted in (
@@ -144,7 +144,7 @@ def ends(checks) -> None:
                  ['serve', '--log', *right, '--turns', '1', '--port', str(port)],
                  (3, f'{report}fault 121\n',
                   f'bayctl: fault 121: port {port}: another program uses it\n'))):
-            told = printed([checks.bayctl, *words])
+            told = output_of([checks.bayctl, *words])
             checks.holds(name, told == wanted and report.startswith('instructions='), str(told))
     if not FULL.exists():
         checks.left_out(f'there is no {FULL}', 'output that is full')
@@ -179,4 +179,4 @@ def late(checks) -> None:
                  and out.count(b' refused 113\n') == count, f'{server.returncode} {out!r} {log!r}')
 
 
-PARTS = (helps, no_texts, tell_takes_releases, files, closed, ends, late)
+PARTS = (helps, no_texts, tell_takes_releases, files, closed_files, ends, late)

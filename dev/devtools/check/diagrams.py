@@ -21,7 +21,7 @@ TOLD = ('instructions=', 'rule ', 'release ', 'lost ')  # the lines that an exam
 PART = re.compile(r'(AND|OR)N? \w+')
 
 
-def audited(name: str) -> str:
+def answers_file(name: str) -> str:
     """The file of an example that has what bayctl prints of a file of rules."""
     return name.replace(BY_HAND, 'audited', 1)
 
@@ -89,8 +89,9 @@ def diagrams_are_kept(checks) -> None:
         checks.holds(f'{asked.name}: the rules of the diagram', status == 0 and found == text_of(
             path.with_name(OF_DIAGRAM)), f'are others: status {status}')
         for name in (BY_HAND, OF_DIAGRAM):
-            said, wanted = asked.printed(name), text_of(path.with_name(audited(name)))
-            checks.holds(f'{asked.name}: {audited(name)}', said == wanted, f'bayctl says:\n{said}')
+            said, wanted = asked.printed(name), text_of(path.with_name(answers_file(name)))
+            checks.holds(f'{asked.name}: {answers_file(name)}', said == wanted,
+                         f'bayctl says:\n{said}')
             broken = asked.releases(asked.logic, name, *bad)
             checks.holds(f'{asked.name}: {name}', not broken, f'not proved of {sorted(broken)}')
 

@@ -48,7 +48,7 @@ class Guarded:
 
 
 @contextlib.contextmanager
-def guarded(checks, name: str) -> Iterator[Guarded]:
+def guarded_bay(checks, name: str) -> Iterator[Guarded]:
     """The bay of the example that is served, with its switchgear, behind stunnel."""
     folder = checks.folder / name
     folder.mkdir()
@@ -110,7 +110,7 @@ def strangers(checks, own: Authority,
 
 def let_in(checks) -> None:
     """Clients with a certificate read and operate; nobody else reaches the bay; the log tells."""
-    with guarded(checks, 'doors') as it:
+    with guarded_bay(checks, 'doors') as it:
         reads(checks, it)
         first = it.opens()
         for name, context, octets in strangers(checks, it.authority, it.other):
@@ -124,7 +124,7 @@ def let_in(checks) -> None:
         checks.holds('a client without a certificate that counts reaches the bay',
                      it.opens() == first, it.server.printed())
         in_its_words(checks, it)
-        logged(checks, it)
+        joined_logs(checks, it)
         panel_names_certificate(checks, it)
         gone_through(checks, it)
 
@@ -176,7 +176,7 @@ def gone_through(checks, it: Guarded) -> None:
         ['1. WRONG: ', 'IT IS REACHED', '4. WRONG: ', 'CN=operator IS SERVED'], 1)
 
 
-def logged(checks, it: Guarded) -> None:
+def joined_logs(checks, it: Guarded) -> None:
     """tools/log joins both logs."""
     files = [checks.file('server.log', it.server.printed()),
              checks.file('door.log', it.door.printed())]
@@ -210,9 +210,9 @@ def panel_names_certificate(checks, it: Guarded) -> None:
                  it.server.printed())
 
 
-def revoked(checks) -> None:
+def revocations(checks) -> None:
     """What a new revocation list does to those who come, and to those who are there."""
-    with guarded(checks, 'lists') as it:
+    with guarded_bay(checks, 'lists') as it:
         held = it.client('panel')
         it.authority.revoke('panel', 30)
         it.door.reads_again()
@@ -253,5 +253,5 @@ def all_of(checks) -> None:
         are = 'is' if len(absent) == 1 else 'are'
         checks.left_out(f'{" and ".join(absent)} {are} not installed', 'a bay behind stunnel')
         return
-    for part in (let_in, revoked, check_pulled_cable):
+    for part in (let_in, revocations, check_pulled_cable):
         checks.run_part(part)

@@ -39,7 +39,7 @@ class Installed:
         return done.stdout, done.returncode
 
 
-def installed(checks) -> None:
+def installed_commands(checks) -> None:
     """Each command gives its help; and some do what they are for."""
     root = checks.folder / 'installed'
     root.mkdir()
@@ -59,10 +59,10 @@ def installed(checks) -> None:
                  ['scan, 83 steps'], 0)
     checks.wants('an installed timeline', *it.run(
         'bayctl-timeline', EXAMPLE, '--out', 'day.svg'), [], 0)
-    served(checks, it)
+    panel_of_served_bay(checks, it)
 
 
-def served(checks, it: Installed) -> None:
+def panel_of_served_bay(checks, it: Installed) -> None:
     """The panel of a served bay."""
     bay, logic, port = SERVED / 'bay.toml', SERVED / 'logic.il', free_port()
     with Server(it.commands / 'bayctl', bay, logic) as server:
@@ -76,4 +76,4 @@ def served(checks, it: Installed) -> None:
                 checks.wants('an installed panel', page.text, 0, ['<title>'], 0)
 
 
-PARTS = (installed,)
+PARTS = (installed_commands,)

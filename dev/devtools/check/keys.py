@@ -12,7 +12,7 @@ from baytools.wire.control import NO_CHECK, SYNCHROCHECK, Control
 from devtools.served import Running, Server, until, value
 
 from .panels import Page, positions
-from .processes import connected
+from .processes import connect_process
 
 BAY = '''[bay]
 domain = "B"
@@ -95,12 +95,12 @@ class Keyed:
     @contextlib.contextmanager
     def connects(self) -> Iterator[None]:
         """A process is connected."""
-        with connected(self.server) as self.process:
+        with connect_process(self.server) as self.process:
             yield
 
 
 @contextlib.contextmanager
-def keyed(checks, *more: str) -> Iterator[Keyed]:
+def keyed_bay(checks, *more: str) -> Iterator[Keyed]:
     bay, logic = checks.file('bay.toml', BAY), checks.file('logic.il', LOGIC)
     with Server(checks.bayctl, bay, logic, *more, with_process=True) as server, \
             contextlib.closing(server.client()) as client:
@@ -110,7 +110,7 @@ def keyed(checks, *more: str) -> Iterator[Keyed]:
 
 def keys(checks) -> None:
     """A key at local and at remote, shared, turned between select and operate, and lost."""
-    with keyed(checks, '--log') as it:
+    with keyed_bay(checks, '--log') as it:
         with it.connects():
             it.send_lines(*ALL_OPEN)
             found = it.cause('QA1'), it.cause('QB1')
@@ -145,7 +145,7 @@ def keys(checks) -> None:
 
 def synchrochecks(checks) -> None:
     """A close with the bit of Check."""
-    with keyed(checks) as it, it.connects():
+    with keyed_bay(checks) as it, it.connects():
         it.send_lines(*ALL_OPEN, 'input KEY 1')
         found = [it.cause(switch, SYNCHROCHECK) for switch in SWITCHES]
         checks.holds('a synchrocheck is taken, or refused of a switch that names none',
@@ -161,7 +161,7 @@ def synchrochecks(checks) -> None:
 
 def at_a_panel(checks) -> None:
     """What a panel says of a switch with a key, and of one that is told no cause."""
-    with keyed(checks) as it, it.connects():
+    with keyed_bay(checks) as it, it.connects():
         it.send_lines(*ALL_OPEN)
         words = [sys.executable, '-B', TOOLS / 'panel', '--bay', checks.folder / 'bay.toml',
                  it.server.port, '--http', '0', '--operate']

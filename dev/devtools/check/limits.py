@@ -32,8 +32,8 @@ class SmallClient(Client):
     def open(self) -> None:
         self.send(stream.connection_request())
         self.size = self.first_answer().size
-        self.send(stream.wrapped(stream.association_request(mms.initiate_request(LEAST)),
-                                 self.size))
+        self.send(stream.tpkt_frames(stream.association_request(mms.initiate_request(LEAST)),
+                                     self.size))
         self.next('accept')
 
 
@@ -48,8 +48,8 @@ def replay_requests(checks, of_bay: str, pdus: list[bytes],
                     size: int = MOST) -> tuple[str, list[mms.Pdu]]:
     """What a replay prints in which a client with PDUs of a size asks, and what it is answered."""
     initiate = stream.association_request(mms.initiate_request(size))
-    sent = [stream.connection_request(), stream.wrapped(initiate)]
-    sent += [stream.wrapped(stream.data_tsdu(pdu)) for pdu in pdus]
+    sent = [stream.connection_request(), stream.tpkt_frames(initiate)]
+    sent += [stream.tpkt_frames(stream.data_tsdu(pdu)) for pdu in pdus]
     trace = '1000 contact QA1 1\n1000 scan\n1000 open 1\n'
     trace += ''.join(f'1000 recv 1 {octets.hex()}\n' for octets in sent)
     printed = replay(checks, f'{of_bay}%%\n{LOGIC}%%\n{trace}')
@@ -79,8 +79,8 @@ def names(checks) -> None:
 
 def inputs(checks) -> None:
     """The bay with the most of everything."""
-    told = loaded(checks, '--bay', checks.file('bay.toml', bay(32, 64, 8)),
-                  '--logic', checks.file('logic.il', LOGIC))
+    told = report_of_check(checks, '--bay', checks.file('bay.toml', bay(32, 64, 8)),
+                           '--logic', checks.file('logic.il', LOGIC))
     checks.holds('a bay of many inputs wants memory', told.startswith('instructions='), told)
 
 
@@ -109,7 +109,7 @@ def controls(checks) -> None:
     checks.holds('a long originator wants memory', '1000 command QA1 on\n' in printed, printed)
 
 
-def loaded(checks, *words) -> str:
+def report_of_check(checks, *words) -> str:
     """What a check prints."""
     done = subprocess.run([checks.bayctl, 'check', *words], capture_output=True, timeout=60)
     return done.stdout.decode()
@@ -120,17 +120,17 @@ def programs(checks) -> None:
     path, names_of = checks.file('bay.toml', bay()), [f'v{at}' for at in range(300)]
     long, many = (FRAME.format(f'VAR\n{lines} : BOOL;\nEND_VAR\n', '')
                   for lines in (', '.join(names_of), ' : BOOL;\n'.join(names_of)))
-    told = loaded(checks, '--bay', path, '--logic', checks.file('logic.il', long))
+    told = report_of_check(checks, '--bay', path, '--logic', checks.file('logic.il', long))
     checks.holds('a line of 61 tokens wants memory', told.startswith('instructions='), told)
     out = checks.folder / 'out.image'
-    told = compiled(checks, path, checks.file('logic.il', many), out)
+    told = report_of_compilation(checks, path, checks.file('logic.il', many), out)
     checks.holds('an image with many variables is not written',
                  out.is_file() and told.startswith('instructions='), told)
-    told = loaded(checks, '--bay', path, '--logic', checks.file('empty.il', ''))
+    told = report_of_check(checks, '--bay', path, '--logic', checks.file('empty.il', ''))
     checks.holds('an empty text is out of memory', told == 'load refused 61 line 1\n', told)
 
 
-def compiled(checks, path, logic, out) -> str:
+def report_of_compilation(checks, path, logic, out) -> str:
     """What a compilation prints."""
     out.unlink(missing_ok=True)
     words = [checks.bayctl, 'compile', '--bay', path, '--logic', logic, '--out', out]
@@ -144,14 +144,14 @@ def images(checks) -> None:
     calls = 'CAL t1(IN := QA1_OPEN, PT := T#1s)\n' * 3_800
     logic = checks.file('logic.il', FRAME.format('VAR\nt1 : TON;\nEND_VAR\n', calls))
     out = checks.folder / 'out.image'
-    told = compiled(checks, path, logic, out)
+    told = report_of_compilation(checks, path, logic, out)
     checks.holds('a long image is not written',
                  out.is_file() and 60_000 < out.stat().st_size < 65_536, told)
-    again = loaded(checks, '--bay', path, '--image', out)
+    again = report_of_check(checks, '--bay', path, '--image', out)
     checks.holds('an image over 32 kib is not loaded', again == told, again)
     calls = 'CAL t1(IN := QA1_OPEN, PT := T#1s)\n' * 3_990
     long = checks.file('long.il', FRAME.format('VAR\nt1 : TON;\nEND_VAR\n', calls))
-    told_long = loaded(checks, '--bay', path, '--logic', long)
+    told_long = report_of_check(checks, '--bay', path, '--logic', long)
     checks.holds('a program with a longer image is loaded', told_long.startswith('load refused 85'),
                  told_long)
     words = ['--bay', path, '--image', out, '--turns', '1', '--port', str(free_port())]

@@ -7,7 +7,7 @@ import socket
 import stat
 import tempfile
 
-from .command_lines import NOBODY, printed
+from .command_lines import NOBODY, output_of
 from .limits import LOGIC, bay
 
 MODES = (0o600, 0o644, 0o444)
@@ -36,7 +36,7 @@ class Place:
     def compile(self, out: pathlib.Path) -> tuple[int, str, str]:
         """The status of a compilation to a file, and what it prints."""
         words = [self.program, 'compile', '--bay', 'bay.toml', '--logic', 'logic.il', '--out', out]
-        return printed(words, cwd=self.folder, **self.user)
+        return output_of(words, cwd=self.folder, **self.user)
 
 
 def fault_of_write(place: Place, out: pathlib.Path, at: pathlib.Path, mode: int) -> str:
@@ -52,7 +52,7 @@ def fault_of_write(place: Place, out: pathlib.Path, at: pathlib.Path, mode: int)
 
 
 # Shows P-112.
-def replaced(checks, place: Place) -> None:
+def files_to_replace(checks, place: Place) -> None:
     """Files of some modes, nothing, and links to them."""
     umask = os.umask(0o027)
     try:
@@ -95,7 +95,7 @@ def special(place: Place) -> list[pathlib.Path]:
 
 
 # Shows P-112.
-def refused(checks, place: Place) -> None:
+def outs_to_refuse(checks, place: Place) -> None:
     """Folders, pipes, sockets, devices, links to them, and a link that leads nowhere."""
     for at in special(place):
         before = sorted((it.name, it.lstat().st_mode) for it in place.own.iterdir())
@@ -117,8 +117,8 @@ def outs(checks) -> None:
             except OSError as error:
                 checks.left_out('no other user can be had here', f'what is replaced ({error})')
                 continue
-            replaced(checks, place)
-            refused(checks, place)
+            files_to_replace(checks, place)
+            outs_to_refuse(checks, place)
 
 
 PARTS = (outs,)

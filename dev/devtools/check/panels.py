@@ -70,7 +70,7 @@ def positions(state) -> dict:
     return {it['id']: it['position'] for it in state['switches']}
 
 
-def operated(page, switch, way) -> str:
+def outcome_of_operate(page, switch, way) -> str:
     """An operate to its end, in words."""
     said = [page.send_control('select', switch, way), page.send_control('operate', switch, way)]
     done = {'open': 'open', 'close': 'closed'}[way]
@@ -95,10 +95,11 @@ def panel(checks) -> None:
             with Page(int(found[1])) as page:
                 page_shows_operates(checks, page)
                 simulator.kill()
-                gone(checks, page, server)
+                check_lost_process(checks, page, server)
             with gear(server), Page(int(found[1])) as page:
                 page.known(lambda it: positions(it).get('QC1') == 'open')
-                checks.wants('the panel, with the process again', operated(page, 'QA1', 'open'), 0,
+                checks.wants('the panel, with the process again',
+                             outcome_of_operate(page, 'QA1', 'open'), 0,
                              ['operate QA1 open has ended: done'], 0)
                 server.kill()
                 state = page.until(lambda it: not it['connected'])
@@ -122,14 +123,14 @@ def page_shows_operates(checks, page) -> None:
                  + page.send_control('operate', 'QA1', 'open'), 0,
                  ['select QA1: done', 'operate QA1 open is not done: it is 2.5 s old',
                   'QA1 is not selected by this page'], 0)
-    checks.wants('the breaker, by the panel', operated(page, 'QA1', 'open'), 0,
+    checks.wants('the breaker, by the panel', outcome_of_operate(page, 'QA1', 'open'), 0,
                  ['good: select QA1: done', 'the command is given',
                   'operate QA1 open has ended: done'], 0)
-    checks.wants('the disconnector, by the panel', operated(page, 'QB1', 'open'), 0,
+    checks.wants('the disconnector, by the panel', outcome_of_operate(page, 'QB1', 'open'), 0,
                  ['good: select QB1: done', 'operate QB1 open has ended: done'], 0)
 
 
-def gone(checks, page, server) -> None:
+def check_lost_process(checks, page, server) -> None:
     """The process is gone: all is bad, nothing counts as released, and an operate is refused."""
     state = page.until(lambda it: set(positions(it).values()) == {'bad'})
     checks.wants('a panel without a process', state['process'], 0, [LOST], 0)

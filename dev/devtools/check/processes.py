@@ -45,12 +45,12 @@ BAD = '11'
 
 
 # Shows P-115.
-def gone(checks) -> None:
+def check_next_process(checks) -> None:
     """A process tells of inputs and goes, and another comes that tells of a contact alone."""
     bay, logic = checks.file('bay.toml', BAY), checks.file('logic.il', LOGIC)
     with Server(checks.bayctl, bay, logic, with_process=True) as server, \
             contextlib.closing(server.client()) as client:
-        with connected(server) as process:
+        with connect_process(server) as process:
             process.sendall(b'0 contact QA1 1\n0 input VT_DEAD 1\n0 input ES 1\n')
             until(lambda: all(value(client, row) for row in ROWS), 'the inputs are TRUE')
         with contextlib.suppress(TimeoutError):
@@ -58,7 +58,7 @@ def gone(checks) -> None:
         checks.holds('a process that has gone leaves an input true',
                      not any(value(client, row) for row in ROWS)
                      and all(value(client, row) == BAD for row in POSITIONS), server.printed())
-        with connected(server) as process:
+        with connect_process(server) as process:
             process.sendall(b'0 contact QA1 1\n')
             until(lambda: value(client, POSITIONS[0]) == '01', 'QA1 is open')
             time.sleep(0.1)
@@ -67,14 +67,14 @@ def gone(checks) -> None:
                          and value(client, POSITIONS[1]) == BAD, server.printed())
 
 
-def connected(server: Server) -> socket.socket:
+def connect_process(server: Server) -> socket.socket:
     """A process that has connected."""
     return socket.create_connection(('127.0.0.1', server.process))
 
 
 def leaves(server: Server, said: bytes) -> None:
     """A process that connects, says something, and goes."""
-    with connected(server) as process:
+    with connect_process(server) as process:
         process.sendall(said)
 
 
@@ -84,13 +84,13 @@ def process_lines(server: Server) -> list[str]:
 
 
 # Shows P-115.
-def waited(checks) -> None:
+def check_waiting_processes(checks) -> None:
     """While a process is served three others come and go: one says nothing, one half a line, and
     one a line. Then the first one goes."""
     bay, logic = checks.file('bay.toml', BAY), checks.file('logic.il', LOGIC)
     with Server(checks.bayctl, bay, logic, with_process=True) as server, \
             contextlib.closing(server.client()) as client:
-        with connected(server) as first:
+        with connect_process(server) as first:
             first.sendall(b'0 input ES 1\n')
             until(lambda: value(client, ROWS[1]), 'the first one is served')
             for said in (b'', b'0 contact QC1 1', b'0 contact QA1 1\n'):
@@ -129,7 +129,7 @@ def releases_are_sent(checks) -> None:
     bay, logic = checks.file('bay.toml', BAY), checks.file('logic.il', LOGIC)
     with Server(checks.bayctl, bay, logic, '--tell', 'releases', with_process=True) as server, \
             contextlib.closing(server.client()):
-        with connected(server) as process:
+        with connect_process(server) as process:
             first = lines_of(process, 2)
             process.sendall(b'0 input VT_DEAD 1\n0 input ES 1\n0 input VT_DEAD 0\n')
             changes = lines_of(process, 3)
@@ -139,15 +139,15 @@ def releases_are_sent(checks) -> None:
                      (first, changes) == (['QA1=00', 'QC1=00'], ['QA1=10', 'QA1=11', 'QA1=01']),
                      f'{first}, {changes}')
         checks.holds('each turn tells releases', refusal[0].endswith(' refused 113'), str(refusal))
-        with connected(server) as process:
+        with connect_process(server) as process:
             again = lines_of(process, 2)
         checks.holds('a new process is told what has changed alone',
                      again == ['QA1=00', 'QC1=00'], str(again))
     with Server(checks.bayctl, bay, logic, with_process=True) as server, \
-            contextlib.closing(server.client()), connected(server) as process:
+            contextlib.closing(server.client()), connect_process(server) as process:
         process.sendall(b'0 input VT_DEAD 1\n0 contact NONE 1\n')
         first = lines_of(process, 1)
         checks.holds('releases are told unasked', first[0].endswith(' refused 113'), str(first))
 
 
-PARTS = (gone, waited, releases_are_sent)
+PARTS = (check_next_process, check_waiting_processes, releases_are_sent)

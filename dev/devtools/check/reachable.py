@@ -28,19 +28,19 @@ def with_users(text: str) -> str:
     return text
 
 
-def checked(*words: str, given: str = '') -> subprocess.CompletedProcess[str]:
+def run_check(*words: str, given: str = '') -> subprocess.CompletedProcess[str]:
     return subprocess.run(words, input=given, capture_output=True, text=True, timeout=60)
 
 
 def packets(checks) -> None:
     """The syntax of the table, and what it does."""
     text = with_users(TABLE.read_text(encoding='utf-8'))
-    if not shutil.which('nft') or checked('nft', 'list', 'tables').returncode:
+    if not shutil.which('nft') or run_check('nft', 'list', 'tables').returncode:
         checks.left_out('nftables is not installed or may not be asked', 'who reaches the ports')
         return
-    done = checked('nft', '-c', '-f', '-', given=text)
+    done = run_check('nft', '-c', '-f', '-', given=text)
     checks.holds('the table of nftables is refused', done.returncode == 0, done.stderr)
-    if not all(map(shutil.which, ('unshare', 'ip'))) or checked(
+    if not all(map(shutil.which, ('unshare', 'ip'))) or run_check(
             'unshare', '--net', 'nft', 'list', 'tables').returncode:
         checks.left_out('there may be no network namespace', 'who reaches the ports')
         return
@@ -64,7 +64,7 @@ def tries(user: int, port: int) -> str:
     child = os.fork()
     if child == 0:
         os.setuid(user)
-        os.write(writing, reached(port).encode())
+        os.write(writing, reachable_names(port).encode())
         os._exit(0)
     os.close(writing)
     with open(reading, encoding='ascii') as file:
@@ -73,7 +73,7 @@ def tries(user: int, port: int) -> str:
     return told
 
 
-def reached(port: int) -> str:
+def reachable_names(port: int) -> str:
     try:
         with socket.socket() as one:
             one.settimeout(5)

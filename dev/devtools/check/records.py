@@ -10,7 +10,7 @@ import time
 from collections.abc import Iterator
 
 from baytools.bay.files import octets_of
-from baytools.report.joined import merged, read_lines, renumbered, scenario_of
+from baytools.report.joined import merge_traces, read_lines, renumber, scenario_of
 from baytools.wire.client import Client
 from devtools.made_captures import FIN
 from devtools.served import Server, free_port, until, value
@@ -21,9 +21,10 @@ SAID = (b'0 contact QA1 2\n0 contact qb1 2\n0 contact QC1 1\n0 input SPRING 1\n'
         b'0 measure M1 TOTW -4180\n0 measure M1 AA bad\n0 contact NONE 1\n')
 SAID_LATER = b'0 contact QA1 1\n0 contact QB1 1\n0 contact QC1 1\n0 input SPRING 1\n'
 POSITION = 'CSWI1$ST$Pos$stVal'
-# What the watching client reads of each switch and of the meter: values, qualities and times.
+# What the watching client reads of each switch, of the meter, of the input and of the device:
+# values, qualities and times.
 WATCHED = ('CSWI1$ST$Pos', 'CSWI2$ST$Pos', 'CSWI3$ST$Pos', 'CILO1$ST$EnaOpn', 'CILO2$ST$EnaOpn',
-           'MMXU1$MX$TotW', 'MMXU1$MX$A')
+           'MMXU1$MX$TotW', 'MMXU1$MX$A', 'GGIO1$ST', 'LLN0$ST$Health')
 OPEN, BAD = '01', '11'
 RELEASED = 'release QA1 open=1 close=1'
 WATCHING, OPERATING = 1, 2  # associations
@@ -53,7 +54,7 @@ def scenario_without(record: str, form: str) -> bytes:
     """The scenario of a record without the lines of a form, as tools/join makes it."""
     text = re.sub(rf'(?m)^\d+ {form}\n', '', record)
     assert text != record, form
-    trace = merged(renumbered([read_lines(text)]))
+    trace = merge_traces(renumber([read_lines(text)]))
     return scenario_of(octets_of(BAY), octets_of(LOGIC), trace.encode())
 
 
@@ -225,7 +226,7 @@ def full(checks) -> None:
                  and record.read_text() == held, str(ran))
 
 
-def failed(checks) -> None:
+def check_failing_record(checks) -> None:
     """A record whose file can't be written any more ends, and the server does not."""
     limited = checks.file('limited', f'''#!/bin/sh
 trap "" 25
@@ -241,4 +242,4 @@ exec {checks.bayctl} "$@"
                      server.printed())
 
 
-PARTS = (session, lines, full, failed)
+PARTS = (session, lines, full, check_failing_record)

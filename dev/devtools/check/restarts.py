@@ -18,7 +18,7 @@ DELAY = 4  # seconds, more than the 3 s for which one trip blocks
 
 
 @contextlib.contextmanager
-def started(checks, example) -> Iterator[Simulator]:
+def served_example(checks, example) -> Iterator[Simulator]:
     """A server of an example, which tells releases, with its switchgear."""
     bay = example / 'bay.toml'
     with (Server(checks.bayctl, bay, example / 'logic.il', '--tell', 'releases',
@@ -26,7 +26,7 @@ def started(checks, example) -> Iterator[Simulator]:
         yield gear
 
 
-def released(gear: Simulator) -> str:
+def last_releases(gear: Simulator) -> str:
     """The releases of QA1 that were told last; nothing before the first."""
     return ([''] + re.findall(r'^< QA1=(\d\d)$', gear.printed(), re.M))[-1]
 
@@ -34,7 +34,7 @@ def released(gear: Simulator) -> str:
 def becomes(checks, name: str, gear: Simulator, wanted: str) -> None:
     """Waits until these are the releases of QA1."""
     try:
-        until(lambda: released(gear) == wanted, name)
+        until(lambda: last_releases(gear) == wanted, name)
         checks.holds(name, True, '')
     except TimeoutError:
         checks.holds(name, False, gear.printed())
@@ -43,11 +43,11 @@ def becomes(checks, name: str, gear: Simulator, wanted: str) -> None:
 def latches(checks) -> None:
     """The lockout of the single busbar begins set: a restart releases no closing, whatever its
     state was. The count of trips begins at 0: a restart forgets it, as the example's page says."""
-    with started(checks, LOCKED) as gear:
+    with served_example(checks, LOCKED) as gear:
         becomes(checks, 'a lockout does not begin set', gear, OPEN)
         gear.type('RESET 1')
         becomes(checks, 'a reset does not end a lockout', gear, BOTH)
-    with started(checks, LOCKED) as gear:
+    with served_example(checks, LOCKED) as gear:
         becomes(checks, 'a restart after a reset releases the closing', gear, OPEN)
         gear.type('RESET 1')
         becomes(checks, 'a reset after a restart does not end a lockout', gear, BOTH)
@@ -55,10 +55,10 @@ def latches(checks) -> None:
         gear.type('NO_TRIP 0')
         becomes(checks, 'a trip does not lock', gear, OPEN)
         gear.type('NO_TRIP 1')
-    with started(checks, LOCKED) as gear:
+    with served_example(checks, LOCKED) as gear:
         becomes(checks, 'a restart after a trip releases the closing', gear, OPEN)
 
-    with started(checks, TRIPPED) as gear:
+    with served_example(checks, TRIPPED) as gear:
         becomes(checks, 'a program without trips blocks', gear, BOTH)
         for _ in range(2):
             gear.type('NO_TRIP 0')
@@ -69,9 +69,9 @@ def latches(checks) -> None:
         becomes(checks, 'a third trip does not block', gear, OPEN)
         gear.type('NO_TRIP 1')
         time.sleep(DELAY)
-        checks.holds('a third trip blocks no longer than one', released(gear) == OPEN,
+        checks.holds('a third trip blocks no longer than one', last_releases(gear) == OPEN,
                      gear.printed())
-    with started(checks, TRIPPED) as gear:
+    with served_example(checks, TRIPPED) as gear:
         becomes(checks, 'a restart remembers trips', gear, BOTH)
 
 

@@ -15,14 +15,14 @@ from devtools.served import PATIENCE, Server, free_port, until, value
 
 SERVED = TOP / 'examples' / '09_served'
 BAY, LOGIC, TRACE = SERVED / 'bay.toml', SERVED / 'logic.il', SERVED / 'trace'
-IDENTIFY = stream.wrapped(stream.data_tsdu(mms.request_octets(1, 0x82)))
-PAGE = stream.wrapped(stream.data_tsdu(mms.names_request(1, 'E05')))
+IDENTIFY = stream.tpkt_frames(stream.data_tsdu(mms.request_octets(1, 0x82)))
+PAGE = stream.tpkt_frames(stream.data_tsdu(mms.names_request(1, 'E05')))
 PAUSE = 0.010  # the longest rest of an idle server, in seconds
 TRIES = 5
 BUSY = 0.4  # of a processor: far more than an idle server takes
 
 
-def connected(port: int) -> socket.socket:
+def connect(port: int) -> socket.socket:
     """A connection to a port, on which nothing was said yet."""
     one = socket.create_connection(('127.0.0.1', port), PATIENCE)
     one.settimeout(PATIENCE)
@@ -69,7 +69,7 @@ def rests_in(server: Server, do, *words) -> int:
     return min(tried() for _ in range(TRIES))
 
 
-def answered(client, request: bytes, count: int) -> None:
+def ask_at_once(client, request: bytes, count: int) -> None:
     """Sends a request so many times at once, and waits for as many answers."""
     client.socket.sendall(request * count)
     for _ in range(count):
@@ -92,7 +92,7 @@ def silence(checks) -> None:
     with Server(checks.bayctl, BAY, LOGIC) as server, contextlib.ExitStack() as kept:
         client, begun = server.client(), time.monotonic()
         client.domain()
-        with connected(server.port) as one:
+        with connect(server.port) as one:
             one.settimeout(20)
             try:
                 is_closed = one.recv(1) == b''
@@ -124,7 +124,7 @@ def clients(checks) -> None:
     with Server(checks.bayctl, BAY, LOGIC) as server:
         server.client().socket.close()
         is_told = prints(server, ' closed 1 0\n')
-        with connected(server.port) as second:
+        with connect(server.port) as second:
             second.sendall(stream.connection_request())
             number = receive(second, 5)[8:10]
         checks.holds('the end of a client is never seen', is_told and number == b'\0\1',
@@ -141,7 +141,7 @@ def closings(checks) -> None:
         for rubbish in (b'', b'\x04'):
             for is_reset in (False, True):
                 for _ in range(3):
-                    one = connected(server.port)
+                    one = connect(server.port)
                     numbers.append(number_of(one))
                     one.sendall(rubbish)
                     if is_reset:
@@ -160,9 +160,9 @@ def eight(checks) -> None:
     """Eight clients are served; a ninth waits until one of them goes."""
     with Server(checks.bayctl, BAY, LOGIC) as server, contextlib.ExitStack() as kept:
         eight = [kept.enter_context(server.client().socket)]
-        eight += [kept.enter_context(connected(server.port)) for _ in range(7)]
+        eight += [kept.enter_context(connect(server.port)) for _ in range(7)]
         numbers = [number_of(one) for one in eight[1:]]
-        ninth = kept.enter_context(connected(server.port))
+        ninth = kept.enter_context(connect(server.port))
         ninth.sendall(stream.connection_request())
         early_answer = receive(ninth, 0.3)
         checks.holds('eight clients end the server',
@@ -193,7 +193,7 @@ def moments(checks) -> None:
         except RuntimeError as error:
             checks.holds('a trace and a process want memory', False, str(error))
             return
-        with connected(server.process) as process:
+        with connect(server.process) as process:
             process.sendall(b'0 measure M1 AB 77\n')
             seen = []
             with contextlib.suppress(TimeoutError):
@@ -240,8 +240,8 @@ def cycles(checks) -> None:
                  f'{count} turns take {seconds:.2f} s')
     with Server(checks.bayctl, BAY, LOGIC, *words) as server:
         client = server.client()
-        answered(client, IDENTIFY, 1)
-        seconds = took(lambda: [answered(client, IDENTIFY, 1) for _ in range(count)])
+        ask_at_once(client, IDENTIFY, 1)
+        seconds = took(lambda: [ask_at_once(client, IDENTIFY, 1) for _ in range(count)])
         checks.holds('a busy client shortens the turns', seconds >= (count - 1) * cycle,
                      f'{count} requests take {seconds:.2f} s')
         client.close()
@@ -254,7 +254,7 @@ def pieces(checks) -> None:
         client = server.client()
         for name, octets in (('a read brings 64 octets', 4_000),
                              ('a server rests though octets wait', 65_536)):
-            least = rests_in(server, answered, client, IDENTIFY, octets // len(IDENTIFY))
+            least = rests_in(server, ask_at_once, client, IDENTIFY, octets // len(IDENTIFY))
             checks.holds(name, least < 10, f'{least} rests within {octets} octets')
         client.close()
 
@@ -264,11 +264,11 @@ def wakes(checks) -> None:
     one before, when the server has just begun to rest."""
     with Server(checks.bayctl, BAY, LOGIC, with_process=True) as server:
         client = server.client()
-        waited = [later(answered, client, IDENTIFY, 1) for _ in range(100)]
+        waited = [later(ask_at_once, client, IDENTIFY, 1) for _ in range(100)]
         checks.holds('only the last port wakes the server', early(waited) < PAUSE / 2,
                      f'a request takes {early(waited) * 1000:.1f} ms')
-        with connected(server.process) as process:
-            waited = [later(refused, process) for _ in range(100)]
+        with connect(server.process) as process:
+            waited = [later(await_refusal, process) for _ in range(100)]
         checks.holds('only the first port wakes the server', early(waited) < PAUSE / 2,
                      f'a line of the process takes {early(waited) * 1000:.1f} ms')
         client.close()
@@ -285,7 +285,7 @@ def early(times: list[float]) -> float:
     return sorted(times)[len(times) // 4]
 
 
-def refused(process: socket.socket) -> None:
+def await_refusal(process: socket.socket) -> None:
     """Tells of a switch that there is not, and waits for the refusal."""
     process.sendall(b'0 contact NONE 1\n')
     process.recv(100)
@@ -297,8 +297,8 @@ def rests(checks) -> None:
     busy."""
     with Server(checks.bayctl, BAY, LOGIC, with_process=True) as server:
         client = server.client()
-        with connected(server.process) as process:
-            refused(process)
+        with connect(server.process) as process:
+            await_refusal(process)
             seconds = processor_seconds(server)
             checks.holds('a process keeps the server awake', seconds < BUSY,
                          f'{seconds} of one second')

@@ -12,7 +12,7 @@ from baytools.bay.files import bay_at
 from baytools.bay.names import Names
 from baytools.common.paths import TOP
 from baytools.wire.client import Client
-from baytools.wire.same_bay import compared
+from baytools.wire.same_bay import compare_with_server
 from devtools.made_captures import ACK, CLIENT, FIN, SERVER, SYN, segment
 from devtools.served import Server, Simulator, until, value
 
@@ -88,16 +88,16 @@ def sessions(checks) -> None:
     asked = ['--bayctl', checks.bayctl]
     checks.wants('what a client sent, joined and told', *checks.run('explain', joined, *asked),
                  ['UTC', 'QA1 is closed', 'operate QA1: done', 'command: open QA1'], 0)
-    checks.wants('what a client sent, drawn', *drawn(checks, joined, *asked),
+    checks.wants('what a client sent, drawn', *draw(checks, joined, *asked),
                  ['UTC', 'operate QA1 open', 'command: open QA1 at'], 0)
     until(lambda: tap.seen[-1][2] == FIN, 'the client is gone')
     for is_torn in (False, True):
-        captured(checks, checks.file('session.pcap', tap.capture(is_torn)))
+        check_capture(checks, checks.file('session.pcap', tap.capture(is_torn)))
     same_bays(checks)
-    logged(checks)
+    check_log(checks)
 
 
-def logged(checks) -> None:
+def check_log(checks) -> None:
     """tools/log tells what a server logged: where the switches were, what was released, who asked,
     how an operate ended, and that the process was lost."""
     with Server(checks.bayctl, BAY, LOGIC, '--log', with_process=True) as server:
@@ -134,20 +134,20 @@ def same_bays(checks) -> None:
         with Server(checks.bayctl, path, logic) as server:
             server.client().close()
             client = Client('127.0.0.1', server.port, Names(text))
-            found = compared(client, file).lines()
+            found = compare_with_server(client, file).lines()
             client.close()
         checks.wants(f'the bay of {path.parent.name}', '\n'.join(found) or 'the same', 0,
                      ['the same'], 0)
 
 
-def drawn(checks, *words) -> tuple:
+def draw(checks, *words) -> tuple:
     """The picture that a timeline draws, or what it says where it draws none."""
     out = checks.folder / 'drawn.svg'
     said, status = checks.run('timeline', *words, '--out', out)
     return said + (out.read_text() if status == 0 else ''), status
 
 
-def captured(checks, path) -> None:
+def check_capture(checks, path) -> None:
     """A capture is told, replayed and drawn."""
     bay, more = ['--bay', BAY], ['--replay', LOGIC, '--trace', TRACE, '--bayctl', checks.bayctl]
     checks.wants('a capture, told', *checks.run('explain', path, *bay),
@@ -158,8 +158,8 @@ def captured(checks, path) -> None:
     more[1] = changed
     checks.wants('a capture, replayed with another program',
                  *checks.run('explain', path, *bay, *more), ['of the server differs'], 1)
-    checks.wants('a capture, drawn', *drawn(checks, path, *bay),
+    checks.wants('a capture, drawn', *draw(checks, path, *bay),
                  ['UTC', 'operate QA1 open', 'Client 1'], 0)
     more[1] = LOGIC
-    checks.wants('a capture, drawn with its switches', *drawn(checks, path, *bay, *more),
+    checks.wants('a capture, drawn with its switches', *draw(checks, path, *bay, *more),
                  ['command: open QA1 at', 'QB1 closed from'], 0)

@@ -34,7 +34,7 @@ def comes(port: int, test) -> tuple[bool, dict[str, dict]]:
     return True, found
 
 
-def named(path: pathlib.Path) -> str:
+def domain_of(path: pathlib.Path) -> str:
     """The domain of a bay file."""
     found = re.search(r'(?m)^domain\s*=\s*"(\w+)"', path.read_text(encoding='utf-8'))
     assert found
@@ -48,7 +48,7 @@ def place(bay: dict, switch: str) -> str:
 def station(checks) -> None:
     """Two bays on one page."""
     bays = [folder / 'bay.toml' for folder in (SERVED, OTHER)]
-    first, second = map(named, bays)
+    first, second = map(domain_of, bays)
     with Server(checks.bayctl, bays[0], SERVED / 'logic.il', with_process=True) as one, \
             Server(checks.bayctl, bays[1], OTHER / 'logic.il', with_process=True) as two:
         for server in (one, two):

@@ -21,7 +21,7 @@ from devtools import preloads
 from devtools.paths import DEV
 from devtools.served import Server, Simulator, free_port, until, value
 
-from .processes import connected, process_lines
+from .processes import connect_process, process_lines
 
 LIMIT, SLACK = 500, 0.5  # ms of a process' silence; seconds that a check may be late
 GREETED = 5  # seconds for a greeting
@@ -74,7 +74,7 @@ class Process:
     In a `with` block that begins with `lives` it also says in time that it lives."""
 
     def __init__(self, server, first: str | None = f'bay - {NAMED}') -> None:
-        self.socket, self.rest, self.seen = connected(server), b'', []
+        self.socket, self.rest, self.seen = connect_process(server), b'', []
         self.lock, self.is_over = threading.Lock(), threading.Event()
         self.clock = None
         end = time.monotonic() + GREETED
@@ -145,7 +145,7 @@ def write_files(checks) -> None:
 
 
 @contextlib.contextmanager
-def supervised(checks, *more, env=None) -> Iterator:
+def supervised_bay(checks, *more, env=None) -> Iterator:
     """A server that supervises its process, and a client of it."""
     with Server(checks.bayctl, *files_of(checks), '--supervise', LIMIT, *more, with_process=True,
                 env=env) as server:
@@ -181,7 +181,7 @@ def cause_of(client, switch: str) -> int | None:
 # Shows P-117, P-133.
 def frozen(checks) -> None:
     """A process freezes just before an operate, for three seconds."""
-    with supervised(checks) as (server, client):
+    with supervised_bay(checks) as (server, client):
         checks.holds('a process that never spoke is commanded',
                      cause_of(client, 'QB1') == BY_PROCESS and positions(client) == (BAD, BAD),
                      f'{client.cause}, {positions(client)}')
@@ -213,17 +213,17 @@ def frozen(checks) -> None:
 
 
 # Shows P-114, P-117.
-def waited(checks) -> None:
+def check_waiting_processes(checks) -> None:
     """While a process is served two others wait: one says open and dies, one has sent 4,000 lines.
     Both are of this bay, and their lines are old when their turn comes."""
-    with supervised(checks) as (server, client), contextlib.ExitStack() as kept:
+    with supervised_bay(checks) as (server, client), contextlib.ExitStack() as kept:
         with Process(server).lives() as first:
             first.sends('contact QA1 2', 'contact QB1 2')
             until(lambda: positions(client) == (CLOSED, CLOSED), 'the first one is served')
             head = f'{first.clock.now()} '
             lines = [f'{head}contact QB1 {1 + at % 2}\n' for at in range(4000)]
             for said in ([f'{head}contact QA1 1\n'], lines):
-                one = kept.enter_context(connected(server))
+                one = kept.enter_context(connect_process(server))
                 one.settimeout(1)
                 with contextlib.suppress(TimeoutError):  # the system may not keep all of it
                     one.sendall(''.join([f'{head}bay - {NAMED}\n', *said]).encode())
@@ -247,7 +247,7 @@ def strangers(checks) -> None:
     keyed = [(f'bay {word} {NAMED}', 'contact QA1 1') for word in
              ('-', KEY[:32], KEY + KEY[:16], KEY[:-1] + '0', '')]
     for more, cases, right in (([], wrong, '-'), (['--key', key], keyed, KEY)):
-        with supervised(checks, *more) as (server, client):
+        with supervised_bay(checks, *more) as (server, client):
             for lines in cases:
                 before = len(process_lines(server))
                 process = Process(server, None)
@@ -267,7 +267,7 @@ def strangers(checks) -> None:
 # Shows P-117.
 def untimely(checks) -> None:
     """Lines whose times are too far away, and one whose is not."""
-    with supervised(checks) as (server, client):
+    with supervised_bay(checks) as (server, client):
         for ahead in (-LIMIT - 200, LIMIT + 200):
             before = len(process_lines(server))
             process = Process(server)
@@ -287,7 +287,7 @@ def untimely(checks) -> None:
 # Shows P-117.
 def backward(checks) -> None:
     """Lines of one time, and then one whose time is a millisecond before theirs."""
-    with supervised(checks, '--log') as (server, client):
+    with supervised_bay(checks, '--log') as (server, client):
         process = Process(server)
         moment = process.sends('contact QA1 1', 'contact QB1 1')
         checks.holds('a line of the same time is not taken',
@@ -302,7 +302,7 @@ def backward(checks) -> None:
         process.socket.close()
 
 
-def stalled(checks, limit: int, age: int, stall: float) -> tuple[bool, list[int], str]:
+def stall_server(checks, limit: int, age: int, stall: float) -> tuple[bool, list[int], str]:
     """A process says that it lives. Then the server is held up for so many seconds, while an
     operate waits in its socket. Returns whether the operate was accepted, how many milliseconds
     before each command the process had said it, and what the server printed."""
@@ -339,7 +339,7 @@ def stalled_between_turns(checks, limit: int, age: int, stall: float) -> tuple:
     """The same, tried again if the server was stopped within a turn: then its command has the time
     of that turn, from before the stop, and a process drops it by its age."""
     for _ in range(5):
-        found = stalled(checks, limit, age, stall)
+        found = stall_server(checks, limit, age, stall)
         commands = found[1]
         if not commands or stall * 1000 <= limit or any(it > limit for it in commands):
             break
@@ -365,11 +365,11 @@ def stalls(checks) -> None:
 
 
 # Shows P-117.
-def loaded(checks) -> None:
+def check_loaded_machine(checks) -> None:
     """A process that lives on a machine on which six programs work without a pause."""
     loops = [subprocess.Popen([sys.executable, '-c', 'while True: pass']) for _ in range(BUSY)]
     try:
-        with supervised(checks) as (server, client), Process(server).lives() as process:
+        with supervised_bay(checks) as (server, client), Process(server).lives() as process:
             process.sends('contact QA1 1')
             time.sleep(6)
             checks.holds('a process that lives is lost on a machine under load',
@@ -384,7 +384,7 @@ def loaded(checks) -> None:
 # Shows P-117.
 def silent(checks) -> None:
     """Processes that say nothing, or half a line, behind their first one."""
-    with supervised(checks) as (server, client):
+    with supervised_bay(checks) as (server, client):
         for half in (b'', b'5 contact QA1 1'):
             before, process = len(process_lines(server)), Process(server)
             process.socket.sendall(half)
@@ -399,7 +399,7 @@ def silent(checks) -> None:
 
 def overdue(checks) -> None:
     """A process that does nothing is told that the time of an operate is over."""
-    with supervised(checks) as (server, client), Process(server).lives() as process:
+    with supervised_bay(checks) as (server, client), Process(server).lives() as process:
         process.sends('contact QA1 1', 'contact QB1 1')
         until(lambda: positions(client) == (OPEN, OPEN), 'the process has told all')
         time.sleep(0.1)
@@ -413,7 +413,7 @@ def overdue(checks) -> None:
 
 def idle(checks) -> None:
     """Six seconds with `alive` alone."""
-    with supervised(checks) as (server, client), Process(server).lives() as process:
+    with supervised_bay(checks) as (server, client), Process(server).lives() as process:
         process.sends('contact QA1 1')
         time.sleep(6)
         answers = process.received_lines().count('alive')
@@ -468,7 +468,7 @@ def steps(checks) -> None:
         return
     step = checks.file('step', '+0')
     env = {**os.environ, 'LD_PRELOAD': library, 'CLOCK_STEP': str(step)}
-    with supervised(checks, '--log', env=env) as (server, client):
+    with supervised_bay(checks, '--log', env=env) as (server, client):
         maps = pathlib.Path(f'/proc/{server.run.pid}/maps').read_text(encoding='utf-8')
         if library not in maps:
             checks.left_out('bayctl loads no library', "steps of the system's clock")
@@ -489,7 +489,7 @@ def one_step(checks, server, client, process, step: pathlib.Path, word: str) -> 
     """The system's clock makes one step, beside a process whose switches are open."""
     before, printed = value(client, 'XSWI1$ST$Pos$t'), server.printed()
     ends = len(process_lines(server))
-    stepped(step, word)
+    step_clock(step, word)
     time.sleep(0.5)
     if word.startswith('+'):
         becomes(lambda: positions(client) == (BAD, BAD))
@@ -510,7 +510,7 @@ def one_step(checks, server, client, process, step: pathlib.Path, word: str) -> 
                  f'{word}: {passed} ms')
 
 
-def stepped(path: pathlib.Path, word: str) -> None:
+def step_clock(path: pathlib.Path, word: str) -> None:
     """The clock is now so many seconds away."""
     beside = path.with_suffix('.new')
     beside.write_text(word)
@@ -522,9 +522,9 @@ def all_of(checks) -> None:
     write_files(checks)
     living = threading.Thread(target=checks.run_part, args=(idle,))
     living.start()
-    for part in (refused_words, keys, frozen, waited, strangers, untimely, backward, silent,
-                 overdue, steps):
+    for part in (refused_words, keys, frozen, check_waiting_processes, strangers, untimely,
+                 backward, silent, overdue, steps):
         checks.run_part(part)
     living.join()
-    for part in (stalls, loaded):
+    for part in (stalls, check_loaded_machine):
         checks.run_part(part)

@@ -91,7 +91,7 @@ class Module:
         if form:
             return self.value(self.opened(term))
         if term.head in ('map_form', 'try_map_form'):
-            return constrained(self.value(term.args[1]), term)
+            return constrained_type(self.value(term.args[1]), term)
         if term.head in self.others:
             return type_name(term.head)
         if term.head == 'tagged':
@@ -143,7 +143,7 @@ class Module:
         if form:
             return self.content(self.opened(term), word)
         if term.head in ('map_form', 'try_map_form'):
-            return constrained(self.content(term.args[1], word), term)
+            return constrained_type(self.content(term.args[1], word), term)
         if term.head in ('one', 'first_form'):
             return self.value(term.args[0])
         if term.head in self.others:
@@ -212,7 +212,7 @@ def unread(term: Term) -> str:
     return SIMPLE.get(term.head, 'ANY -- by a relation of its own --')
 
 
-def constrained(text: str, term: Term) -> str:
+def constrained_type(text: str, term: Term) -> str:
     """A type of which only a part is taken."""
     if term.head != 'try_map_form':
         return text

@@ -41,13 +41,13 @@ class Reader:
                 continue
             self.place = token.end()
             if token[3]:
-                items.append(applied(found))
+                items.append(application_of(found))
                 found = []
             else:
                 found.append(Term(token[4]))
         if items:
             return Term('list', tuple(items))
-        return applied(found)
+        return application_of(found)
 
     def within(self, start: int) -> Term:
         """What stands in parentheses; a function is taken as its text."""
@@ -61,7 +61,7 @@ class Reader:
         return term
 
 
-def applied(found: list[Term]) -> Term:
+def application_of(found: list[Term]) -> Term:
     """The first of some terms, applied to the others."""
     if not found:
         return Term('')

@@ -54,7 +54,7 @@ def clone(folder: pathlib.Path) -> pathlib.Path:
     return path
 
 
-def counted(log: str) -> tuple[int, int, int, int, int]:
+def last_count(log: str) -> tuple[int, int, int, int, int]:
     """The last count of a log: how many passed, failed, and were not tried; how many crates it
     proved, and how many it took from an earlier run."""
     found = PASSED.findall(log)
@@ -72,7 +72,7 @@ def run(words: list[str], place: pathlib.Path, log: pathlib.Path) -> Run:
                                 stderr=subprocess.STDOUT, env={**os.environ, 'CI': 'true'}
                                 ).returncode
     return Run(status, (time.monotonic() - begun) / 60,
-               *counted(log.read_text(encoding='utf-8', errors='replace')))
+               *last_count(log.read_text(encoding='utf-8', errors='replace')))
 
 
 def measured_minutes() -> float:
@@ -84,7 +84,7 @@ def measured_minutes() -> float:
 
 def read_log(log: pathlib.Path, minutes: float = 0.0) -> Run:
     """What a log of an earlier run says, which took so many minutes, or 0 for nobody knows."""
-    counts = counted(log.read_text(encoding='utf-8', errors='replace'))
+    counts = last_count(log.read_text(encoding='utf-8', errors='replace'))
     passed, failed, *_ = counts
     return Run(0 if passed and not failed else 1, minutes, *counts)
 

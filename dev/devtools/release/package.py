@@ -28,7 +28,7 @@ def debian(name: str) -> str:
     return (PACKAGING / 'debian' / name).read_text(encoding='utf-8')
 
 
-def moved(text: str) -> str:
+def packaged_unit(text: str) -> str:
     """A unit file with the places of a package."""
     for old, new in PLACES.items():
         text = text.replace(old, new)
@@ -50,15 +50,15 @@ def put_folder(root: pathlib.Path, name: str, files: list[str]) -> None:
         put(root, f'{name}/{it}', (TOP / it).read_bytes(), mode)
 
 
-def listed(*places: str) -> list[str]:
+def files_below(*places: str) -> list[str]:
     """The files of the repository below places, without what checks the examples."""
     done = subprocess.run(('git', 'ls-files', '-z', *places), cwd=TOP, capture_output=True,
                           text=True, check=True)
     return [it for it in done.stdout.split('\0')
-            if it and not re.fullmatch(r'examples/(check|\w+/run)', it)]
+            if it and not re.fullmatch(r'examples/(check|\w+/(run|try|serve))', it)]
 
 
-def packed(text: str) -> bytes:
+def gzip_octets(text: str) -> bytes:
     """A text as gzip packs it, at no time."""
     return gzip.compress(text.encode(), mtime=0)
 
@@ -67,21 +67,21 @@ def laid_out(root: pathlib.Path, program: pathlib.Path) -> None:
     """Lays out what the package installs."""
     put(root, 'usr/bin/bayctl', program.read_bytes(), 0o755)
     commands = [f'tools/{name}' for name in COMMANDS]
-    put_folder(root, 'usr/share/bayctl', [*listed(*commands, 'tools/baytools'), *READ])
+    put_folder(root, 'usr/share/bayctl', [*files_below(*commands, 'tools/baytools'), *READ])
     for name in COMMANDS:
         (root / 'usr' / 'bin' / f'bayctl-{name}').symlink_to(f'../share/bayctl/tools/{name}')
     put_folder(root, 'usr/share/doc/bayctl',
-               listed('README.md', 'docs', 'examples', CONFIGURATION))
+               files_below('README.md', 'docs', 'examples', CONFIGURATION))
     put(root, 'usr/share/doc/bayctl/copyright', debian('copyright').encode())
     changes = (TOP / 'CHANGELOG.md').read_text(encoding='utf-8')
-    put(root, 'usr/share/doc/bayctl/CHANGELOG.md.gz', packed(changes))
+    put(root, 'usr/share/doc/bayctl/CHANGELOG.md.gz', gzip_octets(changes))
     manual = (PACKAGING / 'bayctl.1').read_text(encoding='utf-8')
-    put(root, 'usr/share/man/man1/bayctl.1.gz', packed(manual))
+    put(root, 'usr/share/man/man1/bayctl.1.gz', gzip_octets(manual))
     put(root, 'usr/share/lintian/overrides/bayctl', debian('lintian-overrides').encode())
     put(root, 'usr/share/bash-completion/completions/bayctl',
         (PACKAGING / 'completions' / 'bayctl').read_bytes())
     for it in sorted((PACKAGING / 'units').iterdir()):
-        text = moved(it.read_text(encoding='utf-8'))
+        text = packaged_unit(it.read_text(encoding='utf-8'))
         put(root, f'usr/lib/systemd/system/{it.name}', text.encode())
     for kind in ('sysusers', 'tmpfiles'):
         octets = (TOP / CONFIGURATION / f'{kind}.conf').read_bytes()
@@ -97,7 +97,7 @@ def package(folder: pathlib.Path, program: pathlib.Path, version: str,
     root = folder / 'package'
     laid_out(root, program)
     date = email.utils.format_datetime(datetime.datetime.now(datetime.UTC))
-    put(root, 'usr/share/doc/bayctl/changelog.gz', packed(debian('changelog').format(
+    put(root, 'usr/share/doc/bayctl/changelog.gz', gzip_octets(debian('changelog').format(
         version=version, maintainer=maintainer, date=date)))
     size = sum(it.stat().st_size for it in root.rglob('*') if it.is_file()) // 1024
     put(root, 'DEBIAN/control', debian('control').format(

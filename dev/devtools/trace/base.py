@@ -6,7 +6,7 @@ import shutil
 
 from baytools.common.html_page import sum_of
 from baytools.common.paths import TOP
-from baytools.common.texts import counted
+from baytools.common.texts import quantity
 from devtools.figures.stamps import crates_of_program, output_of
 from devtools.release.evidence import Run, read_log
 from devtools.trusted.sizes import sum_of as sum_at
@@ -73,8 +73,8 @@ def gate_text(log: pathlib.Path | None) -> str:
     run: Run = read_log(log)
     untried = f', {run.untried} not tried' if run.untried else ''
     return (f'{"passed" if run.is_good else "NOT PASSED"}: {run.passed} passed, {run.failed} failed'
-            f'{untried}; {counted(run.proved, "crate")} proved in this run, {run.taken} taken from '
-            f'earlier runs; by {log.name}, SHA-256 {sum_of(log.read_bytes())}')
+            f'{untried}; {quantity(run.proved, "crate")} proved in this run, {run.taken} taken '
+            f'from earlier runs; by {log.name}, SHA-256 {sum_of(log.read_bytes())}')
 
 
 def left_out() -> str:
@@ -85,11 +85,11 @@ def left_out() -> str:
     stale = sum(refusals.is_stale(name, it) for name, it in table.items())
     cut = sum(it.goal.endswith(refusals.CUT) for it in table.values())
     return '; '.join((
-        f'of {counted(len(found), "promise")} with an id '
+        f'of {quantity(len(found), "promise")} with an id '
         f'{sum(not laws_about(borne_by(it)) for it in found)} have no law, '
         f'{sum(not refused_of(it) for it in found)} no wrong body and '
         f'{sum(not shown.cases_of(it) for it in found)} no case, each with a reason',
-        f'of {counted(len(keys), "wrong body", "wrong bodies")} {len(keys) - len(table)} have no '
+        f'of {quantity(len(keys), "wrong body", "wrong bodies")} {len(keys) - len(table)} have no '
         f'answer of the prover here, {stale} one of code that has changed, {cut} one that the kit '
         f'cut, and {sum(bool(it.caveat) for it in table.values())} one against which the kit has a '
         'caveat', 'what no clause says: see TRUSTED, and the last section of PROVED'))

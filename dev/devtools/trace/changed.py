@@ -5,7 +5,7 @@ import functools
 import html
 import json
 
-from baytools.common.texts import counted
+from baytools.common.texts import quantity
 from devtools.paths import DATA
 
 from .definitions import Named
@@ -40,7 +40,7 @@ def tried_text(name: str) -> str:
     parts = [f'{counts[kind]} {"break" if counts[kind] > 1 else "breaks"} {kind}'
              for kind in (LAW, CODE, NOTHING) if counts[kind]]
     named = f' ({", ".join(laws)})' if laws else ''
-    told = f'Changed in {counted(len(of), "way")}: {", ".join(parts)}{named}.'
+    told = f'Changed in {quantity(len(of), "way")}: {", ".join(parts)}{named}.'
     return f'<p class="quiet">{html.escape(told)}</p>'
 
 

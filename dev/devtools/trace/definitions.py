@@ -193,7 +193,7 @@ def scope_of(named: Named) -> Scope:
 
 
 @functools.cache
-def cited(call: Call, labels: frozenset[str] = frozenset()) -> tuple[Named, ...]:
+def definitions_cited(call: Call, labels: frozenset[str] = frozenset()) -> tuple[Named, ...]:
     """The definitions that the clauses of a call cite: those of these labels, or all."""
     texts = [it.text for it in call.clauses if not labels or it.label in labels]
     return tuple(scope_of_call(call).named('\n'.join(texts)))

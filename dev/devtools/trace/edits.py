@@ -9,7 +9,7 @@ from devtools.paths import CRATES, DATA
 
 from . import refusals
 from .calls import Call, calls_of, crates
-from .definitions import Definition, Named, below, cited
+from .definitions import Definition, Named, below, definitions_cited
 from .promises import Borne, Promise, borne_by, promises, public_laws
 
 REGISTER = DATA / 'breaks.txt'
@@ -82,17 +82,17 @@ def subject(named: set[Named]) -> set[Definition]:
 
 
 @functools.cache
-def promised() -> tuple[Call, ...]:
+def promised_calls() -> tuple[Call, ...]:
     """The calls with code that bear promises."""
     return tuple(dict.fromkeys(call for it in promises() for call in borne_by(it).code))
 
 
 def obeying(laws: list[Call]) -> list[Call]:
     """Which calls that bear promises obey most of what laws are about: a few."""
-    about = subject({it for law in laws for it in cited(law)})
+    about = subject({it for law in laws for it in definitions_cited(law)})
     for _ in range(LEVELS):
         about |= subject({it for of in about for it in below(of)})
-    counts = {it: len(about & set(cited(it))) for it in promised()}
+    counts = {it: len(about & set(definitions_cited(it))) for it in promised_calls()}
     return sorted((it for it in counts if counts[it]), key=lambda it: -counts[it])[:OBEYING]
 
 
@@ -100,8 +100,8 @@ def laws_about(borne: Borne) -> list[Call]:
     """The laws that bear a promise; where there is none, those that cite a definition which its
     clauses cite."""
     about = subject({it for call in borne.code
-                     for it in cited(call, frozenset(borne.calls[call]))})
-    return borne.laws or [it for it in public_laws() if about & set(cited(it))]
+                     for it in definitions_cited(call, frozenset(borne.calls[call]))})
+    return borne.laws or [it for it in public_laws() if about & set(definitions_cited(it))]
 
 
 @functools.cache

@@ -52,7 +52,7 @@ def by_name() -> dict[str, list[Call]]:
 
 
 @functools.cache
-def served() -> dict[Call, Promise]:
+def inner_calls() -> dict[Call, Promise]:
     """The functions that the calls of promises lead to, with the first promise that does."""
     found = {call: it for it in promises() if it.id for call in reversed(borne_by(it).calls)}
     left = list(found)
@@ -75,6 +75,6 @@ def orphans() -> list[tuple[Call, Clause]]:
             if clause.kind.startswith('ensures') and (call, clause) not in borne]
 
 
-def judged(call: Call) -> str:
+def reason_of_none(call: Call) -> str:
     """Why a call that no promise leads to belongs to none, or an empty text."""
     return JUDGED.get(f'{call.crate} {call.title}', '')

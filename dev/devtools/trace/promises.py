@@ -214,7 +214,7 @@ def public_laws() -> list[Call]:
     return [it for it in all_calls() if it.is_public and it.is_law]
 
 
-def registered() -> dict[str, str]:
+def register() -> dict[str, str]:
     """What each id stands for by the register: the first call that bears it, or that it is gone."""
     lines = REGISTER.read_text(encoding='utf-8').splitlines()
     return dict(it.split(' ', 1) for it in lines if it.startswith('P-'))

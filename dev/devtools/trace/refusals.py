@@ -73,11 +73,11 @@ def answers_in(log: str) -> dict[str, Refusal]:
         label = named[1] if call and named and named[1] in call.labels else ''
         found[f'{crate}/{edit}'] = Refusal(
             call.title if call else '', label or (clause and (clause.label or clause.kind)) or '',
-            marked(goal) if len(line) == SHOWN else goal.strip(), commit, date, caveat)
+            marked_goal(goal) if len(line) == SHOWN else goal.strip(), commit, date, caveat)
     return found
 
 
-def marked(goal: str) -> str:
+def marked_goal(goal: str) -> str:
     """A goal that the kit cut, with the rest of the sentence in which it did, and a mark."""
     for sentence in SENTENCES:
         for size in range(len(sentence), LEAST - 1, -1):
@@ -86,7 +86,7 @@ def marked(goal: str) -> str:
     return goal.strip() + CUT
 
 
-def completed(told: Refusal, printed: str) -> Refusal:
+def whole_answer(told: Refusal, printed: str) -> Refusal:
     """An answer with the whole of its goal, as a check of the edit printed it."""
     head = told.goal.removesuffix(CUT)
     for line in printed.splitlines():
@@ -105,7 +105,7 @@ def read_table() -> dict[str, Refusal]:
     return {name: Refusal(**it) for name, it in told.items()}
 
 
-def shortened(told: Refusal) -> dict[str, str]:
+def short_answer(told: Refusal) -> dict[str, str]:
     """An answer as the table has it: without a caveat, if it has none."""
     return {name: it for name, it in dataclasses.asdict(told).items() if it or name != 'caveat'}
 
@@ -114,7 +114,7 @@ def write_table(table: dict[str, Refusal]) -> None:
     """Writes the answers of edits that are there. The new table takes the place of the old one at
     once, so a run that is ended leaves one or the other."""
     there = {f'{it.parent.parent.name}/{it.stem}' for it in CRATES.glob('*/*/*.edit')}
-    rows = {name: shortened(table[name]) for name in sorted(table) if name in there}
+    rows = {name: short_answer(table[name]) for name in sorted(table) if name in there}
     new = TABLE.with_suffix('.new')
     new.write_text(json.dumps(rows, indent=1, ensure_ascii=False) + '\n', encoding='utf-8')
     os.replace(new, TABLE)
@@ -134,7 +134,7 @@ def complete(name: str, check: Callable[[str], str]) -> None:
     crate and name."""
     told = read_table()[name]
     if told.goal.endswith(CUT):
-        whole = completed(told, check(name))
+        whole = whole_answer(told, check(name))
         read_table.cache_clear()
         write_table({**read_table(), name: whole})
 

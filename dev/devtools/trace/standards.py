@@ -6,7 +6,7 @@ import re
 from devtools.paths import CRATES
 
 from .calls import Call, crates
-from .definitions import Definition, Reader, cited
+from .definitions import Definition, Reader, definitions_cited
 from .promises import public_laws
 
 NAME = (r'X\.\d{3}|ISO \d{4}(?:-\d)?|RFC \d{4}|IEC 61131-3(?::2003)?|'
@@ -48,7 +48,7 @@ def head_of_file(crate: str, stem: str) -> str:
     return ' '.join(head)
 
 
-def stated(it: Definition) -> list[tuple[str, str]]:
+def clauses_of_definition(it: Definition) -> list[tuple[str, str]]:
     """The clauses that the comment above a definition cites, or else its heading before a colon; or
     that it is our own, with what the heading says of it."""
     standard, _, words = it.heading.partition(': ')
@@ -70,7 +70,7 @@ def definitions_of(crate: str) -> tuple[Definition, ...]:
 def counts(crate: str) -> tuple[int, int, int]:
     """How many definitions a crate has, how many name a clause, and how many say that they are our
     own."""
-    places = [stated(it) for it in definitions_of(crate)]
+    places = [clauses_of_definition(it) for it in definitions_of(crate)]
     own = sum(any(standard == OWN for standard, _ in it) for it in places)
     return len(places), sum(map(bool, places)) - own, own
 
@@ -81,7 +81,7 @@ def by_clause() -> dict[tuple[str, str], list[Definition]]:
     found: dict[tuple[str, str], list[Definition]] = {}
     for crate in crates():
         for it in definitions_of(crate):
-            places = stated(it) or clauses_in(head_of_file(crate, it.path.stem))
+            places = clauses_of_definition(it) or clauses_in(head_of_file(crate, it.path.stem))
             for place in places or [(OWN, crate)]:
                 found.setdefault(place, []).append(it)
     return dict(sorted(found.items(), key=lambda it: order_of(*it[0])))
@@ -96,4 +96,4 @@ def order_of(standard: str, clause: str) -> tuple:
 @functools.cache
 def laws_of(definition: Definition) -> tuple[Call, ...]:
     """The public laws that cite a definition."""
-    return tuple(it for it in public_laws() if definition in cited(it))
+    return tuple(it for it in public_laws() if definition in definitions_cited(it))

@@ -7,12 +7,13 @@ import re
 
 from baytools.common import page_head
 from baytools.common.paths import TOP
-from baytools.common.texts import counted
+from baytools.common.texts import quantity
 from devtools.paths import CRATES
 
 from . import base, changed, inner, lacking, refusals, shown, standards
 from .calls import Call, crates
-from .definitions import NAMED, Declared, Named, Scope, below, cited, scope_of, scope_of_call
+from .definitions import (NAMED, Declared, Named, Scope, below, definitions_cited, scope_of,
+                          scope_of_call)
 from .edits import Edit, broken, laws_about, obeying, refused_of
 from .markdown import inline, section
 from .promises import PAGES, Borne, Promise, borne_by, promises
@@ -103,7 +104,7 @@ class Sheet:
         first = [it for borne in self.borne.values() for it in borne.definitions]
         for promise, borne in self.borne.items():
             for call in (*borne.calls, *self.laws[promise]):
-                first += cited(call, frozenset(borne.calls.get(call, ())))
+                first += definitions_cited(call, frozenset(borne.calls.get(call, ())))
         return {it: f'{it.crate}.{it.path.stem}.{it.name}' for it in closure(first)}
 
     def source(self, path: pathlib.Path, line: int) -> str:
@@ -167,7 +168,7 @@ class Sheet:
         cases = ', '.join(f'{case.name} ({self.source(case.path, case.line)})'
                           for case in shown.cases_of(it))
         return ''.join((
-            f'<div class="promise"{mark(it)}><p>{inline(titled(it))}</p>'
+            f'<div class="promise"{mark(it)}><p>{inline(title_of(it))}</p>'
             f'<p class="quiet">By: {inline(it.by)} '
             f'({self.source(it.page, it.line)})</p>',
             self.part('Clauses', [self.contract(call, borne) for call in borne.code],
@@ -186,7 +187,7 @@ class Sheet:
             found = rests_on(by_id[known])
             lines = sum(it.text.count('\n') + 1 for it in found)
             rows.append(f'<tr><td><a href="#{known}">{html.escape(words)}</a></td><td>{known}</td>'
-                        f'<td>{counted(len(found), "definition")}, {counted(lines, "line")}</td>'
+                        f'<td>{quantity(len(found), "definition")}, {quantity(lines, "line")}</td>'
                         '</tr>')
         return ('<h2>What a buyer asks for</h2><table><tr><th>Promise</th><th>Id</th><th>It rests '
                 f'on</th></tr>{"".join(rows)}</table><p class="quiet">What a promise rests on is '
@@ -200,9 +201,9 @@ class Sheet:
             of_calls.setdefault(call, []).append(clause.label or clause.kind)
         rows = []
         for call, labels in of_calls.items():
-            serves = inner.served().get(call)
+            serves = inner.inner_calls().get(call)
             why = (f'<a href="#{serves.id}">{serves.id}</a>' if serves
-                   else inline(inner.judged(call)))
+                   else inline(inner.reason_of_none(call)))
             rows.append(f'<tr><td>{call.crate}</td><td>{html.escape(call.title)} '
                         f'({self.source(call.path, call.line)})</td>'
                         f'<td>{html.escape(", ".join(labels))}</td><td>{why}</td></tr>')
@@ -248,8 +249,8 @@ class Sheet:
         listed = sorted(self.listed, key=lambda it: (it.crate, it.name))
         parts = {it: part for it in crates() if (part := self.crate(it, listed))}
         links = [f'<a href="#crate-{it}">{it}</a>' for it in parts]
-        about = [('It has', f'{counted(len(self.borne), "promise")}, '
-                            f'{counted(len(listed), "definition")}'),
+        about = [('It has', f'{quantity(len(self.borne), "promise")}, '
+                            f'{quantity(len(listed), "definition")}'),
                  ('It lacks', base.left_out())]
         return ''.join((
             '<!DOCTYPE html><html lang="en"><meta charset="utf-8">'
@@ -342,7 +343,7 @@ def closure(first: list[Named]) -> list[Named]:
 def rests_on(borne: Borne) -> list[Named]:
     """The definitions that a promise rests on: what its clauses cite, and all below."""
     return closure([it for call, labels in borne.calls.items()
-                    for it in cited(call, frozenset(labels))])
+                    for it in definitions_cited(call, frozenset(labels))])
 
 
 def mark(promise: Promise) -> str:
@@ -350,7 +351,7 @@ def mark(promise: Promise) -> str:
     return f' id="{promise.id}"' if promise.id else ''
 
 
-def titled(promise: Promise) -> str:
+def title_of(promise: Promise) -> str:
     """The words of a promise behind its id. A row of SECURITY says what can't happen."""
     never = "can't happen: " if promise.page.name == 'SECURITY.md' else ''
     return f'{promise.id} {never}{promise.text}'.strip()

@@ -32,7 +32,7 @@ def row(before: str, after: str, answer: Answer) -> Row:
             'date': str(datetime.datetime.now(datetime.UTC).date())}
 
 
-def merged(old: Table, new: Table, there: dict[str, tuple[str, str]]) -> Table:
+def merge_tables(old: Table, new: Table, there: dict[str, tuple[str, str]]) -> Table:
     """A table with new rows in the place of old ones, without those whose lines stand no more."""
     rows = {**old, **new}
     return {name: rows[name] for name in sorted(rows)

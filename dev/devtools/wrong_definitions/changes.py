@@ -9,7 +9,7 @@ from collections.abc import Iterable, Iterator
 
 from devtools.trace.definitions import Definition, scope_of
 
-from .written import CLOSES, OPENS, Part, Token, after_group, parts, silenced, tokens_in, types_of
+from .written import CLOSES, OPENS, Part, Token, after_group, parts, bare_text, tokens_in, types_of
 
 PRELUDE = re.compile(r'^(use Rattle\.std\.specs\.Prelude\.\{)([^}]*)\}$', re.M)
 SIGNS = {'<': '≤', '≤': '<', '≡': '≢', '≢': '≡', '&&': '||', '||': '&&', '+': '-', '-': '+'}
@@ -72,7 +72,7 @@ class Changer:
         last = first + definition.text.count('\n') + 1
         self.begin = sum(len(it) + 1 for it in lines[:first])
         self.whole = '\n'.join(lines[first:last])
-        self.text = silenced(self.whole)
+        self.text = bare_text(self.whole)
         self.parts = parts(self.text, definition.name)
         self.is_record = definition.text.startswith(('record ', 'pub record '))
 

@@ -4,7 +4,7 @@ from collections.abc import Iterator
 
 from devtools.paths import CRATES
 from devtools.trace.calls import calls_of, crates
-from devtools.trace.definitions import Definition, Named, below, cited, definitions_in
+from devtools.trace.definitions import Definition, Named, below, definitions_cited, definitions_in
 from devtools.trace.inner import crates_below
 from devtools.trace.promises import borne_by, promises
 from devtools.trace.trace_page import rests_on
@@ -14,7 +14,7 @@ HEADLINE = ('P-001', 'P-012')
 
 
 @functools.cache
-def reached() -> list[Definition]:
+def definitions_of_headline() -> list[Definition]:
     """The definitions that the headline's clauses cite, and those that these rest on."""
     borne = [borne_by(it) for it in promises() if it.id in HEADLINE]
     found = dict.fromkeys(it for of in borne for it in rests_on(of))
@@ -42,7 +42,7 @@ def resting_on(definition: Definition) -> set[Named]:
 @functools.cache
 def named_by(crate: str) -> frozenset[Named]:
     """What the clauses and the definitions of a crate name."""
-    clauses = {it for call in calls_of(crate) for it in cited(call)}
+    clauses = {it for call in calls_of(crate) for it in definitions_cited(call)}
     return frozenset(clauses.union(*map(below, definitions_of(crate))))
 
 

@@ -13,7 +13,7 @@ from baytools.common.ending import Failed
 from devtools.crate_copy import LIBRARY, copy_of
 from devtools.paths import CRATES
 from devtools.trace.calls import Call, crates
-from devtools.trace.definitions import Definition, Named, cited
+from devtools.trace.definitions import Definition, Named, definitions_cited
 from devtools.trace.inner import all_below, crates_below
 from devtools.trace.promises import public_laws
 from devtools.trace.trace_page import closure
@@ -31,7 +31,7 @@ CLAUSE = re.compile(r'^\S*?/(\w+)/Answers\.antt:.*: returns-clause-(\w+)$', re.M
 @functools.cache
 def rests_on(law: Call) -> frozenset[Named]:
     """All definitions that a law rests on."""
-    return frozenset(closure(list(cited(law))))
+    return frozenset(closure(list(definitions_cited(law))))
 
 
 def laws_on(definition: Definition) -> Iterator[tuple[str, list[Call]]]:

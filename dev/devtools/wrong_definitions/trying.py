@@ -112,7 +112,7 @@ def answer_in(crate: str, status: int, printed: str, through: tuple[str, ...]) -
     return Answer(BROKEN if is_sure else UNKNOWN, through, broken, at, goal)
 
 
-def checked(folder: pathlib.Path, seconds: int) -> tuple[int, str]:
+def check_crate(folder: pathlib.Path, seconds: int) -> tuple[int, str]:
     """Checks a crate by one job: the status, and what was printed."""
     try:
         done = subprocess.run(['rt', 'check', '--jobs', '1'], cwd=folder, stdout=subprocess.PIPE,
@@ -137,7 +137,7 @@ def place_in(room: pathlib.Path, change: Change) -> list[pathlib.Path]:
     return written
 
 
-def tried(change: Change, others: list[str], seconds: int) -> Answer:
+def try_change(change: Change, others: list[str], seconds: int) -> Answer:
     """What a change comes to in its crate, and if that is proved in others, one after the other."""
     looked: tuple[str, ...] = ()
     with tempfile.TemporaryDirectory(prefix='wrong-definitions-') as name:
@@ -146,7 +146,7 @@ def tried(change: Change, others: list[str], seconds: int) -> Answer:
         place_in(room, change)
         for crate in (change.definition.crate, *others):
             looked += (crate,)
-            status, printed = checked(room / 'crates' / crate, seconds)
+            status, printed = check_crate(room / 'crates' / crate, seconds)
             found = answer_in(crate, status, printed, looked)
             if found:
                 return found

@@ -28,7 +28,7 @@ class Part:
     end: int
 
 
-def silenced(text: str) -> str:
+def bare_text(text: str) -> str:
     """A text without comments, and with quotes alone where texts in quotes stand, each character at
     its place."""
     return SILENT.sub(lambda it: ('"' if it.group().startswith('"') else ' ') * len(it.group()),
@@ -51,7 +51,7 @@ def after_group(tokens: list[Token], place: int) -> int:
     return len(tokens)
 
 
-def trimmed(text: str, start: int, end: int) -> int:
+def end_without_blanks(text: str, start: int, end: int) -> int:
     """The end of a part without the blanks behind it."""
     return start + len(text[start:end].rstrip())
 
@@ -67,7 +67,7 @@ def equations(text: str, name: str) -> list[Part]:
             place = after_group(tokens, place)
         if place < len(tokens) and tokens[place].text == '=':
             start = tokens[place].end
-            found.append(Part(begin, start, trimmed(text, start, end)))
+            found.append(Part(begin, start, end_without_blanks(text, start, end)))
     return found
 
 
@@ -75,7 +75,7 @@ def fields(text: str) -> list[Part]:
     """The fields of a record in a text that is silenced."""
     heads = list(FIELD.finditer(text))
     ends = [it.start() for it in heads[1:]] + [len(text)]
-    return [Part(it.start(), it.end(), trimmed(text, it.end(), end))
+    return [Part(it.start(), it.end(), end_without_blanks(text, it.end(), end))
             for it, end in zip(heads, ends)]
 
 
@@ -90,7 +90,7 @@ def parts(text: str, name: str) -> list[Part]:
 def without_fact(text: str, name: str, names: frozenset[str]) -> str:
     """A file of proofs without what gives a fact of a record, wherever all fields of it are
     given: `record { a = x; b = y }`."""
-    tokens = tokens_in(silenced(text))
+    tokens = tokens_in(bare_text(text))
     gone: list[tuple[int, int]] = []
     for place, it in enumerate(tokens[1:], 1):
         if it.text == '{' and tokens[place - 1].text == 'record':
@@ -121,7 +121,7 @@ def split_type(text: str) -> list[str]:
 
 def types_of(definition: Definition) -> list[str]:
     """The types of a definition's arguments in their order, as its first lines have them."""
-    text = ' '.join(silenced(definition.text).split())
+    text = ' '.join(bare_text(definition.text).split())
     signed = SIGNED.match(text)
     if not signed:
         return []

@@ -1,5 +1,6 @@
-"""What is said of rules that can't be read: the column, the line with a mark, what is meant; and of
-programs: no faults that follow from another one, remedies, and mistakes in giving releases."""
+"""How the tools report the faults of rules: with the column, the line with a mark, and a
+suggestion; and those of programs: without faults that follow from another one, with a remedy, and
+with warnings of mistakes in releases."""
 import unittest
 
 from baytools.bay.rules import BadRule, faults_of, looked_at, read_looks, read_rules
@@ -10,8 +11,8 @@ from tests.tool import Tools
 KNOWN = {('switch', 'QA1'), ('switch', 'QB1'), ('switch', 'QC1'), ('input', 'ES'),
          ('measure', 'M1_AA')}
 SWITCHES = {'switch': [{'id': 'QA1'}, {'id': 'QB1'}, {'id': 'QC1'}]}
-# A rule, the word that is marked (the last of that name), and what is meant.
-MEANT = [
+# A rule, the word that the tool marks (the last of that name), and what it suggests.
+SUGGESTIONS = [
     ('never QC1 close when QB1 == open', '==', 'write QB1 open'),
     ('never QC1 close when QB1 = open', '=', 'write QB1 open'),
     ('never QC1 close when QB1 != open', '!=', 'write QB1 not open'),
@@ -58,16 +59,16 @@ def program_of(*rows: str) -> str:
 
 
 class Rules(unittest.TestCase):
-    def test_each_tells_where_and_what_is_meant(self):
-        for text, word, meant in MEANT:
+    def test_each_report_has_the_column_and_a_suggestion(self):
+        for text, word, suggestion in SUGGESTIONS:
             with self.assertRaises(BadRule) as caught:
                 read_rules(f'# a comment\n  {text}  # why', KNOWN)
             at = f'  {text}'.rindex(word)
-            told = str(caught.exception)
+            message = str(caught.exception)
             if text.endswith('QB1 open') and word == 'QB1':
                 at = text.index('QB1') + 2
-            self.assertTrue(told.startswith(f'line 2, column {at + 1}: '), (text, told))
-            self.assertIn(meant, told)
+            self.assertTrue(message.startswith(f'line 2, column {at + 1}: '), (text, message))
+            self.assertIn(suggestion, message)
             line, mark = caught.exception.more
             self.assertEqual(line, f'     2 |   {text}  # why')
             self.assertEqual(mark.index('^') - 9, at, text)
@@ -80,7 +81,7 @@ class Rules(unittest.TestCase):
                          'line 1, column 25: there must be ) here, not the end')
         self.assertEqual(caught.exception.more[1].index('^') - 9, 24)
 
-    def test_a_look(self):
+    def test_a_line_with_values_to_try(self):
         with self.assertRaises(BadRule) as caught:
             looked_at(read_looks('look  QAl open'), KNOWN)
         self.assertEqual(str(caught.exception),
@@ -91,19 +92,19 @@ class Rules(unittest.TestCase):
         found = faults_of('never QX open\n\nlook ESS 1\nnever QC1 close\nnever QC1 shut\n', KNOWN)
         self.assertEqual([it.line for it in found], [1, 3, 5])
 
-    def test_what_is_read_stays_the_same(self):
+    def test_rules_without_fault(self):
         for text in ('never QC1 close when M1_AA<-5 and M1_AA>=-2147483648',
                      'never QC1 close when QB1 not open|closed or(ES and not ES 0)',
                      'always QC1 open after ES for 1m30s when M1_AA<>5'):
             self.assertEqual(len(read_rules(text, KNOWN)), 1)
 
 
-class Follow(unittest.TestCase):
+class FollowingFaults(unittest.TestCase):
     def fault_lines(self, *rows: str) -> list[tuple[int, int]]:
         found = program.faults_of(program_of(*rows), None)
         return [(it.code, it.line - HEAD.count('\n')) for it in found]
 
-    def test_a_misspelt_name_is_told_alone(self):
+    def test_a_misspelt_name_is_the_only_fault(self):
         rest = ('AND QB1_OPEN', 'ST QA1_ENA_OPN', 'OR( QB1_OPEN', 'AND QB1_CLOSED', ')',
                 'JMPC done', 'NOT', 'done: ST QA1_ENA_CLS', 'GT 5', 'ST QB1_ENA_OPN')
         self.assertEqual(self.fault_lines('LD QA1_OPN', *rest)[0], (70, 1))
@@ -112,7 +113,7 @@ class Follow(unittest.TestCase):
                                           'ST QA1_ENA_OPN'), [(70, 2)])
         self.assertEqual(self.fault_lines('LD t', 'ST QA1_ENA_OPN'), [(72, 1)])
 
-    def test_what_is_a_fault_of_its_own_stays(self):
+    def test_an_independent_fault_is_reported_too(self):
         self.assertEqual(self.fault_lines('LD QA1_OPN', 'ST QA1_ENA_OPN', 'LD 5', 'ST QA1_ENA_OPN'),
                          [(70, 1), (72, 4)])
         self.assertEqual(self.fault_lines('LD QA1_OPN', 'CAL t(IN := TRUE)', 'ST QA1_ENA_OPN'),
@@ -120,14 +121,14 @@ class Follow(unittest.TestCase):
         self.assertEqual(self.fault_lines('AND QA1_OPEN', 'ST QA1_ENA_OPN'), [(73, 1), (73, 2)])
         self.assertEqual(self.fault_lines('LD QA1_OPN', 'GT 5', 'ADD 1'), [(70, 1), (72, 3)])
 
-    def test_a_name_is_shown_as_it_is_declared(self):
+    def test_a_suggestion_spells_a_name_as_the_declaration_does(self):
         found = program.faults_of(program_of('LD open_coli', 'ST QA1_ENA_OPN'), {})
         self.assertIn('open_coli is not declared; is open_coil meant?', [it.told for it in found])
 
 
 class Remedies(unittest.TestCase):
     def test_numbers_of_other_languages(self):
-        for row, told, mend in (
+        for row, message, remedy in (
                 ('CAL t(IN := TRUE, PT := T#0.5s)', 'a duration has no fraction', 'write T#500ms'),
                 ('CAL t(PT := T#1,25m)', 'a duration has no fraction', 'write T#75000ms'),
                 ('LD time#0.0001s', 'a duration has no fraction', 'whole numbers'),
@@ -136,8 +137,8 @@ class Remedies(unittest.TestCase):
                 ('LD 1.5', 'a number can\'t have a fraction', 'write a whole number')):
             text = program_of(row)
             found = lines.locate(text, HEAD.count('\n') + 1)
-            self.assertEqual(found.told, told)
-            self.assertIn(mend, found.mend)
+            self.assertEqual(found.told, message)
+            self.assertIn(remedy, found.mend)
         text = HEAD.replace('open_coil : BOOL;', 'n : DINT := 30,000;')
         self.assertIn('30_000', lines.locate(text, 7).mend)
 
@@ -154,7 +155,7 @@ class Releases(unittest.TestCase):
             self.assertEqual(self.warn('LD QB1_OPEN', 'S QA1_ENA_CLS', back), [])
         self.assertEqual(self.warn('LD QB1_OPEN', 'S open_coil'), [])
 
-    def test_what_a_return_jumps_over(self):
+    def test_releases_after_a_return(self):
         self.assertEqual(self.warn('LD QB1_OPEN', 'RETC', 'ST QA1_ENA_CLS', 'ST QA1_ENA_OPN'),
                          [(2, 'where RETC returns, QA1_ENA_CLS, QA1_ENA_OPN keep what an earlier '
                               'scan gave')])
@@ -175,7 +176,7 @@ class Releases(unittest.TestCase):
                               'bad')])
 
 
-class Said(Tools):
+class Reports(Tools):
     def test_audit_and_diagnose_show_the_line(self):
         bay = self.file('bay', '[bay]\ndomain = "B"\nvendor = "V"\nmodel = "M"\nrevision = "1"\n'
                                '[[switch]]\nid = "QA1"\nkind = "breaker"\n')
