@@ -210,7 +210,7 @@ file-words file none =
     (items_at (get_member (codes "input") file)) four.0 in
     let of-meters : Each IsMeterWord (meters_in file) =
     meter-ids-of profile (tables_of
-        (unwrap_or (items_at (get_member (codes "meter") file)) no_items))
+    (unwrap_or (items_at (get_member (codes "meter") file)) no_items))
     (list-words (λ t. meter_keys profile) (codes "id") (meter-word profile) 0 8
     (items_at (get_member (codes "meter") file)) five.0) in
     record {
