@@ -14,10 +14,12 @@
 // - `supervised`: the same, with a process that is supervised.
 // - `sockets`: a link over sockets, and a client and the server in turn, on 127.0.0.1.
 // - `session`: messages of a client, with their answers.
+// - `dropped`: what the tests drop.
 #![tactic(auto)]
 
 #[cfg(test)]
 mod device;
+pub mod dropped;
 #[cfg(test)]
 mod image;
 #[cfg(test)]
