@@ -5,6 +5,7 @@ import socket
 import subprocess
 import sys
 import tempfile
+import threading
 import time
 
 from baytools.common.paths import TOOLS
@@ -17,6 +18,9 @@ PATIENCE, TURNS = 30, 1_000_000  # seconds until something must have happened; t
 # the moment at which it is found free and that at which a server opens it.
 PORTS = range(15_000, 32_000)
 taken: set[int] = set()
+# One thread at a time tries a port or starts a program. Between its fork and its exec a new process
+# holds the socket of a port that another thread tries, and the server of that port can't open it.
+starting = threading.Lock()
 
 
 def free_port() -> int:
@@ -26,7 +30,7 @@ def free_port() -> int:
         if port in taken:
             continue
         taken.add(port)
-        with socket.socket() as one:
+        with starting, socket.socket() as one:
             try:
                 one.bind(('127.0.0.1', port))
             except OSError:
@@ -51,8 +55,9 @@ class Running:
 
     def __init__(self, *words, stdin=subprocess.DEVNULL, env=None) -> None:
         self.out = tempfile.NamedTemporaryFile('w+', encoding='utf-8')
-        self.run = subprocess.Popen([*map(str, words)], stdin=stdin, stdout=self.out,
-                                    stderr=subprocess.STDOUT, env=env)
+        with starting:
+            self.run = subprocess.Popen([*map(str, words)], stdin=stdin, stdout=self.out,
+                                        stderr=subprocess.STDOUT, env=env)
 
     def __enter__(self) -> 'Running':
         return self
