@@ -3,12 +3,12 @@ use Rattle.std.proofs.Common.{◌≡◌, ℕ, ℤ, zero, suc, Bool, false, not, 
 use Rattle.std.proofs.lemmas.Bool.{or_parts, not-false}
 use Rattle.std.specs.Bool.{beq}
 use Rattle.bay_base.specs.declared.point.MeterField.{MeterField}
-use Rattle.bay_nodes.specs.Names.{cilo_name, meter_names, switch_names}
+use Rattle.bay_nodes.specs.Names.{cilo_name, float_names, meter_names, switch_names}
 use Rattle.bay_nodes.specs.declared.switch.Switch.{Switch}
-use Rattle.bay_process.specs.Names.{field_names}
-use Rattle.bay_process.specs.Values.{rows_after_change, has_position as tells_position, has_invalid_measure, has_measure, with_status}
+use Rattle.bay_process.specs.Names.{field_float, field_names}
+use Rattle.bay_process.specs.Values.{rows_after_change, has_position as tells_position, has_invalid_measure, has_measure, with_status, with_float}
 use Rattle.bay_process.proofs.ModelLemmas.{health-keeps, health-keeps-others, input-keeps, input-keeps-others}
-use Rattle.bay_process.proofs.ToldLemmas.{Keeps, field-away, keeps-contact, keeps-doubt, keeps-measure}
+use Rattle.bay_process.proofs.ToldLemmas.{Keeps, field-away, float-away, keeps-contact, keeps-doubt, keeps-measure}
 use Rattle.bay_tree.specs.Rows.{leaf_named, with_leaf_named}
 use Rattle.bay_base.specs.declared.position.Dbpos.{Dbpos}
 use Rattle.bay_tree.specs.declared.leaf.Leaf.TheVariants as leaf
@@ -144,6 +144,7 @@ quiet-measure : (now k : ℕ) (field : MeterField) (value : ℤ) (s : State) →
     → Quiet s (device_after_measure now k field value s)
 quiet-measure now k field value s typed =
     let names = field_names field (meter_names k) in
+    let float = field_float field (float_names k) in
     let told : Bool = has_measure names value s.rows in
     record {
       machine = refl;
@@ -155,11 +156,12 @@ quiet-measure now k field value s typed =
       stale = λ h. (or_parts s.is_stale (not told) h).0;
       rows = λ h. told-same s.rows _
           (ap (λ (b : Bool). cond b s.rows
-          (with_status names (leaf.Int32 value) Good now s.rows))
+          (with_float float value (with_status names (leaf.Int32 value) Good now s.rows)))
           (not-false told (or_parts s.is_stale (not told) h).1));
       inputs = λ h. refl;
-      keeps = keeps-measure names value now s.rows (field-away k field);
-      fits = λ count. measure-fits count names value now s.rows typed;
+      keeps = keeps-measure names float value now s.rows (field-away k field)
+          (float-away k field);
+      fits = λ count. measure-fits count names float value now s.rows typed;
     }
 
 quiet-doubt : (now k : ℕ) (field : MeterField) (s : State)

@@ -6,12 +6,12 @@ use Rattle.bay_base.specs.declared.point.Source.{Source}
 use Rattle.bay_config.specs.Laws.{IsBay}
 use Rattle.bay_config.specs.declared.bay.Bay.{Bay}
 use Rattle.bay_config.proofs.NamedLemmas.{names-position}
-use Rattle.bay_nodes.specs.Names.{StatusNames, cswi_name, cilo_name, meter_names, switch_node, position_names, switch_names}
+use Rattle.bay_nodes.specs.Names.{StatusNames, cswi_name, cilo_name, meter_names, switch_node, position_names, switch_names, float_names}
 use Rattle.bay_nodes.specs.Node.{class_of, node_name, node_number}
 use Rattle.bay_nodes.specs.declared.switch.Switch.{Switch}
 use Rattle.bay_base.specs.declared.switch.SwitchKind.{SwitchKind}
 use Rattle.bay_base.specs.declared.switch.SwitchKind.TheVariants.{Breaker, Disconnector, Earthing}
-use Rattle.bay_process.specs.Names.{field_names}
+use Rattle.bay_process.specs.Names.{field_float, field_names}
 use Rattle.bay_process.specs.Values.{position_leaf, position_value, has_position, with_enabled, with_outputs, with_status}
 use Rattle.bay_process.proofs.ModelLemmas.{KeepsOthers, health-keeps-others, input-keeps-others, lost-inputs-keep-others, unmodelled-position}
 use Rattle.bay_process.proofs.ToldLemmas.{IsAway, away-position, leaf-other}
@@ -317,7 +317,8 @@ module _ (now : ℕ) (s : State) (w : Wary s) where
       wary-health now (device_after_measure now k field value (device_at now s))
       (believed _ s.input_values
       (measure-passes (HavePositions s.switches) (written-have s.switches)
-      (field_names field (meter_names k)) value now s.rows w.have))
+      (field_names field (meter_names k)) (field_float field (float_names k)) value now s.rows
+      w.have))
 
   wary-doubt : (k : ℕ) (field : MeterField) (o : Option (List ℕ))
       → Wary (bad_measure_outcome now k field s o).after

@@ -13,7 +13,7 @@ use Rattle.bay_nodes.specs.declared.switch.Switch.{Switch}
 use Rattle.bay_base.specs.declared.switch.SwitchKind.{SwitchKind}
 use Rattle.bay_base.specs.declared.switch.SwitchKind.TheVariants.{Breaker, Disconnector, Earthing}
 use Rattle.bay_process.specs.Names.{field_names}
-use Rattle.bay_process.specs.Values.{is_operation, measure_leaf, number_of_leaf, rows_after_operation, position_quality, rows_after_change, rows_after_contact, rows_after_bad_measure, rows_after_measure, has_position, has_invalid_measure, has_measure, with_count, with_status}
+use Rattle.bay_process.specs.Values.{is_operation, measure_leaf, number_of_leaf, rows_after_operation, position_quality, rows_after_change, rows_after_contact, rows_after_bad_measure, rows_after_measure, has_position, has_invalid_measure, has_measure, with_count, with_status, is_float}
 use Rattle.bay_process.proofs.ModelLemmas.{KeepsOthers, lost-inputs-keep-others, unmodelled-field}
 use Rattle.bay_process.proofs.ToldLemmas.{leaf-other}
 use Rattle.bay_tree.specs.Rows.{leaf_named, with_leaf_named}
@@ -47,6 +47,7 @@ fits-number (Some (leaf.Quality q)) h = zero-fits
 fits-number (Some (leaf.Int8 n)) h = zero-fits
 fits-number (Some (leaf.Unsigned8 n)) h = zero-fits
 fits-number (Some (leaf.Unsigned32 n)) h = zero-fits
+fits-number (Some (leaf.Float n)) h = zero-fits
 fits-number (Some (leaf.Octets n)) h = zero-fits
 fits-number (Some (leaf.Reference n)) h = zero-fits
 fits-number (Some (leaf.Text n)) h = zero-fits
@@ -147,6 +148,7 @@ module _ (count : ℕ) where
   counted-fits names (Some (leaf.Int8 n)) now rows apart all = all
   counted-fits names (Some (leaf.Unsigned8 n)) now rows apart all = all
   counted-fits names (Some (leaf.Unsigned32 n)) now rows apart all = all
+  counted-fits names (Some (leaf.Float n)) now rows apart all = all
   counted-fits names (Some (leaf.Octets n)) now rows apart all = all
   counted-fits names (Some (leaf.Reference n)) now rows apart all = all
   counted-fits names (Some (leaf.Text n)) now rows apart all = all
@@ -171,11 +173,16 @@ module _ (count : ℕ) where
       (counted-fits names.operations (leaf_named names.operations.value after) now after
       (apart-count switches j switch) both) both)
 
-  pub measure-fits : (names : StatusNames) (value : ℤ) (now : ℕ) (rows : List Row) → Has32Bits value
-      → AllFit count rows → AllFit count (rows_after_measure names value now rows)
-  measure-fits names value now rows fits all =
+  pub measure-fits : (names : StatusNames) (float : List ℕ) (value : ℤ) (now : ℕ)
+      (rows : List Row) → Has32Bits value → AllFit count rows
+      → AllFit count (rows_after_measure names float value now rows)
+  measure-fits names float value now rows fits all =
+      let told = with_status names (leaf.Int32 value) Good now rows in
+      let status : AllFit count told =
+      status-fits names (leaf.Int32 value) Good now rows fits all in
       if-fits (has_measure names value rows) rows _ all
-      (status-fits names (leaf.Int32 value) Good now rows fits all)
+      (if-fits (is_float (leaf_named float told)) _ told
+      (λ k field lt. written-fits told _ float (leaf.Float value) tt (status k field lt)) status)
 
   pub doubt-fits : (names : StatusNames) (now : ℕ) (rows : List Row) → AllFit count rows
       → AllFit count (rows_after_bad_measure names now rows)

@@ -5,7 +5,7 @@ use Rattle.bay_base.specs.declared.point.Source.{Source}
 use Rattle.bay_base.specs.declared.point.SwitchPoint.TheVariants.{EnableOpen, EnableClose}
 use Rattle.bay_nodes.specs.Names.{StatusNames, SwitchNames, switch_names}
 use Rattle.bay_nodes.specs.declared.switch.Switch.{Switch}
-use Rattle.bay_process.specs.Values.{is_operation, rows_after_operation, output_of, position_quality, rows_after_change, rows_after_contact, rows_after_bad_measure, rows_after_measure, has_position, has_invalid_measure, has_measure, with_count, with_enabled, with_outputs, with_status}
+use Rattle.bay_process.specs.Values.{is_float, is_operation, rows_after_operation, output_of, position_quality, rows_after_change, rows_after_contact, rows_after_bad_measure, rows_after_measure, has_position, has_invalid_measure, has_measure, with_count, with_enabled, with_outputs, with_status}
 use Rattle.bay_tree.specs.Rows.{leaf_named, with_leaf_named}
 use Rattle.bay_base.specs.declared.position.Dbpos.{Dbpos}
 use Rattle.bay_tree.specs.declared.leaf.Leaf.{Leaf}
@@ -39,6 +39,7 @@ module _ (P : List Row → Type 0)
   counted-passes names (Some (leaf.Int8 n)) now rows p = p
   counted-passes names (Some (leaf.Unsigned8 n)) now rows p = p
   counted-passes names (Some (leaf.Unsigned32 n)) now rows p = p
+  counted-passes names (Some (leaf.Float n)) now rows p = p
   counted-passes names (Some (leaf.Octets n)) now rows p = p
   counted-passes names (Some (leaf.Reference n)) now rows p = p
   counted-passes names (Some (leaf.Text n)) now rows p = p
@@ -60,11 +61,13 @@ module _ (P : List Row → Type 0)
       (counted-passes names.operations (leaf_named names.operations.value after) now after both)
       both)
 
-  pub measure-passes : (names : StatusNames) (value : ℤ) (now : ℕ) (rows : List Row) → P rows
-      → P (rows_after_measure names value now rows)
-  measure-passes names value now rows p =
+  pub measure-passes : (names : StatusNames) (float : List ℕ) (value : ℤ) (now : ℕ)
+      (rows : List Row) → P rows → P (rows_after_measure names float value now rows)
+  measure-passes names float value now rows p =
+      let told = with_status names (leaf.Int32 value) Good now rows in
+      let status : P told = status-passes names (leaf.Int32 value) Good now rows p in
       if-passes (has_measure names value rows) rows _ p
-      (status-passes names (leaf.Int32 value) Good now rows p)
+      (if-passes (is_float (leaf_named float told)) _ told (write float _ told status) status)
 
   pub doubt-passes : (names : StatusNames) (now : ℕ) (rows : List Row) → P rows
       → P (rows_after_bad_measure names now rows)

@@ -16,8 +16,8 @@ use Rattle.bay_nodes.specs.declared.meter.Meter.{Meter}
 use Rattle.bay_nodes.specs.declared.nameplate.Nameplate.{Nameplate}
 use Rattle.bay_nodes.specs.declared.profile.Profile.{Profile}
 use Rattle.bay_nodes.specs.declared.profile.Profile.TheVariants.{One, Two}
-use Rattle.bay_config.specs.Laws.{nameplate_of, IsBay, HasNode, HasPosition, HasCancel, HasControl, HasCommands, HasEnable, HasLocal, HasMeter, HasValue, NamesPosition, NamesControl, NamesInterlocking, NamesMeter}
-use Rattle.bay_nodes.specs.Names.{StatusNames, opening_names, closing_names, control_names_of, meter_names_of}
+use Rattle.bay_config.specs.Laws.{nameplate_of, IsBay, HasNode, HasPosition, HasCancel, HasControl, HasCommands, HasEnable, HasFloats, HasLocal, HasMeter, HasValue, NamesPosition, NamesControl, NamesInterlocking, NamesMeter}
+use Rattle.bay_nodes.specs.Names.{StatusNames, opening_names, closing_names, control_names_of, float_names_of, meter_names_of}
 use Rattle.bay_nodes.specs.Node.{Parts, parts_of, Node, row, node_rows, node_name, class_of, is_breaker, is_in_group, node_number, device_node, physical_node, position_node, position_nodes, position_parts, command_parts, control_node, control_nodes, control_parts, control_settings, control_status, input_nodes, interlocking_node, interlocking_nodes, interlocking_parts, meter_node, meter_nodes, meter_parts, meter_settings, meter_values, nodes_of}
 
 Contains-cons : {X : Type 0} (y : X) (xs : List X) (x : X) → Contains xs x → Contains (y ∷ xs) x
@@ -431,7 +431,7 @@ has-commands bay name Two SboEnhanced n s h =
 abbrev meter_node_of : List ℕ → Profile → Bool → Nameplate → Meter → Node
 meter_node_of name profile scaled n m = record {
   name = name;
-  parts = parts_of (meter_values profile ++ meter_settings profile scaled n m);
+  parts = parts_of (meter_values profile scaled ++ meter_settings profile scaled n m);
 }
 
 has-meter : (bay : Bay) (name : List ℕ) (profile : Profile) (scaled : Bool) (n : Nameplate)
@@ -450,12 +450,12 @@ has-meter bay name One scaled n m h =
 has-meter bay name Two true n m h =
     let at = row-at bay (meter_node_of name Two true n m) h in
     record {
-      tot_w = has-value (at 9 refl) (at 10 refl) (at 11 refl);
-      tot_var = has-value (at 14 refl) (at 15 refl) (at 16 refl);
-      hz = has-value (at 19 refl) (at 20 refl) (at 21 refl);
-      phase_a = has-value (at 26 refl) (at 27 refl) (at 28 refl);
-      phase_b = has-value (at 32 refl) (at 33 refl) (at 34 refl);
-      phase_c = has-value (at 38 refl) (at 39 refl) (at 40 refl);
+      tot_w = has-value (at 9 refl) (at 11 refl) (at 12 refl);
+      tot_var = has-value (at 15 refl) (at 17 refl) (at 18 refl);
+      hz = has-value (at 21 refl) (at 23 refl) (at 24 refl);
+      phase_a = has-value (at 29 refl) (at 31 refl) (at 32 refl);
+      phase_b = has-value (at 36 refl) (at 38 refl) (at 39 refl);
+      phase_c = has-value (at 43 refl) (at 45 refl) (at 46 refl);
     }
 has-meter bay name Two false n m h =
     let at = row-at bay (meter_node_of name Two false n m) h in
@@ -466,6 +466,22 @@ has-meter bay name Two false n m h =
       phase_a = has-value (at 26 refl) (at 27 refl) (at 28 refl);
       phase_b = has-value (at 32 refl) (at 33 refl) (at 34 refl);
       phase_c = has-value (at 38 refl) (at 39 refl) (at 40 refl);
+    }
+
+has-floats : (bay : Bay) (name : List ℕ) (profile : Profile) (scaled : Bool) (n : Nameplate)
+    (m : Meter) → HasNode bay (meter_node_of name profile scaled n m)
+    → HasFloats profile scaled bay.rows (float_names_of name)
+has-floats bay name One scaled n m h = tt
+has-floats bay name Two false n m h = tt
+has-floats bay name Two true n m h =
+    let at = row-at bay (meter_node_of name Two true n m) h in
+    record {
+      tot_w = at 10 refl;
+      tot_var = at 16 refl;
+      hz = at 22 refl;
+      phase_a = at 30 refl;
+      phase_b = at 37 refl;
+      phase_c = at 44 refl;
     }
 
 -- the nodes of a bay
@@ -587,6 +603,7 @@ names-meter bay index name lt named =
       named = named;
       node = node;
       rows = λ is_bay. has-meter bay name bay.profile (is_some w.0.scale) n w.0 (node is_bay);
+      floats = λ is_bay. has-floats bay name bay.profile (is_some w.0.scale) n w.0 (node is_bay);
     }
 
 pub get-at : (ss : List Switch) (index : ℕ) (s : Switch) → index < length ss → s ≡ get_or ss index s

@@ -1,8 +1,8 @@
 -- The properties of every bay that is read, whatever its file holds.
-use Rattle.std.specs.Prelude.{◌≡◌, ◌≢◌, ℕ, ◌+◌, ◌<◌, ◌≤◌, ◌++◌, pos, false, true, codes, Some, None, List, [], length, slice_get, All, AllPairs, Contains}
+use Rattle.std.specs.Prelude.{◌≡◌, ◌≢◌, ℕ, ◌+◌, ◌<◌, ◌≤◌, ◌++◌, Bool, pos, false, true, codes, Some, None, is_some, List, [], length, slice_get, All, AllPairs, Contains}
 use Rattle.bay_tree.specs.declared.row.Row.{Row}
 use Rattle.bay_tree.specs.declared.leaf.Leaf.{Leaf}
-use Rattle.bay_tree.specs.declared.leaf.Leaf.TheVariants.{Truth, Dbpos, Quality, Int8, Int32, Unsigned8, Octets, Reference, Utc}
+use Rattle.bay_tree.specs.declared.leaf.Leaf.TheVariants.{Truth, Dbpos, Quality, Float, Int8, Int32, Unsigned8, Octets, Reference, Utc}
 use Rattle.bay_base.specs.declared.position.Dbpos.TheVariants.{Intermediate}
 use Rattle.bay_tree.specs.declared.leaf.Quality.{Quality as Validity}
 use Rattle.bay_tree.specs.declared.leaf.Quality.TheVariants.{Good, Invalid}
@@ -19,7 +19,7 @@ use Rattle.bay_nodes.specs.declared.nameplate.Nameplate.{Nameplate}
 use Rattle.bay_nodes.specs.declared.profile.Profile.{Profile}
 use Rattle.bay_nodes.specs.declared.profile.Profile.TheVariants.{One, Two}
 use Rattle.bay_nodes.specs.Node.{Node, row, node_rows, node_name, class_of, is_breaker, node_number, has_key, key_quality, position_parts, control_parts, interlocking_parts, meter_parts, bay_rows}
-use Rattle.bay_nodes.specs.Names.{StatusNames, position_names, operation_names, health_names, physical_health_names, local_names, indication_names, opening_names, closing_names, ControlNames, control_names_of, MeterNames, meter_names_of}
+use Rattle.bay_nodes.specs.Names.{StatusNames, position_names, operation_names, health_names, physical_health_names, local_names, indication_names, opening_names, closing_names, ControlNames, control_names_of, MeterNames, meter_names_of, FloatNames, float_names_of}
 use Rattle.bay_config.specs.Point.{points_of, input_point, meter_points, bay_points}
 use Rattle.bay_config.specs.Remote.{are_inputs}
 
@@ -155,6 +155,25 @@ pub record HasMeter (rows : List Row) (names : MeterNames) : Type 0 where
   pub phase_b : HasMeasured rows names.phase_b
   pub phase_c : HasMeasured rows names.phase_c
 
+-- the rows have a float with this name (IEC 61850-7-3, AnalogueValue)
+abbrev pub HasFloat : List Row → List ℕ → Type 0
+HasFloat rows name = Contains rows (row name (Some (Float (pos 0))))
+
+-- the rows have the six measured values of a meter as floats
+pub record HaveFloats (rows : List Row) (names : FloatNames) : Type 0 where
+  pub tot_w : HasFloat rows names.tot_w
+  pub tot_var : HasFloat rows names.tot_var
+  pub hz : HasFloat rows names.hz
+  pub phase_a : HasFloat rows names.phase_a
+  pub phase_b : HasFloat rows names.phase_b
+  pub phase_c : HasFloat rows names.phase_c
+
+-- in profile 2 the rows have the floats of a meter with a scale
+abbrev pub HasFloats : Profile → Bool → List Row → FloatNames → Type 0
+HasFloats One scaled rows names = Unit
+HasFloats Two false rows names = Unit
+HasFloats Two true rows names = HaveFloats rows names
+
 -- the rows have the switch's Loc below a node XCBR or XSWI: a switch with a key is local until the
 -- key is reported (IEC 61850-7-4, Loc); in profile 1 there is none
 abbrev pub HasLocal : Profile → List Row → List ℕ → Switch → Type 0
@@ -217,3 +236,5 @@ pub record NamesMeter (bay : Bay) (index : ℕ) (name : List ℕ) : Type 0 where
   pub node : IsBay bay → HasNode bay
       (record { name = name; parts = meter_parts bay.profile (nameplate_of bay) meter })
   pub rows : IsBay bay → HasMeter bay.rows (meter_names_of name)
+  pub floats : IsBay bay
+      → HasFloats bay.profile (is_some meter.scale) bay.rows (float_names_of name)

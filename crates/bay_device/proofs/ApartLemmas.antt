@@ -10,18 +10,18 @@ use Rattle.bay_tree.specs.declared.leaf.Leaf.TheVariants as leaf
 use Rattle.bay_tree.specs.declared.leaf.Quality.{Quality}
 use Rattle.bay_tree.specs.declared.leaf.Quality.TheVariants.{Good}
 use Rattle.bay_nodes.specs.declared.switch.Switch.{Switch}
-use Rattle.bay_nodes.specs.Names.{StatusNames, control_names, cswi_name, cilo_name, switch_node, opening_names_at, position_names, operation_names, opening_names, closing_names, switch_names, meter_names, total_names, phase_names, local_names, indication_names}
+use Rattle.bay_nodes.specs.Names.{StatusNames, control_names, cswi_name, cilo_name, switch_node, opening_names_at, position_names, operation_names, opening_names, closing_names, switch_names, meter_names, total_names, phase_names, local_names, indication_names, float_names}
 use Rattle.bay_nodes.specs.Node.{class_of, node_name}
 use Rattle.bay_base.specs.declared.point.MeterField.{MeterField}
 use Rattle.bay_base.specs.declared.point.MeterField.TheVariants.{TotW, TotVAr, Hz, PhaseA, PhaseB, PhaseC}
 use Rattle.il_image.specs.declared.value.Value.{Value}
 use Rattle.bay_process.specs.Layout.{Layout, status_names_in, switch_names_in}
-use Rattle.bay_process.specs.Names.{field_names}
+use Rattle.bay_process.specs.Names.{field_float, field_names}
 use Rattle.bay_process.specs.Scans.{rows_after_outputs}
 use Rattle.bay_process.specs.ReportedRows.{AreEnabling, AreInterlocked}
 use Rattle.bay_process.specs.declared.rows.SwitchRows.{SwitchRows}
 use Rattle.bay_process.specs.declared.switch.BoundSwitch.{BoundSwitch}
-use Rattle.bay_process.specs.Values.{with_count, is_operation, rows_after_operation, position_quality, rows_after_change, rows_after_contact, rows_after_bad_measure, rows_after_measure, has_position, has_invalid_measure, has_measure, with_enabled, with_output, with_status}
+use Rattle.bay_process.specs.Values.{with_count, is_operation, rows_after_operation, position_quality, rows_after_change, rows_after_contact, rows_after_bad_measure, rows_after_measure, has_position, has_invalid_measure, has_measure, with_enabled, with_output, with_status, is_float}
 use Rattle.bay_nodes.specs.declared.profile.Profile.{Profile}
 use Rattle.bay_process.specs.Model.{rows_after_health, rows_after_input, rows_after_lost_inputs}
 use Rattle.bay_process.proofs.ModelLemmas.{ModelValue, health, physical_health, local, indication, model_names, health-passes, input-passes, lost-inputs-pass}
@@ -136,6 +136,15 @@ field-apart k PhaseA = phase-apart (meter_node k) (codes "MX$A$phsA")
 field-apart k PhaseB = phase-apart (meter_node k) (codes "MX$A$phsB")
 field-apart k PhaseC = phase-apart (meter_node k) (codes "MX$A$phsC")
 
+pub float-apart : (k : ℕ) (field : MeterField)
+    → IsApart (field_float field (float_names k))
+float-apart k TotW = apart-of (meter_node k) 36 _ refl
+float-apart k TotVAr = apart-of (meter_node k) 36 _ refl
+float-apart k Hz = apart-of (meter_node k) 36 _ refl
+float-apart k PhaseA = apart-of (meter_node k) 36 _ refl
+float-apart k PhaseB = apart-of (meter_node k) 36 _ refl
+float-apart k PhaseC = apart-of (meter_node k) 36 _ refl
+
 local-apart : (node : List ℕ) → AreApart (local_names node)
 local-apart node =
     record {
@@ -200,6 +209,7 @@ module _ (count : ℕ) where
   shows-counted names (Some (leaf.Int8 n)) now rows apart shows = shows
   shows-counted names (Some (leaf.Unsigned8 n)) now rows apart shows = shows
   shows-counted names (Some (leaf.Unsigned32 n)) now rows apart shows = shows
+  shows-counted names (Some (leaf.Float n)) now rows apart shows = shows
   shows-counted names (Some (leaf.Octets n)) now rows apart shows = shows
   shows-counted names (Some (leaf.Reference n)) now rows apart shows = shows
   shows-counted names (Some (leaf.Text n)) now rows apart shows = shows
@@ -227,11 +237,18 @@ module _ (count : ℕ) where
       (operation-apart (switch_node switches j switch)) both) both)
 
   pub shows-measure : (k : ℕ) (field : MeterField) (value : ℤ) (now : ℕ) (rows : List Row)
-      → Shows rows → Shows (rows_after_measure (field_names field (meter_names k)) value now rows)
+      → Shows rows
+      → Shows (rows_after_measure (field_names field (meter_names k))
+      (field_float field (float_names k)) value now rows)
   shows-measure k field value now rows shows =
-      shows-if (has_measure (field_names field (meter_names k)) value rows) rows _ shows
-      (shows-status (field_names field (meter_names k)) (leaf.Int32 value) Good now rows
-      (field-apart k field) shows)
+      let names = field_names field (meter_names k) in
+      let float = field_float field (float_names k) in
+      let told = with_status names (leaf.Int32 value) Good now rows in
+      let status : Shows told =
+      shows-status names (leaf.Int32 value) Good now rows (field-apart k field) shows in
+      shows-if (has_measure names value rows) rows _ shows
+      (shows-if (is_float (leaf_named float told)) _ told
+      (shown-kept count told float _ (float-apart k field) status) status)
 
   pub shows-doubt : (k : ℕ) (field : MeterField) (now : ℕ) (rows : List Row) → Shows rows
       → Shows (rows_after_bad_measure (field_names field (meter_names k)) now rows)

@@ -10,14 +10,14 @@ use Rattle.bay_base.specs.declared.point.Source.TheVariants as source
 use Rattle.il_compile.proofs.Memories.{set-same}
 use Rattle.il_image.specs.declared.value.Value.{Value}
 use Rattle.il_image.specs.declared.value.Value.TheVariants.{Long, Truth}
-use Rattle.bay_nodes.specs.Names.{StatusNames, switch_names, meter_names, position_names}
+use Rattle.bay_nodes.specs.Names.{StatusNames, switch_names, meter_names, position_names, float_names}
 use Rattle.bay_nodes.specs.Node.{class_of, node_name, node_number}
 use Rattle.bay_nodes.specs.declared.switch.Switch.{Switch}
 use Rattle.bay_base.specs.declared.switch.SwitchKind.{SwitchKind}
 use Rattle.bay_process.specs.Model.{rows_after_health}
-use Rattle.bay_process.specs.Names.{field_names}
+use Rattle.bay_process.specs.Names.{field_float, field_names}
 use Rattle.bay_process.proofs.ModelLemmas.{KeepsOthers, health-keeps-others, input-keeps-others, lost-inputs-keep-others, unmodelled-field, unmodelled-position}
-use Rattle.bay_process.specs.Values.{measure_leaf, number_of_leaf, position_leaf, position_value, rows_after_bad_measure, rows_after_change, rows_after_contact, rows_after_measure, has_position, has_invalid_measure, has_measure, with_status}
+use Rattle.bay_process.specs.Values.{measure_leaf, number_of_leaf, position_leaf, position_value, rows_after_bad_measure, rows_after_change, rows_after_contact, rows_after_measure, has_position, has_invalid_measure, has_measure, with_status, with_float}
 use Rattle.bay_mms_services.specs.declared.answer.Command.{Command}
 use Rattle.bay_mms_services.proofs.ReleaseLemmas.{all-of}
 use Rattle.bay_tree.specs.Rows.{leaf_named, with_leaf_named}
@@ -186,14 +186,15 @@ module _ (now : ℕ) (s : State) where
       → Still s (device_after_measure now k field value s)
   still-measured k field value =
       let names = field_names field (meter_names k) in
+      let float = field_float field (float_names k) in
       let told : Bool = has_measure names value s.rows in
       record {
         scans = refl;
         stale = λ h. (or_parts s.is_stale (not told) h).0;
         rows = λ h.
-            told-same s.rows (rows_after_measure names value now s.rows)
+            told-same s.rows (rows_after_measure names float value now s.rows)
             (ap (λ (b : Bool). cond b s.rows
-            (with_status names (leaf.Int32 value) Good now s.rows))
+            (with_float float value (with_status names (leaf.Int32 value) Good now s.rows)))
             (not-false told (or_parts s.is_stale (not told) h).1));
         inputs = λ h. refl;
       }

@@ -19,7 +19,7 @@ use Rattle.bay_nodes.specs.declared.profile.Profile.{Profile}
 use Rattle.bay_process.specs.Model.{rows_after_health, rows_after_input, rows_after_lost_inputs}
 use Rattle.bay_process.proofs.ModelLemmas.{ModelValue, model_names, health-passes, input-passes, lost-inputs-pass}
 use Rattle.bay_process.specs.Names.{field_names}
-use Rattle.bay_process.specs.Values.{with_count, is_operation, rows_after_operation, output_of, position_quality, rows_after_change, rows_after_contact, rows_after_bad_measure, rows_after_measure, has_position, has_invalid_measure, has_measure, with_enabled, with_output, with_outputs, with_status}
+use Rattle.bay_process.specs.Values.{with_count, is_operation, rows_after_operation, output_of, position_quality, rows_after_change, rows_after_contact, rows_after_bad_measure, rows_after_measure, has_position, has_invalid_measure, has_measure, with_enabled, with_output, with_outputs, with_status, is_float, with_float}
 use Rattle.bay_mms_services.specs.ObservedEntries.{AreNamedAlike}
 use Rattle.bay_mms_services.specs.Bay.{Bay}
 use Rattle.bay_device.specs.Device.{State, bay_of, device_after_loss, with_health}
@@ -66,6 +66,7 @@ counted-names names (Some (leaf.Int32 n)) now rows =
     ∙ leaf-names names.value (leaf.Int32 (n +ℤ pos 1)) rows) refl
 counted-names names (Some (leaf.Unsigned8 v)) now rows = refl
 counted-names names (Some (leaf.Unsigned32 v)) now rows = refl
+counted-names names (Some (leaf.Float v)) now rows = refl
 counted-names names (Some (leaf.Octets v)) now rows = refl
 counted-names names (Some (leaf.Reference v)) now rows = refl
 counted-names names (Some (leaf.Text v)) now rows = refl
@@ -91,12 +92,16 @@ contact-names names position now rows =
     names-if (has_position names.position position rows) (names_of rows) rows
     (rows_after_change names position now rows) refl (change-names names position now rows)
 
-pub measure-names : (names : StatusNames) (value : ℤ) (now : ℕ) (rows : List Row)
-    → names_of (rows_after_measure names value now rows) ≡ names_of rows
-measure-names names value now rows =
-    names-if (has_measure names value rows) (names_of rows) rows
-    (with_status names (leaf.Int32 value) Good now rows) refl
-    (status-names names (leaf.Int32 value) Good now rows)
+pub measure-names : (names : StatusNames) (float : List ℕ) (value : ℤ) (now : ℕ)
+    (rows : List Row) → names_of (rows_after_measure names float value now rows) ≡ names_of rows
+measure-names names float value now rows =
+    let told = with_status names (leaf.Int32 value) Good now rows in
+    let same : names_of told ≡ names_of rows = status-names names (leaf.Int32 value) Good now rows
+    in
+    names-if (has_measure names value rows) (names_of rows) rows (with_float float value told) refl
+    (names-if (is_float (leaf_named float told)) (names_of rows)
+    (with_leaf_named float (leaf.Float value) told) told
+    (leaf-names float (leaf.Float value) told ∙ same) same)
 
 pub doubt-names : (names : StatusNames) (now : ℕ) (rows : List Row)
     → names_of (rows_after_bad_measure names now rows) ≡ names_of rows

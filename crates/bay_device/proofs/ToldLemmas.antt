@@ -5,10 +5,10 @@ use Rattle.bay_base.specs.Options.{◌>>=◌}
 use Rattle.bay_ber.specs.Values.{Part, only_one, content_with_tag, value_in, values_in}
 use Rattle.bay_ber.proofs.ListingLemmas.{no-values}
 use Rattle.bay_nodes.specs.declared.switch.Switch.{Switch}
-use Rattle.bay_nodes.specs.Names.{switch_names, meter_names}
+use Rattle.bay_nodes.specs.Names.{switch_names, meter_names, float_names}
 use Rattle.bay_base.specs.declared.point.MeterField.{MeterField}
 use Rattle.bay_base.specs.declared.position.Dbpos.{Dbpos}
-use Rattle.bay_process.specs.Names.{field_names}
+use Rattle.bay_process.specs.Names.{field_float, field_names}
 use Rattle.il_scan.specs.Scans.{outputs_of}
 use Rattle.bay_mms.specs.Grammar.{request_in}
 use Rattle.bay_mms.specs.Requests.{identify, names, attributes, read, write, MmsRequest, initiate, conclude, confirmed}
@@ -434,7 +434,8 @@ module _ (n : Bay) (now : ℕ) (s : State) (alike : AreNamedAlike n (bay_of s))
         alike = alike-health n now (device_after_measure now k field value t) (record {
           domain = alike-advanced.domain;
           switches = alike-advanced.switches;
-          names = measure-names (field_names field (meter_names k)) value now t.rows
+          names = measure-names (field_names field (meter_names k)) (field_float field (float_names k))
+              value now t.rows
               ∙ alike-advanced.names;
         });
         sized = sized;

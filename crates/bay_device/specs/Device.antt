@@ -7,7 +7,7 @@ use Rattle.bay_tree.specs.declared.row.Row.{Row}
 use Rattle.bay_base.specs.declared.position.Dbpos.{Dbpos}
 use Rattle.bay_base.specs.declared.position.Dbpos.TheVariants.{Bad}
 use Rattle.bay_nodes.specs.declared.switch.Switch.{Switch}
-use Rattle.bay_nodes.specs.Names.{switch_names, meter_names}
+use Rattle.bay_nodes.specs.Names.{switch_names, meter_names, float_names}
 use Rattle.bay_nodes.specs.declared.profile.Profile.{Profile}
 use Rattle.bay_base.specs.declared.point.MeterField.{MeterField}
 use Rattle.bay_base.specs.declared.point.MeterField.TheVariants.{TotW, TotVAr, Hz, PhaseA, PhaseB, PhaseC}
@@ -19,7 +19,7 @@ use Rattle.il_image.specs.declared.value.Value.{Value}
 use Rattle.il_image.specs.declared.value.Value.TheVariants.{Truth, Long}
 use Rattle.il_scan.specs.Scans.{MachineData, outputs_of, scan_start}
 use Rattle.bay_process.specs.Model.{rows_after_health, rows_after_input, rows_after_lost_inputs}
-use Rattle.bay_process.specs.Names.{field_names}
+use Rattle.bay_process.specs.Names.{field_float, field_names}
 use Rattle.bay_process.specs.Values.{measure_leaf, number_of_leaf, position_leaf, position_value, rows_after_contact, rows_after_bad_measure, rows_after_measure, has_position, has_invalid_measure, has_measure, with_outputs}
 use Rattle.bay_control.specs.Decisions as control
 use Rattle.bay_control.specs.Decisions.{after_contact, is_done, expired_switch}
@@ -176,8 +176,9 @@ device_after_input now k value before s =
 abbrev pub device_after_measure : ℕ → ℕ → MeterField → ℤ → State → State
 device_after_measure now k field value s =
     let names = field_names field (meter_names k) in
+    let float = field_float field (float_names k) in
     record s {
-      rows = rows_after_measure names value now s.rows;
+      rows = rows_after_measure names float value now s.rows;
       is_stale = s.is_stale || not (has_measure names value s.rows);
       is_lost = false;
     }

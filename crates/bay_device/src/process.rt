@@ -1,13 +1,13 @@
 // Applies positions, inputs, measured values and scans to a bay that is served: its tree still has
 // FALSE as stSeld of every switch.
 ghost use Rattle.std.specs.Prelude.{◌≡◌, ◌<◌, ℕ, List, Some, false, length, not, slice_get};
-ghost use Rattle.bay_nodes.specs.Names.{meter_names, switch_names};
+ghost use Rattle.bay_nodes.specs.Names.{float_names, meter_names, switch_names};
 ghost use Rattle.bay_nodes.specs.declared.switch.Switch.{Switch};
 ghost use Rattle.bay_process.specs.Layout.{layout_of, switches_of, IsMeterBound};
 ghost use Rattle.bay_nodes.specs.declared.profile.Profile.TheVariants.{Two};
 ghost use Rattle.bay_process.specs.Model.{rows_after_health, rows_after_input, rows_after_lost_inputs};
 ghost use Rattle.bay_process.specs.ModelRows.{IsModelBound};
-ghost use Rattle.bay_process.specs.Names.{field_names};
+ghost use Rattle.bay_process.specs.Names.{field_float, field_names};
 ghost use Rattle.bay_process.specs.Scans.{rows_after_outputs};
 ghost use Rattle.bay_process.specs.ReportedRows.{AreInterlocked, AreStored};
 ghost use Rattle.bay_process.specs.Values.{rows_after_contact, rows_after_bad_measure, rows_after_measure, has_position, has_invalid_measure, has_measure};
@@ -57,8 +57,8 @@ pub fn measure(
         ≡ not (has_measure (field_names field (meter_names _meter)) value bay.old.tree) }
     ensures after { bay_view bay.new
         ≡ record (bay_view bay.old) {
-          rows = rows_after_measure (field_names field (meter_names _meter)) value now
-              bay.old.tree;
+          rows = rows_after_measure (field_names field (meter_names _meter))
+              (field_float field (float_names _meter)) value now bay.old.tree;
         } }
     ensures switches { bay.new.switches ≡ bay.old.switches }
     ensures layout { layout_of bay.new.tree ≡ layout_of bay.old.tree }
@@ -85,7 +85,7 @@ pub fn doubt(
     ensures switches { bay.new.switches ≡ bay.old.switches }
     ensures layout { layout_of bay.new.tree ≡ layout_of bay.old.tree }
 {
-    apply_bad_measure(&mut bay.tree, rows.field(field), now)
+    apply_bad_measure(&mut bay.tree, rows.field(field).status, now)
 }
 
 /// Applies the report of the input at an index to the rows of profile 2.

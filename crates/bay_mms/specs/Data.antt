@@ -9,6 +9,7 @@ use Rattle.bay_tree.specs.declared.leaf.Quality.TheVariants as quality
 use Rattle.bay_ber.specs.declared.tag.Tag.{Tag}
 use Rattle.bay_ber.specs.Writing.{element, truth_octets, integer_octets, bit_string_octets}
 use Rattle.bay_ber.specs.Tags.{context, constructed}
+use Rattle.bay_mms.specs.Float.{float_octets}
 use Rattle.bay_mms.specs.Utc.{utc_octets}
 
 -- ---- ISO 9506-2 Data: data and their text
@@ -70,6 +71,7 @@ leaf_datum (leaf.Int8 value) = integer value
 leaf_datum (leaf.Int32 value) = integer value
 leaf_datum (leaf.Unsigned8 value) = unsigned (pos value)
 leaf_datum (leaf.Unsigned32 value) = unsigned (pos value)
+leaf_datum (leaf.Float number) = other (context 7) (float_octets number)
 leaf_datum (leaf.Octets value) = octets value
 leaf_datum (leaf.Reference value) = text value
 leaf_datum (leaf.Text value) = text value

@@ -11,10 +11,11 @@
 -- `RequestResults`: the request that some octets encode, or their fault. An allocation can fail
 -- only for a read or a write that names a variable or has data.
 --
--- `Data`, `Types` and `Utc`: data and types of named variables as trees with their canonical texts,
--- and the eight octets of a time. `Nodes`: the rows below a row of the tree, as data and as a type.
--- `Marks`: the rows of a tree as clients see them. `Controls`: the parameters of Oper, SBOw and
--- Cancel, their data, and their ranges; laws prove that their text can be read back.
+-- `Data`, `Types`, `Float` and `Utc`: data and types of named variables as trees with their
+-- canonical texts, and the octets of a float and of a time. `Nodes`: the rows below a row of the
+-- tree, as data and as a type. `Marks`: the rows of a tree as clients see them. `Controls`: the
+-- parameters of Oper, SBOw and Cancel, their data, and their ranges; laws prove that their text can
+-- be read back.
 --
 -- `Responses`: the one text of each response, error and reject. `Pages`: the greatest number of
 -- names, up to 100, whose response fits into a PDU. `Reports`: LastApplError and
@@ -37,6 +38,7 @@ pub mod Code
 pub mod ControlViews
 pub mod Controls
 pub mod Data
+pub mod Float
 pub mod Grammar
 pub mod Laws
 pub mod Marks

@@ -1,6 +1,7 @@
 -- Data and types as values: as in the code, without the slices they borrow from.
 use Rattle.std.specs.Prelude.{ℕ, List, [], ◌∷◌, map}
 use Rattle.std.specs.Borrow.{Bor}
+use Rattle.bay_ber.specs.Tags.{context}
 use Rattle.bay_mms.specs.declared.data.Data.{Data, fold-Data}
 use Rattle.bay_mms.specs.declared.data.Data.TheOpen.{Data-F}
 use Rattle.bay_mms.specs.declared.data.TypeSpec as code
@@ -24,6 +25,7 @@ datum_step (Data-F.Truth value) = mms.truth value
 datum_step (Data-F.Bits value) = mms.bits value.octets.now value.count
 datum_step (Data-F.Integer value) = mms.integer value
 datum_step (Data-F.Unsigned value) = mms.unsigned value
+datum_step (Data-F.Float value) = mms.other (context 7) value
 datum_step (Data-F.Octets value) = mms.octets value.now
 datum_step (Data-F.Text value) = mms.text value.now
 datum_step (Data-F.Utc value) = mms.utc value
@@ -50,6 +52,7 @@ type_step (TypeSpec-F.Structure parts) =
     types.no_components)
 type_step (TypeSpec-F.Plain tag) = types.plain tag
 type_step (TypeSpec-F.Sized tag size) = types.sized tag size
+type_step (TypeSpec-F.Float width exponent) = types.float width exponent
 
 -- the view of a type
 abbrev pub type_of : code.TypeSpec → types.TypeSpec

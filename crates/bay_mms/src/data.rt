@@ -6,7 +6,7 @@ ghost use Rattle.bay_mms.specs.Types as spec;
 ghost use Rattle.bay_mms.specs.Nodes.{data_at, type_at};
 ghost use Rattle.bay_mms.specs.Views.{datum_of, data_in, type_of, components_in};
 
-use crate::leaf::{position_octets, quality_octets, utc_octets};
+use crate::leaf::{float_octets, position_octets, quality_octets, utc_octets};
 use bay_ber::content::Bits;
 use bay_ber::values::Value;
 use bay_tree::leaf::Leaf;
@@ -22,6 +22,8 @@ pub enum Data<'a> {
     Bits(Bits<'a>),
     Integer(i64),
     Unsigned(i64),
+    /// The width of the exponent, 8 bits, and the four octets of a float.
+    Float([u8; 5]),
     Octets(&'a [u8]),
     Text(&'a [u8]),
     /// The eight octets of a utc-time.
@@ -48,6 +50,7 @@ fn leaf_data(leaf: &Leaf) -> Data<'_>
         Leaf::Int32(value) => Data::Integer(i64::from(*value)),
         Leaf::Unsigned8(value) => Data::Unsigned(i64::from(*value)),
         Leaf::Unsigned32(value) => Data::Unsigned(i64::from(*value)),
+        Leaf::Float(number) => Data::Float(float_octets(*number)),
         Leaf::Octets(value) => Data::Octets(value.as_slice()),
         Leaf::Reference(value) => Data::Text(value.as_str().as_bytes()),
         Leaf::Text(value) => Data::Text(value.as_str().as_bytes()),
@@ -95,6 +98,8 @@ pub enum TypeSpec<'a> {
     /// A simple type with a size: the number of its tag, and its size in bits, octets or
     /// characters. A negative size is a maximum.
     Sized(u8, i16),
+    /// A floating-point number: its width and that of its exponent, in bits.
+    Float(u8, u8),
 }
 
 // Returns the type of a leaf: the number of its tag, and its size if it has one.
@@ -109,6 +114,7 @@ fn leaf_type_spec(leaf: &Leaf) -> TypeSpec<'_>
         Leaf::Int32(_) => TypeSpec::Sized(5, 32),
         Leaf::Unsigned8(_) => TypeSpec::Sized(6, 8),
         Leaf::Unsigned32(_) => TypeSpec::Sized(6, 32),
+        Leaf::Float(_) => TypeSpec::Float(32, 8),
         Leaf::Octets(_) => TypeSpec::Sized(9, -64),
         Leaf::Reference(_) => TypeSpec::Sized(10, -129),
         Leaf::Text(_) => TypeSpec::Sized(10, -255),

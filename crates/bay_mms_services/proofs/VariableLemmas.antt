@@ -74,6 +74,7 @@ leaf-small (leaf.Int8 v) = omega arith
 leaf-small (leaf.Int32 v) = omega arith
 leaf-small (leaf.Unsigned8 v) = omega arith
 leaf-small (leaf.Unsigned32 v) = omega arith
+leaf-small (leaf.Float v) = omega arith
 leaf-small (leaf.Octets v) = omega arith
 leaf-small (leaf.Reference v) = omega arith
 leaf-small (leaf.Text v) = omega arith

@@ -71,7 +71,7 @@ good-interlocking-parts One n s = refl
 good-interlocking-parts Two n s = refl
 
 good-meter-parts : (profile : Profile) (scaled : Bool) (n : Nameplate) (m : Meter)
-    → are_good (parts_of (meter_values profile ++ meter_settings profile scaled n m)) ≡ true
+    → are_good (parts_of (meter_values profile scaled ++ meter_settings profile scaled n m)) ≡ true
 good-meter-parts One true n m = refl
 good-meter-parts One false n m = refl
 good-meter-parts Two true n m = refl

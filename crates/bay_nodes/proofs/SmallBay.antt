@@ -4,7 +4,7 @@
 use Rattle.std.proofs.Common.{◌≡◌, ℕ, pos, true, false, List, [], ◌∷◌, ◌++◌, codes, None, Some, refl}
 use Rattle.std.specs.Fmt.{digits}
 use Rattle.bay_tree.specs.declared.row.Row.{Row}
-use Rattle.bay_tree.specs.declared.leaf.Leaf.TheVariants.{Truth, Dbpos, Quality, Int8, Int32, Unsigned8, Unsigned32, Octets, Text, Utc}
+use Rattle.bay_tree.specs.declared.leaf.Leaf.TheVariants.{Truth, Dbpos, Quality, Int8, Int32, Unsigned8, Unsigned32, Float, Octets, Text, Utc}
 use Rattle.bay_tree.specs.declared.leaf.Quality.TheVariants.{Good, Invalid}
 use Rattle.bay_base.specs.declared.position.Dbpos.TheVariants.{Intermediate}
 use Rattle.bay_base.specs.declared.switch.Control.TheVariants.{Status, Direct, SboEnhanced}
@@ -434,16 +434,19 @@ mmxu1 =
     ∷ row (codes "MMXU1$MX$TotW") None
     ∷ row (codes "MMXU1$MX$TotW$mag") None
     ∷ row (codes "MMXU1$MX$TotW$mag$i") (Some (Int32 (pos 0)))
+    ∷ row (codes "MMXU1$MX$TotW$mag$f") (Some (Float (pos 0)))
     ∷ row (codes "MMXU1$MX$TotW$q") (Some (Quality Invalid))
     ∷ row (codes "MMXU1$MX$TotW$t") (Some (Utc 0))
     ∷ row (codes "MMXU1$MX$TotVAr") None
     ∷ row (codes "MMXU1$MX$TotVAr$mag") None
     ∷ row (codes "MMXU1$MX$TotVAr$mag$i") (Some (Int32 (pos 0)))
+    ∷ row (codes "MMXU1$MX$TotVAr$mag$f") (Some (Float (pos 0)))
     ∷ row (codes "MMXU1$MX$TotVAr$q") (Some (Quality Invalid))
     ∷ row (codes "MMXU1$MX$TotVAr$t") (Some (Utc 0))
     ∷ row (codes "MMXU1$MX$Hz") None
     ∷ row (codes "MMXU1$MX$Hz$mag") None
     ∷ row (codes "MMXU1$MX$Hz$mag$i") (Some (Int32 (pos 0)))
+    ∷ row (codes "MMXU1$MX$Hz$mag$f") (Some (Float (pos 0)))
     ∷ row (codes "MMXU1$MX$Hz$q") (Some (Quality Invalid))
     ∷ row (codes "MMXU1$MX$Hz$t") (Some (Utc 0))
     ∷ row (codes "MMXU1$MX$A") None
@@ -451,18 +454,21 @@ mmxu1 =
     ∷ row (codes "MMXU1$MX$A$phsA$cVal") None
     ∷ row (codes "MMXU1$MX$A$phsA$cVal$mag") None
     ∷ row (codes "MMXU1$MX$A$phsA$cVal$mag$i") (Some (Int32 (pos 0)))
+    ∷ row (codes "MMXU1$MX$A$phsA$cVal$mag$f") (Some (Float (pos 0)))
     ∷ row (codes "MMXU1$MX$A$phsA$q") (Some (Quality Invalid))
     ∷ row (codes "MMXU1$MX$A$phsA$t") (Some (Utc 0))
     ∷ row (codes "MMXU1$MX$A$phsB") None
     ∷ row (codes "MMXU1$MX$A$phsB$cVal") None
     ∷ row (codes "MMXU1$MX$A$phsB$cVal$mag") None
     ∷ row (codes "MMXU1$MX$A$phsB$cVal$mag$i") (Some (Int32 (pos 0)))
+    ∷ row (codes "MMXU1$MX$A$phsB$cVal$mag$f") (Some (Float (pos 0)))
     ∷ row (codes "MMXU1$MX$A$phsB$q") (Some (Quality Invalid))
     ∷ row (codes "MMXU1$MX$A$phsB$t") (Some (Utc 0))
     ∷ row (codes "MMXU1$MX$A$phsC") None
     ∷ row (codes "MMXU1$MX$A$phsC$cVal") None
     ∷ row (codes "MMXU1$MX$A$phsC$cVal$mag") None
     ∷ row (codes "MMXU1$MX$A$phsC$cVal$mag$i") (Some (Int32 (pos 0)))
+    ∷ row (codes "MMXU1$MX$A$phsC$cVal$mag$f") (Some (Float (pos 0)))
     ∷ row (codes "MMXU1$MX$A$phsC$q") (Some (Quality Invalid))
     ∷ row (codes "MMXU1$MX$A$phsC$t") (Some (Utc 0))
     ∷ row (codes "MMXU1$CF") None

@@ -182,3 +182,27 @@ meter_names_of node = record {
 -- the names of the meter at index k; the number of its node is k + 1
 abbrev pub meter_names : ℕ → MeterNames
 meter_names k = meter_names_of (node_name (codes "MMXU") (k + 1))
+
+-- the names of a meter's values as floats, which a meter with a scale has
+pub record FloatNames : Type 0 where
+  pub tot_w : List ℕ
+  pub tot_var : List ℕ
+  pub hz : List ℕ
+  pub phase_a : List ℕ
+  pub phase_b : List ℕ
+  pub phase_c : List ℕ
+
+-- the names of the floats below a node MMXU (IEC 61850-7-3, AnalogueValue)
+abbrev pub float_names_of : List ℕ → FloatNames
+float_names_of node = record {
+  tot_w = node ++ codes "$MX$TotW$mag$f";
+  tot_var = node ++ codes "$MX$TotVAr$mag$f";
+  hz = node ++ codes "$MX$Hz$mag$f";
+  phase_a = node ++ codes "$MX$A$phsA$cVal$mag$f";
+  phase_b = node ++ codes "$MX$A$phsB$cVal$mag$f";
+  phase_c = node ++ codes "$MX$A$phsC$cVal$mag$f";
+}
+
+-- the names of the floats of the meter at index k
+abbrev pub float_names : ℕ → FloatNames
+float_names k = float_names_of (node_name (codes "MMXU") (k + 1))

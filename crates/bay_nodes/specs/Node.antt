@@ -5,7 +5,7 @@ use Rattle.std.specs.List.{flat_map, enumerate_from}
 use Rattle.std.specs.Fmt.{decimal}
 use Rattle.bay_tree.specs.declared.row.Row.{Row}
 use Rattle.bay_tree.specs.declared.leaf.Leaf.{Leaf}
-use Rattle.bay_tree.specs.declared.leaf.Leaf.TheVariants.{Truth, Dbpos, Quality, Int8, Int32, Unsigned8, Unsigned32, Octets, Reference, Text, Utc}
+use Rattle.bay_tree.specs.declared.leaf.Leaf.TheVariants.{Truth, Dbpos, Quality, Int8, Int32, Unsigned8, Unsigned32, Float, Octets, Reference, Text, Utc}
 use Rattle.bay_base.specs.declared.position.Dbpos.TheVariants.{Intermediate}
 use Rattle.bay_tree.specs.declared.leaf.Quality.{Quality as Validity}
 use Rattle.bay_tree.specs.declared.leaf.Quality.TheVariants.{Good, Invalid}
@@ -274,25 +274,33 @@ interlocking_parts profile n s =
 
 -- ---- IEC 61850-7-3 MV, CMV: measured values
 
--- the magnitude of a measured value, an integer (IEC 61850-7-3, AnalogueValue)
-abbrev pub magnitude : NodePart
-magnitude = inside (codes "mag") (value (codes "i") (Int32 (pos 0)) ∷ [])
+-- a magnitude as a float, if the meter has a scale (IEC 61850-7-3, AnalogueValue)
+abbrev pub float_part : Bool → List NodePart
+float_part false = []
+float_part true = value (codes "f") (Float (pos 0)) ∷ []
+
+-- the magnitude of a measured value: an integer, and the same as a float, if the meter has a scale
+-- (IEC 61850-7-3, AnalogueValue)
+abbrev pub magnitude : Bool → NodePart
+magnitude scaled = inside (codes "mag") (value (codes "i") (Int32 (pos 0)) ∷ float_part scaled)
 
 -- a measured value (IEC 61850-7-3, MV)
-abbrev pub measured_value : List ℕ → NodePart
-measured_value name = inside name (magnitude ∷ stamp Invalid)
+abbrev pub measured_value : Bool → List ℕ → NodePart
+measured_value scaled name = inside name (magnitude scaled ∷ stamp Invalid)
 
 -- the measured value of a phase (IEC 61850-7-3, CMV)
-abbrev pub phase_value : List ℕ → NodePart
-phase_value name = inside name (inside (codes "cVal") (magnitude ∷ []) ∷ stamp Invalid)
+abbrev pub phase_value : Bool → List ℕ → NodePart
+phase_value scaled name =
+    inside name (inside (codes "cVal") (magnitude scaled ∷ []) ∷ stamp Invalid)
 
--- the measured values of a meter (IEC 61850-7-4, MMXU)
-abbrev pub measured_values : NodePart
-measured_values =
+-- the measured values of a meter; `scaled` says whether they have floats (IEC 61850-7-4, MMXU)
+abbrev pub measured_values : Bool → NodePart
+measured_values scaled =
     inside (codes "MX")
-    (measured_value (codes "TotW") ∷ measured_value (codes "TotVAr") ∷ measured_value (codes "Hz")
-    ∷ inside (codes "A") (phase_value (codes "phsA") ∷ phase_value (codes "phsB")
-    ∷ phase_value (codes "phsC")
+    (measured_value scaled (codes "TotW") ∷ measured_value scaled (codes "TotVAr")
+    ∷ measured_value scaled (codes "Hz")
+    ∷ inside (codes "A") (phase_value scaled (codes "phsA") ∷ phase_value scaled (codes "phsB")
+    ∷ phase_value scaled (codes "phsC")
     ∷ []) ∷ [])
 
 -- the unit of a value, by its number, and the power of ten by which the value is multiplied (IEC
@@ -322,10 +330,11 @@ abbrev pub unit_group : Bool → Meter → List NodePart
 unit_group false m = []
 unit_group true m = meter_units (multiplier m) ∷ []
 
--- the first parts of the node of a meter (IEC 61850-7-4, MMXU)
-abbrev pub meter_values : Profile → List NodePart
-meter_values One = measured_values ∷ []
-meter_values Two = inside (codes "ST") (behaviour Two) ∷ measured_values ∷ []
+-- the first parts of the node of a meter: in profile 2 the measured values have floats, if the meter
+-- has a scale (IEC 61850-7-4, MMXU)
+abbrev pub meter_values : Profile → Bool → List NodePart
+meter_values One scaled = measured_values false ∷ []
+meter_values Two scaled = inside (codes "ST") (behaviour Two) ∷ measured_values scaled ∷ []
 
 -- the parts that follow the measured values: in profile 2 their units, if the meter has a scale,
 -- and the name plate (IEC 61850-7-4, MMXU)
@@ -336,7 +345,8 @@ meter_settings Two scaled n m = unit_group scaled m ++ description_group Two n m
 -- the parts of the node of a meter (IEC 61850-7-4, MMXU)
 abbrev pub meter_parts : Profile → Nameplate → Meter → Parts
 meter_parts profile n m =
-    parts_of (meter_values profile ++ meter_settings profile (is_some m.scale) n m)
+    parts_of
+    (meter_values profile (is_some m.scale) ++ meter_settings profile (is_some m.scale) n m)
 
 -- ---- IEC 61850-7-4 GGIO: the inputs
 

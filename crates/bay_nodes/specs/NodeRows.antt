@@ -12,7 +12,7 @@ use Rattle.bay_base.specs.declared.switch.Control.{Control}
 use Rattle.bay_nodes.specs.declared.nameplate.Nameplate.{Nameplate}
 use Rattle.bay_nodes.specs.declared.subject.Subject.{Subject}
 use Rattle.bay_nodes.specs.declared.initial.InitialValue.{InitialValue}
-use Rattle.bay_nodes.specs.declared.initial.InitialValue.TheVariants.{Structure, False, Intermediate, Good, Invalid, Int8, Int32, Unsigned8, Octets, Reference, Moment, Vendor, Revision, NameSpace, Description, Local, LocalQuality, SwitchType, ControlModel, SelectTimeout, Multiplier}
+use Rattle.bay_nodes.specs.declared.initial.InitialValue.TheVariants.{Structure, False, Intermediate, Good, Invalid, Int8, Int32, Unsigned8, Float, Octets, Reference, Moment, Vendor, Revision, NameSpace, Description, Local, LocalQuality, SwitchType, ControlModel, SelectTimeout, Multiplier}
 use Rattle.bay_nodes.specs.Node.{node_name, row, rows_of_parts, parts_of, value, stamp, command_parts, key_quality}
 use Rattle.bay_nodes.specs.Subjects as subject
 
@@ -28,6 +28,7 @@ initial_leaf n s Invalid = Some (leaf.Quality validity.Invalid)
 initial_leaf n s (Int8 i) = Some (leaf.Int8 i)
 initial_leaf n s Int32 = Some (leaf.Int32 (pos 0))
 initial_leaf n s Unsigned8 = Some (leaf.Unsigned8 0)
+initial_leaf n s Float = Some (leaf.Float (pos 0))
 initial_leaf n s Octets = Some (leaf.Octets [])
 initial_leaf n s Reference = Some (leaf.Reference [])
 initial_leaf n s Moment = Some (leaf.Utc 0)

@@ -29,6 +29,8 @@ pub enum InitialValue {
     Int32,
     /// The number of a control, 0.
     Unsigned8,
+    /// A measured value of 0 as a float.
+    Float,
     /// No octets.
     Octets,
     /// The empty reference.
@@ -89,6 +91,7 @@ pub fn initial_leaf(
         InitialValue::Int8(number) => Leaf::Int8(number),
         InitialValue::Int32 => Leaf::Int32(0),
         InitialValue::Unsigned8 => Leaf::Unsigned8(0),
+        InitialValue::Float => Leaf::Float(0),
         InitialValue::Octets => Leaf::Octets(Listing::new(Vec::new(alloc))),
         InitialValue::Reference => Leaf::Reference(Text::new(String::new(alloc))),
         InitialValue::Moment => Leaf::Utc(0),

@@ -121,6 +121,20 @@ pub const PHASE_C: StatusPaths = StatusPaths {
     time: "$MX$A$phsC$t",
 };
 
+/// The total active power as a float, which a meter with a scale has beside its integer (IEC
+/// 61850-7-3, AnalogueValue). So have the other measured values.
+pub const ACTIVE_POWER_FLOAT: &str = "$MX$TotW$mag$f";
+
+pub const REACTIVE_POWER_FLOAT: &str = "$MX$TotVAr$mag$f";
+
+pub const FREQUENCY_FLOAT: &str = "$MX$Hz$mag$f";
+
+pub const PHASE_A_FLOAT: &str = "$MX$A$phsA$cVal$mag$f";
+
+pub const PHASE_B_FLOAT: &str = "$MX$A$phsB$cVal$mag$f";
+
+pub const PHASE_C_FLOAT: &str = "$MX$A$phsC$cVal$mag$f";
+
 /// Whether a switch is selected (IEC 61850-7-3, stSeld).
 pub const SELECTED: &str = "$ST$Pos$stSeld";
 

@@ -253,8 +253,9 @@ fn push_meter(
     let name = node_name(alloc, METER, number)?;
     let node = name.as_str();
     let subject = Subject::Meter(meter);
-    let first = tables::meter_table(nameplate.profile);
-    let last = tables::meter_settings_table(nameplate.profile, meter.scale.is_some());
+    let scaled = meter.scale.is_some();
+    let first = tables::meter_table(nameplate.profile, scaled);
+    let last = tables::meter_settings_table(nameplate.profile, scaled);
     push_node(alloc, rows, nameplate, subject, node, first)?;
     push_table(alloc, rows, nameplate, subject, node, last)?;
     Ok(())

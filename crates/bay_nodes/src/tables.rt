@@ -12,7 +12,7 @@ ghost use Rattle.bay_nodes.specs.declared.switch.Switch.{Switch};
 
 use crate::initial::InitialValue;
 use crate::initial::InitialValue::{
-    ControlModel, Description, False, Good, Int8, Int32, Intermediate, Invalid, Local,
+    ControlModel, Description, False, Float, Good, Int8, Int32, Intermediate, Invalid, Local,
     LocalQuality, Moment, Multiplier, NameSpace, Octets, Reference, Revision, SelectTimeout,
     Structure, SwitchType, Unsigned8, Vendor,
 };
@@ -402,13 +402,14 @@ pub fn interlocking_table(profile: Profile) -> &'static [(&'static str, InitialV
     }
 }
 
-/// Returns the first rows below MMXU: the measured values.
-pub fn meter_table(profile: Profile) -> &'static [(&'static str, InitialValue)]
+/// Returns the first rows below MMXU: the measured values, in profile 2 also as floats, if the meter
+/// has a scale.
+pub fn meter_table(profile: Profile, scaled: bool) -> &'static [(&'static str, InitialValue)]
     ensures { (n : Nameplate) (s : Subject) → map (line_row n s) result.now
-        ≡ node.rows_of_parts [] (node.parts_of (node.meter_values profile)) }
+        ≡ node.rows_of_parts [] (node.parts_of (node.meter_values profile scaled)) }
 {
-    match profile {
-        Profile::One => &[
+    match (profile, scaled) {
+        (Profile::One, _) => &[
             ("$MX", Structure),
             (paths::ACTIVE_POWER.object, Structure),
             ("$MX$TotW$mag", Structure),
@@ -445,7 +446,7 @@ pub fn meter_table(profile: Profile) -> &'static [(&'static str, InitialValue)]
             (paths::PHASE_C.quality, Invalid),
             (paths::PHASE_C.time, Moment),
         ],
-        Profile::Two => &[
+        (Profile::Two, false) => &[
             ("$ST", Structure),
             ("$ST$Beh", Structure),
             ("$ST$Beh$stVal", Int8(1)),
@@ -484,6 +485,54 @@ pub fn meter_table(profile: Profile) -> &'static [(&'static str, InitialValue)]
             ("$MX$A$phsC$cVal", Structure),
             ("$MX$A$phsC$cVal$mag", Structure),
             (paths::PHASE_C.value, Int32),
+            (paths::PHASE_C.quality, Invalid),
+            (paths::PHASE_C.time, Moment),
+        ],
+        (Profile::Two, true) => &[
+            ("$ST", Structure),
+            ("$ST$Beh", Structure),
+            ("$ST$Beh$stVal", Int8(1)),
+            ("$ST$Beh$q", Good),
+            ("$ST$Beh$t", Moment),
+            ("$MX", Structure),
+            (paths::ACTIVE_POWER.object, Structure),
+            ("$MX$TotW$mag", Structure),
+            (paths::ACTIVE_POWER.value, Int32),
+            (paths::ACTIVE_POWER_FLOAT, Float),
+            (paths::ACTIVE_POWER.quality, Invalid),
+            (paths::ACTIVE_POWER.time, Moment),
+            (paths::REACTIVE_POWER.object, Structure),
+            ("$MX$TotVAr$mag", Structure),
+            (paths::REACTIVE_POWER.value, Int32),
+            (paths::REACTIVE_POWER_FLOAT, Float),
+            (paths::REACTIVE_POWER.quality, Invalid),
+            (paths::REACTIVE_POWER.time, Moment),
+            (paths::FREQUENCY.object, Structure),
+            ("$MX$Hz$mag", Structure),
+            (paths::FREQUENCY.value, Int32),
+            (paths::FREQUENCY_FLOAT, Float),
+            (paths::FREQUENCY.quality, Invalid),
+            (paths::FREQUENCY.time, Moment),
+            ("$MX$A", Structure),
+            (paths::PHASE_A.object, Structure),
+            ("$MX$A$phsA$cVal", Structure),
+            ("$MX$A$phsA$cVal$mag", Structure),
+            (paths::PHASE_A.value, Int32),
+            (paths::PHASE_A_FLOAT, Float),
+            (paths::PHASE_A.quality, Invalid),
+            (paths::PHASE_A.time, Moment),
+            (paths::PHASE_B.object, Structure),
+            ("$MX$A$phsB$cVal", Structure),
+            ("$MX$A$phsB$cVal$mag", Structure),
+            (paths::PHASE_B.value, Int32),
+            (paths::PHASE_B_FLOAT, Float),
+            (paths::PHASE_B.quality, Invalid),
+            (paths::PHASE_B.time, Moment),
+            (paths::PHASE_C.object, Structure),
+            ("$MX$A$phsC$cVal", Structure),
+            ("$MX$A$phsC$cVal$mag", Structure),
+            (paths::PHASE_C.value, Int32),
+            (paths::PHASE_C_FLOAT, Float),
             (paths::PHASE_C.quality, Invalid),
             (paths::PHASE_C.time, Moment),
         ],

@@ -9,7 +9,7 @@ use Rattle.bay_process.specs.declared.meter.MeterRows.{MeterRows}
 
 -- the rows of one field
 pub field-leaf_typed : (layout : Layout) (rows : MeterRows) (field : MeterField)
-    → AreMeterRows layout rows → AreStatusRows layout leaf_type.Int32 (field_rows rows field)
+    → AreMeterRows layout rows → AreStatusRows layout leaf_type.Int32 (field_rows rows field).status
 field-leaf_typed layout rows TotW h = h.tot_w
 field-leaf_typed layout rows TotVAr h = h.tot_var
 field-leaf_typed layout rows Hz h = h.hz
@@ -18,7 +18,7 @@ field-leaf_typed layout rows PhaseB h = h.phase_b
 field-leaf_typed layout rows PhaseC h = h.phase_c
 
 pub field-named : (layout : Layout) (rows : MeterRows) (field : MeterField)
-    → status_names_in layout (field_rows rows field)
+    → status_names_in layout (field_rows rows field).status
     ≡ field_names field (meter_names_in layout rows)
 field-named layout rows TotW = refl
 field-named layout rows TotVAr = refl

@@ -1,6 +1,7 @@
 pub mod BoundLemmas
 pub mod BoundModelLemmas
 pub mod FieldLemmas
+pub mod FloatLemmas
 pub mod HandleLemmas
 pub mod KeptLemmas
 pub mod ListLemmas

@@ -13,13 +13,13 @@ use Rattle.bay_base.specs.declared.point.MeterField.TheVariants.{TotW, TotVAr, H
 use Rattle.bay_base.specs.declared.switch.SwitchKind.{SwitchKind}
 use Rattle.bay_base.specs.declared.switch.SwitchKind.TheVariants.{Breaker, Disconnector, Earthing}
 use Rattle.bay_nodes.specs.Node.{class_of, node_name, node_number}
-use Rattle.bay_nodes.specs.Names.{StatusNames, cilo_name, control_names, health_names, indication_names, local_names, meter_names, operation_names, physical_health_names, position_names}
+use Rattle.bay_nodes.specs.Names.{StatusNames, cilo_name, control_names, float_names, health_names, indication_names, local_names, meter_names, operation_names, physical_health_names, position_names}
 use Rattle.bay_nodes.specs.declared.profile.Profile.{Profile}
 use Rattle.bay_nodes.specs.declared.profile.Profile.TheVariants.{One, Two}
 use Rattle.bay_nodes.specs.declared.switch.Switch.{Switch}
 use Rattle.bay_control.specs.Decisions.{key_input}
 use Rattle.bay_process.specs.Model.{health_number, inputs_invalid, is_int8, is_keyed_by, rows_after_health, rows_after_input, rows_after_lost_inputs, with_health, with_locals, with_truth}
-use Rattle.bay_process.specs.Names.{field_names}
+use Rattle.bay_process.specs.Names.{field_float, field_names}
 use Rattle.bay_process.specs.Values.{with_status}
 use Rattle.bay_process.proofs.ToldLemmas.{Keeps, leaf-other}
 
@@ -311,6 +311,15 @@ unmodelled-field Hz k = meter-unmodelled (k + 1) _ _ _
 unmodelled-field PhaseA k = meter-unmodelled (k + 1) _ _ _
 unmodelled-field PhaseB k = meter-unmodelled (k + 1) _ _ _
 unmodelled-field PhaseC k = meter-unmodelled (k + 1) _ _ _
+
+pub unmodelled-float : (field : MeterField) (k : ℕ)
+    → IsUnmodelled (field_float field (float_names k))
+unmodelled-float TotW k = unmodelled-meter (k + 1) _
+unmodelled-float TotVAr k = unmodelled-meter (k + 1) _
+unmodelled-float Hz k = unmodelled-meter (k + 1) _
+unmodelled-float PhaseA k = unmodelled-meter (k + 1) _
+unmodelled-float PhaseB k = unmodelled-meter (k + 1) _
+unmodelled-float PhaseC k = unmodelled-meter (k + 1) _
 
 -- ---- what stays
 

@@ -18,8 +18,8 @@ use Rattle.bay_tree.proofs.SearchLemmas.{place_of-found, place_of-none, place_of
 use Rattle.bay_nodes.specs.Node.{row}
 use Rattle.bay_config.specs.Laws.{IsBay, HasValue, HasPosition, HasControl, HasEnable, HasMeter}
 use Rattle.bay_config.specs.declared.bay.Bay.{Bay}
-use Rattle.bay_process.specs.Layout.{Layout, layout_of, row_name_in, status_names_in, HasLeafType, AreStatusRows, IsMeterBound}
-use Rattle.bay_nodes.specs.Names.{StatusNames, SwitchNames, opening_names, closing_names, names_by_nodes, ControlNames, control_names_of, MeterNames, meter_names_of}
+use Rattle.bay_process.specs.Layout.{Layout, layout_of, row_name_in, status_names_in, HasLeafType, AreStatusRows, IsMeterBound, AreFloatHandles}
+use Rattle.bay_nodes.specs.Names.{StatusNames, SwitchNames, opening_names, closing_names, names_by_nodes, ControlNames, control_names_of, MeterNames, meter_names_of, float_names_of}
 use Rattle.bay_process.specs.Controls.{HaveSelected, AreControlRows}
 use Rattle.bay_process.specs.Nodes.{AreSwitchNodes, nodes_names, HasLeaf, HasStatus, HasSwitch, HasSwitches, HaveStatus, IsHandleOf, AreHandlesOf, AreSwitchRowsOf, AreRowsOfNodes, AreMeterNodes, HasMeterLeaves, HasMeterNode, HaveMeters, AreMeterRowsOf}
 use Rattle.bay_process.specs.declared.controls.ControlRows.{ControlRows}
@@ -140,12 +140,12 @@ refused-so None e f h = refl
 refused-so (Some x) e f h = absurd cc
 
 -- the layout of a tree has the names and the types of its rows
-name_at-in : (rows : List Row) (index : ℕ) → row_name_in (layout_of rows) index ≡ name_at rows index
+pub name_at-in : (rows : List Row) (index : ℕ) → row_name_in (layout_of rows) index ≡ name_at rows index
 name_at-in [] index = refl
 name_at-in (row ∷ rows) zero = refl
 name_at-in (row ∷ rows) (suc index) = name_at-in rows index
 
-leaf_type_at-in : (rows : List Row) (index : ℕ)
+pub leaf_type_at-in : (rows : List Row) (index : ℕ)
     → slice_index_or (leaf_types_of rows) index None ≡ leaf_type_at rows index
 leaf_type_at-in [] index = refl
 leaf_type_at-in (row ∷ rows) zero = refl
@@ -208,44 +208,53 @@ found-switch rows names handles h p d n o c =
       };
     }
 
-pub found-meter : (rows : List Row) (names : MeterNames) (handles : MeterRows)
-    → HasMeterLeaves rows names
-    → AreHandlesOf rows names.tot_w handles.tot_w → AreHandlesOf rows names.tot_var handles.tot_var
-    → AreHandlesOf rows names.hz handles.hz
-    → AreHandlesOf rows names.phase_a handles.phase_a
-    → AreHandlesOf rows names.phase_b handles.phase_b
-    → AreHandlesOf rows names.phase_c handles.phase_c
-    → AreMeterRowsOf (layout_of rows) names handles
-found-meter rows names handles h w v z a b c =
-    let tot_w : status_names_in (layout_of rows) handles.tot_w ≡ names.tot_w =
-    found-names rows names.tot_w handles.tot_w w in
-    let tot_var : status_names_in (layout_of rows) handles.tot_var ≡ names.tot_var =
-    found-names rows names.tot_var handles.tot_var v in
-    let hz : status_names_in (layout_of rows) handles.hz ≡ names.hz =
-    found-names rows names.hz handles.hz z in
-    let phase_a : status_names_in (layout_of rows) handles.phase_a ≡ names.phase_a =
-    found-names rows names.phase_a handles.phase_a a in
-    let phase_b : status_names_in (layout_of rows) handles.phase_b ≡ names.phase_b =
-    found-names rows names.phase_b handles.phase_b b in
-    let phase_c : status_names_in (layout_of rows) handles.phase_c ≡ names.phase_c =
-    found-names rows names.phase_c handles.phase_c c in
+pub found-meter : (rows : List Row) (node : List ℕ) (handles : MeterRows)
+    → HasMeterLeaves rows (meter_names_of node)
+    → AreHandlesOf rows (meter_names_of node).tot_w handles.tot_w.status
+    → AreHandlesOf rows (meter_names_of node).tot_var handles.tot_var.status
+    → AreHandlesOf rows (meter_names_of node).hz handles.hz.status
+    → AreHandlesOf rows (meter_names_of node).phase_a handles.phase_a.status
+    → AreHandlesOf rows (meter_names_of node).phase_b handles.phase_b.status
+    → AreHandlesOf rows (meter_names_of node).phase_c handles.phase_c.status
+    → AreFloatHandles (layout_of rows) (float_names_of node) handles
+    → AreMeterRowsOf (layout_of rows) node handles
+found-meter rows node handles h w v z a b c floats =
+    let names = meter_names_of node in
+    let tot_w : status_names_in (layout_of rows) handles.tot_w.status ≡ names.tot_w =
+    found-names rows names.tot_w handles.tot_w.status w in
+    let tot_var : status_names_in (layout_of rows) handles.tot_var.status ≡ names.tot_var =
+    found-names rows names.tot_var handles.tot_var.status v in
+    let hz : status_names_in (layout_of rows) handles.hz.status ≡ names.hz =
+    found-names rows names.hz handles.hz.status z in
+    let phase_a : status_names_in (layout_of rows) handles.phase_a.status ≡ names.phase_a =
+    found-names rows names.phase_a handles.phase_a.status a in
+    let phase_b : status_names_in (layout_of rows) handles.phase_b.status ≡ names.phase_b =
+    found-names rows names.phase_b handles.phase_b.status b in
+    let phase_c : status_names_in (layout_of rows) handles.phase_c.status ≡ names.phase_c =
+    found-names rows names.phase_c handles.phase_c.status c in
     record {
       named = rw (tot_w, tot_var, hz, phase_a, phase_b, phase_c) refl;
       leaf_typed = record {
-        tot_w = found-leaf_types rows names.tot_w _ handles.tot_w h.tot_w w;
-        tot_var = found-leaf_types rows names.tot_var _ handles.tot_var h.tot_var v;
-        hz = found-leaf_types rows names.hz _ handles.hz h.hz z;
-        phase_a = found-leaf_types rows names.phase_a _ handles.phase_a h.phase_a a;
-        phase_b = found-leaf_types rows names.phase_b _ handles.phase_b h.phase_b b;
-        phase_c = found-leaf_types rows names.phase_c _ handles.phase_c h.phase_c c;
+        tot_w = found-leaf_types rows names.tot_w _ handles.tot_w.status h.tot_w w;
+        tot_var = found-leaf_types rows names.tot_var _ handles.tot_var.status h.tot_var v;
+        hz = found-leaf_types rows names.hz _ handles.hz.status h.hz z;
+        phase_a = found-leaf_types rows names.phase_a _ handles.phase_a.status h.phase_a a;
+        phase_b = found-leaf_types rows names.phase_b _ handles.phase_b.status h.phase_b b;
+        phase_c = found-leaf_types rows names.phase_c _ handles.phase_c.status h.phase_c c;
       };
+      floats = floats;
     }
 
 pub bound-meter : (rows : List Row) (k : ℕ) (node : List ℕ) (handles : MeterRows)
-    → HasMeterNode rows k node → AreMeterRowsOf (layout_of rows) (meter_names_of node) handles
+    → HasMeterNode rows k node → AreMeterRowsOf (layout_of rows) node handles
     → IsMeterBound (layout_of rows) k handles
 bound-meter rows k node handles there own =
-    record { named = own.named ∙ ap meter_names_of there.named; leaf_typed = own.leaf_typed }
+    record {
+      named = own.named ∙ ap meter_names_of there.named;
+      leaf_typed = own.leaf_typed;
+      floats = subst (λ n. AreFloatHandles (layout_of rows) (float_names_of n) handles) there.named
+          own.floats;
+    }
 
 -- one switch more
 pub rows-snoc : (layout : Layout) (nodes : List SwitchNodes) (rows : List SwitchRows)

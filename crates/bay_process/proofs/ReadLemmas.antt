@@ -68,6 +68,7 @@ module _ (name : List ℕ) (start : List Row) where
   stays-counted names (Some (leaf.Int8 n)) now rows other p = p
   stays-counted names (Some (leaf.Unsigned8 n)) now rows other p = p
   stays-counted names (Some (leaf.Unsigned32 n)) now rows other p = p
+  stays-counted names (Some (leaf.Float n)) now rows other p = p
   stays-counted names (Some (leaf.Octets n)) now rows other p = p
   stays-counted names (Some (leaf.Reference n)) now rows other p = p
   stays-counted names (Some (leaf.Text n)) now rows other p = p
@@ -353,7 +354,7 @@ module _ (rows new : List Row) (layout : layout_of new ≡ layout_of rows)
           (field-named (layout_of rows) m.rows field
           ∙ ap (field_names field) (metered k m here).named) in
           ap (λ (l : Layout). Long (number_of_leaf
-          (leaf_named (row_name_in l (field_rows m.rows field).value) new))) layout
+          (leaf_named (row_name_in l (field_rows m.rows field).status.value) new))) layout
           ∙ ap (λ (n : List ℕ). Long (number_of_leaf (leaf_named n new))) named
           ∙ ap (λ (o : Option Leaf). Long (number_of_leaf o)) stays
           ∙ ap (λ (n : List ℕ). Long (number_of_leaf (leaf_named n rows))) (sym named)

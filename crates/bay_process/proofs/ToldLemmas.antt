@@ -25,9 +25,9 @@ use Rattle.bay_base.specs.declared.point.MeterField.TheVariants.{TotW, TotVAr, H
 use Rattle.bay_nodes.specs.declared.switch.Switch.{Switch}
 use Rattle.bay_base.specs.declared.switch.SwitchKind.{SwitchKind}
 use Rattle.bay_base.specs.declared.switch.SwitchKind.TheVariants.{Breaker, Disconnector, Earthing}
-use Rattle.bay_process.specs.Values.{is_truth, is_quality, with_status, with_enabled, with_count, rows_after_operation, is_operation, has_position, position_quality, rows_after_change, rows_after_contact, has_invalid_measure, has_measure, rows_after_bad_measure, rows_after_measure}
-use Rattle.bay_nodes.specs.Names.{StatusNames, switch_names, switch_node, meter_names, cilo_name, opening_names_at, closing_names_at}
-use Rattle.bay_process.specs.Names.{field_names}
+use Rattle.bay_process.specs.Values.{is_truth, is_quality, with_status, with_enabled, with_count, rows_after_operation, is_operation, has_position, position_quality, rows_after_change, rows_after_contact, has_invalid_measure, has_measure, is_float, rows_after_bad_measure, rows_after_measure}
+use Rattle.bay_nodes.specs.Names.{StatusNames, switch_names, switch_node, float_names, meter_names, cilo_name, opening_names_at, closing_names_at}
+use Rattle.bay_process.specs.Names.{field_float, field_names}
 use Rattle.bay_process.specs.declared.switch.SwitchEnables.{SwitchEnables}
 use Rattle.bay_process.specs.ReportedRows.{AreValued, HoldsRelease, HoldsTruth}
 
@@ -179,6 +179,7 @@ keeps-counted names (Some (leaf.Quality q)) now rows away k s = refl
 keeps-counted names (Some (leaf.Int8 n)) now rows away k s = refl
 keeps-counted names (Some (leaf.Unsigned8 n)) now rows away k s = refl
 keeps-counted names (Some (leaf.Unsigned32 n)) now rows away k s = refl
+keeps-counted names (Some (leaf.Float n)) now rows away k s = refl
 keeps-counted names (Some (leaf.Octets n)) now rows away k s = refl
 keeps-counted names (Some (leaf.Reference n)) now rows away k s = refl
 keeps-counted names (Some (leaf.Text n)) now rows away k s = refl
@@ -213,11 +214,15 @@ keeps-contact switches j switch position now rows =
     (keeps-counted names.operations (leaf_named names.operations.value after) now after counts))
     both)
 
-pub keeps-measure : (names : StatusNames) (value : ℤ) (now : ℕ) (rows : List Row) → AreAway names
-    → Keeps rows (rows_after_measure names value now rows)
-keeps-measure names value now rows away =
+pub keeps-measure : (names : StatusNames) (float : List ℕ) (value : ℤ) (now : ℕ)
+    (rows : List Row) → AreAway names → IsAway float
+    → Keeps rows (rows_after_measure names float value now rows)
+keeps-measure names float value now rows away apart =
+    let told = with_status names (leaf.Int32 value) Good now rows in
+    let status : Keeps rows told = keeps-status names (leaf.Int32 value) Good now rows away in
     keeps-if (has_measure names value rows) rows rows _ (λ k s. refl)
-    (keeps-status names (leaf.Int32 value) _ now rows away)
+    (keeps-if (is_float (leaf_named float told)) rows _ told
+    (λ k s. leaf-other told _ float _ (apart k s) ∙ status k s) status)
 
 pub keeps-doubt : (names : StatusNames) (now : ℕ) (rows : List Row) → AreAway names
     → Keeps rows (rows_after_bad_measure names now rows)
@@ -225,6 +230,14 @@ keeps-doubt names now rows away =
     keeps-if (has_invalid_measure names rows) rows rows _ (λ k s. refl)
     (λ j t. leaf-other _ _ names.time _ (away.time_away j t)
     ∙ leaf-other rows _ names.quality _ (away.quality_away j t))
+
+pub float-away : (k : ℕ) (field : MeterField) → IsAway (field_float field (float_names k))
+float-away k TotW = away-meter (k + 1) _
+float-away k TotVAr = away-meter (k + 1) _
+float-away k Hz = away-meter (k + 1) _
+float-away k PhaseA = away-meter (k + 1) _
+float-away k PhaseB = away-meter (k + 1) _
+float-away k PhaseC = away-meter (k + 1) _
 
 pub field-away : (k : ℕ) (field : MeterField) → AreAway (field_names field (meter_names k))
 field-away k TotW = at-node (node_name (codes "MMXU") (k + 1)) _ _ _ (away-meter (k + 1))
@@ -248,6 +261,7 @@ truth-is b (Some (leaf.Int8 n)) h = absurd cc
 truth-is b (Some (leaf.Int32 n)) h = absurd cc
 truth-is b (Some (leaf.Unsigned8 n)) h = absurd cc
 truth-is b (Some (leaf.Unsigned32 n)) h = absurd cc
+truth-is b (Some (leaf.Float n)) h = absurd cc
 truth-is b (Some (leaf.Octets n)) h = absurd cc
 truth-is b (Some (leaf.Reference n)) h = absurd cc
 truth-is b (Some (leaf.Text n)) h = absurd cc
@@ -263,6 +277,7 @@ good-is (Some (leaf.Int8 n)) h = absurd cc
 good-is (Some (leaf.Int32 n)) h = absurd cc
 good-is (Some (leaf.Unsigned8 n)) h = absurd cc
 good-is (Some (leaf.Unsigned32 n)) h = absurd cc
+good-is (Some (leaf.Float n)) h = absurd cc
 good-is (Some (leaf.Octets n)) h = absurd cc
 good-is (Some (leaf.Reference n)) h = absurd cc
 good-is (Some (leaf.Text n)) h = absurd cc

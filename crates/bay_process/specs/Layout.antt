@@ -1,11 +1,13 @@
 -- The names and the types of the rows at the handles of switches and meters.
-use Rattle.std.specs.Prelude.{◌≡◌, ℕ, ◌+◌, List, [], ◌∷◌, map, Option, Some, None, All, position, slice_get, slice_index_or}
+use Rattle.std.specs.Prelude.{◌≡◌, ◌≢◌, ℕ, ◌+◌, if◌then◌else◌, ⊤, List, [], ◌∷◌, map, Option, Some, None, All, position, slice_get, slice_index_or}
+use Rattle.std.specs.Str.{bytes_eq}
 use Rattle.bay_tree.specs.Rows.{names_of, leaf_types_of}
 use Rattle.bay_tree.specs.declared.row.Row.{Row}
 use Rattle.bay_tree.specs.declared.leaf.LeafType.{LeafType}
 use Rattle.bay_tree.specs.declared.leaf.LeafType.TheVariants as leaf_type
 use Rattle.bay_nodes.specs.declared.switch.Switch.{Switch}
-use Rattle.bay_nodes.specs.Names.{StatusNames, SwitchNames, switch_names, MeterNames, meter_names}
+use Rattle.bay_nodes.specs.Names.{StatusNames, SwitchNames, switch_names, MeterNames, meter_names, FloatNames, float_names}
+use Rattle.bay_process.specs.Names.{field_float}
 use Rattle.bay_process.specs.declared.switch.SwitchOutputs.{SwitchOutputs}
 use Rattle.bay_base.specs.declared.point.SwitchPoint.TheVariants.{EnableOpen, EnableClose}
 use Rattle.bay_process.specs.Values.{is_point}
@@ -13,6 +15,7 @@ use Rattle.bay_base.specs.declared.point.Source.{Source}
 use Rattle.bay_base.specs.declared.point.MeterField.{MeterField}
 use Rattle.bay_base.specs.declared.point.MeterField.TheVariants.{TotW, TotVAr, Hz, PhaseA, PhaseB, PhaseC}
 use Rattle.bay_process.specs.declared.meter.BoundMeter.{BoundMeter}
+use Rattle.bay_process.specs.declared.meter.MeasureRows.{MeasureRows}
 use Rattle.bay_process.specs.declared.meter.MeterRows.{MeterRows}
 use Rattle.bay_process.specs.declared.rows.StatusRows.{StatusRows}
 use Rattle.bay_process.specs.declared.rows.SwitchRows.{SwitchRows}
@@ -107,16 +110,16 @@ bound_from writes k (s ∷ ss) (r ∷ rs) =
 -- the names at the handles of a meter
 abbrev pub meter_names_in : Layout → MeterRows → MeterNames
 meter_names_in layout rows = record {
-  tot_w = status_names_in layout rows.tot_w;
-  tot_var = status_names_in layout rows.tot_var;
-  hz = status_names_in layout rows.hz;
-  phase_a = status_names_in layout rows.phase_a;
-  phase_b = status_names_in layout rows.phase_b;
-  phase_c = status_names_in layout rows.phase_c;
+  tot_w = status_names_in layout rows.tot_w.status;
+  tot_var = status_names_in layout rows.tot_var.status;
+  hz = status_names_in layout rows.hz.status;
+  phase_a = status_names_in layout rows.phase_a.status;
+  phase_b = status_names_in layout rows.phase_b.status;
+  phase_c = status_names_in layout rows.phase_c.status;
 }
 
 -- the rows of a field of a meter
-abbrev pub field_rows : MeterRows → MeterField → StatusRows
+abbrev pub field_rows : MeterRows → MeterField → MeasureRows
 field_rows rows TotW = rows.tot_w
 field_rows rows TotVAr = rows.tot_var
 field_rows rows Hz = rows.hz
@@ -126,12 +129,12 @@ field_rows rows PhaseC = rows.phase_c
 
 -- the rows have the measured values of a meter
 pub record AreMeterRows (layout : Layout) (rows : MeterRows) : Type 0 where
-  pub tot_w : AreStatusRows layout leaf_type.Int32 rows.tot_w
-  pub tot_var : AreStatusRows layout leaf_type.Int32 rows.tot_var
-  pub hz : AreStatusRows layout leaf_type.Int32 rows.hz
-  pub phase_a : AreStatusRows layout leaf_type.Int32 rows.phase_a
-  pub phase_b : AreStatusRows layout leaf_type.Int32 rows.phase_b
-  pub phase_c : AreStatusRows layout leaf_type.Int32 rows.phase_c
+  pub tot_w : AreStatusRows layout leaf_type.Int32 rows.tot_w.status
+  pub tot_var : AreStatusRows layout leaf_type.Int32 rows.tot_var.status
+  pub hz : AreStatusRows layout leaf_type.Int32 rows.hz.status
+  pub phase_a : AreStatusRows layout leaf_type.Int32 rows.phase_a.status
+  pub phase_b : AreStatusRows layout leaf_type.Int32 rows.phase_b.status
+  pub phase_c : AreStatusRows layout leaf_type.Int32 rows.phase_c.status
 
 -- the rows of each meter have their types
 abbrev pub AreMetersLeafTyped : Layout → List BoundMeter → Type 0
@@ -141,10 +144,37 @@ AreMetersLeafTyped layout bound = All (λ m. AreMeterRows layout m.rows) bound
 abbrev pub meters_of : List BoundMeter → List (List ℕ)
 meters_of bound = map (λ m. m.id) bound
 
+-- the type of the value of the first row with a name, if it has one
+abbrev pub type_among : List ℕ → List (List ℕ) → List (Option LeafType) → Option LeafType
+type_among name [] types = None
+type_among name (n ∷ ns) [] = None
+type_among name (n ∷ ns) (t ∷ ts) = if bytes_eq n name then t else type_among name ns ts
+
+-- the type of the value with a name
+abbrev pub type_named : Layout → List ℕ → Option LeafType
+type_named layout name = type_among name layout.names layout.leaf_types
+
+-- the handle is that of the float with this name; without a handle there is no such float
+abbrev pub IsFloatHandle : Layout → List ℕ → Option ℕ → Type 0
+IsFloatHandle layout name (Some handle) =
+    (row_name_in layout handle ≡ name) × HasLeafType layout handle leaf_type.Float
+IsFloatHandle layout name None = type_named layout name ≢ Some leaf_type.Float
+
+-- the handle is that of a float, if there is one
+abbrev pub IsFloatTyped : Layout → Option ℕ → Type 0
+IsFloatTyped layout (Some handle) = HasLeafType layout handle leaf_type.Float
+IsFloatTyped layout None = ⊤
+
+-- the handles of the floats of a meter have these names
+abbrev pub AreFloatHandles : Layout → FloatNames → MeterRows → Type 0
+AreFloatHandles layout names rows = (field : MeterField)
+    → IsFloatHandle layout (field_float field names) (field_rows rows field).float
+
 -- the handles of the meter at index k have its names
 pub record IsMeterBound (layout : Layout) (k : ℕ) (rows : MeterRows) : Type 0 where
   pub named : meter_names_in layout rows ≡ meter_names k
   pub leaf_typed : AreMeterRows layout rows
+  pub floats : AreFloatHandles layout (float_names k) rows
 
 -- each meter is bound at its index
 abbrev pub AreMetersBound : Layout → List BoundMeter → Type 0

@@ -9,12 +9,12 @@ use Rattle.bay_tree.specs.declared.leaf.LeafType.TheVariants as leaf_type
 use Rattle.bay_config.specs.declared.bay.Bay.{Bay}
 use Rattle.bay_nodes.specs.Node.{node_name}
 use Rattle.bay_config.specs.Laws.{IsBay, NamesPosition, NamesControl, NamesInterlocking, NamesMeter}
-use Rattle.bay_process.specs.Layout.{Layout, switch_names_in, AreSwitchRows, meter_names_in, AreMeterRows}
+use Rattle.bay_process.specs.Layout.{Layout, switch_names_in, AreSwitchRows, meter_names_in, AreMeterRows, AreFloatHandles}
 use Rattle.bay_control.specs.Decisions.{controls_of}
 use Rattle.bay_control.specs.Requests.{control_of}
 use Rattle.bay_control.specs.declared.control.SwitchControl.{SwitchControl}
 use Rattle.bay_nodes.specs.declared.profile.Profile.{Profile}
-use Rattle.bay_nodes.specs.Names.{StatusNames, SwitchNames, names_by_nodes, local_names, indication_names, MeterNames, meter_names_of}
+use Rattle.bay_nodes.specs.Names.{StatusNames, SwitchNames, names_by_nodes, local_names, indication_names, MeterNames, meter_names_of, float_names_of}
 use Rattle.bay_process.specs.ModelRows.{IsTruthBound}
 use Rattle.bay_process.specs.declared.model.LocalRows.{LocalRows}
 use Rattle.bay_process.specs.declared.meter.MeterRows.{MeterRows}
@@ -113,10 +113,11 @@ pub record HasMeterNode (rows : List Row) (k : ℕ) (node : List ℕ) : Type 0 w
 abbrev pub HaveMeters : List Row → List (List ℕ) → Type 0
 HaveMeters rows nodes = (k : ℕ) (n : List ℕ) → slice_get nodes k ≡ Some n → HasMeterNode rows k n
 
--- the handles of a meter's values have their names and their types
-pub record AreMeterRowsOf (layout : Layout) (names : MeterNames) (rows : MeterRows) : Type 0 where
-  pub named : meter_names_in layout rows ≡ names
+-- the handles of the values of the meter with this node have their names and their types
+pub record AreMeterRowsOf (layout : Layout) (node : List ℕ) (rows : MeterRows) : Type 0 where
+  pub named : meter_names_in layout rows ≡ meter_names_of node
   pub leaf_typed : AreMeterRows layout rows
+  pub floats : AreFloatHandles layout (float_names_of node) rows
 
 -- ---- the rows of profile 2 that events change
 

@@ -29,7 +29,7 @@ switch_value rows point (Some b) = position_value point (leaf_at_handle rows b.r
 abbrev pub meter_value : List Row → MeterField → Option BoundMeter → Value
 meter_value rows field None = Long (number_of_leaf None)
 meter_value rows field (Some m) =
-    Long (number_of_leaf (leaf_at_handle rows (field_rows m.rows field).value))
+    Long (number_of_leaf (leaf_at_handle rows (field_rows m.rows field).status.value))
 
 -- the value of a point, from the positions, the inputs or the measured values
 abbrev pub source_value : List Row → List BoundSwitch → List Bool → List BoundMeter → Source → Value

@@ -116,11 +116,22 @@ abbrev pub has_measure : StatusNames → ℤ → List Row → Bool
 has_measure names value rows =
     is_number value (leaf_named names.value rows) && is_quality Good (leaf_named names.quality rows)
 
--- the rows after a measured value; one that changes neither value nor quality changes nothing
-abbrev pub rows_after_measure : StatusNames → ℤ → ℕ → List Row → List Row
-rows_after_measure names value now rows =
+-- the leaf is a float
+abbrev pub is_float : Option Leaf → Bool
+is_float (Some (leaf.Float n)) = true
+is_float other = false
+
+-- the rows with a measured value as a float, if they have a float with this name
+abbrev pub with_float : List ℕ → ℤ → List Row → List Row
+with_float name value rows =
+    if is_float (leaf_named name rows) then with_leaf_named name (leaf.Float value) rows else rows
+
+-- the rows after a measured value, which the float with this name repeats, if there is one; a value
+-- that changes neither value nor quality changes nothing
+abbrev pub rows_after_measure : StatusNames → List ℕ → ℤ → ℕ → List Row → List Row
+rows_after_measure names float value now rows =
     if has_measure names value rows then rows
-    else with_status names (leaf.Int32 value) Good now rows
+    else with_float float value (with_status names (leaf.Int32 value) Good now rows)
 
 -- the rows already have this measured value as invalid
 abbrev pub has_invalid_measure : StatusNames → List Row → Bool

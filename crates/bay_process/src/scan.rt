@@ -86,7 +86,7 @@ fn meter_value(tree: &Tree, meters: &[BoundMeter], meter: usize, field: MeterFie
     ensures is_value { IsValue result }
 {
     match meters.get(meter) {
-        Some(bound) => Value::Long(count_at(tree, bound.rows.field(field).value)),
+        Some(bound) => Value::Long(count_at(tree, bound.rows.field(field).status.value)),
         None => Value::Long(0),
     }
 }

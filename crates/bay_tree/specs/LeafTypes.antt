@@ -13,6 +13,7 @@ leaf_type_of (leaf.Int8 n) = leaf_type.Int8
 leaf_type_of (leaf.Int32 n) = leaf_type.Int32
 leaf_type_of (leaf.Unsigned8 n) = leaf_type.Unsigned8
 leaf_type_of (leaf.Unsigned32 n) = leaf_type.Unsigned32
+leaf_type_of (leaf.Float n) = leaf_type.Float
 leaf_type_of (leaf.Octets o) = leaf_type.Octets
 leaf_type_of (leaf.Reference t) = leaf_type.Reference
 leaf_type_of (leaf.Text t) = leaf_type.Text

@@ -13,7 +13,7 @@ pub enum Quality {
     Invalid,
 }
 
-/// The value of a leaf, of one of the eleven types of this profile.
+/// The value of a leaf, of one of the twelve types of this profile.
 #[derive(Debug, Drop)]
 pub enum Leaf {
     /// A BOOLEAN.
@@ -26,6 +26,8 @@ pub enum Leaf {
     Int32(i32),
     Unsigned8(u8),
     Unsigned32(u32),
+    /// A floating-point number of 32 bits: the one that is nearest to this whole number.
+    Float(i32),
     /// At most 64 octets.
     Octets(Listing<u8>),
     /// An object reference, at most 129 characters.
@@ -46,6 +48,7 @@ pub enum LeafType {
     Int32,
     Unsigned8,
     Unsigned32,
+    Float,
     Octets,
     Reference,
     Text,
@@ -66,6 +69,7 @@ impl Leaf {
             Leaf::Int32(_) => LeafType::Int32,
             Leaf::Unsigned8(_) => LeafType::Unsigned8,
             Leaf::Unsigned32(_) => LeafType::Unsigned32,
+            Leaf::Float(_) => LeafType::Float,
             Leaf::Octets(_) => LeafType::Octets,
             Leaf::Reference(_) => LeafType::Reference,
             Leaf::Text(_) => LeafType::Text,

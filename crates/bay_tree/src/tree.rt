@@ -76,6 +76,10 @@ fn put_leaf(place: &mut Option<Leaf>, leaf: Leaf)
             Some(Leaf::Int32(old)) => *old = new,
             _ => *place = Some(Leaf::Int32(new)),
         },
+        Leaf::Float(new) => match place {
+            Some(Leaf::Float(old)) => *old = new,
+            _ => *place = Some(Leaf::Float(new)),
+        },
         Leaf::Utc(new) => match place {
             Some(Leaf::Utc(old)) => *old = new,
             _ => *place = Some(Leaf::Utc(new)),

@@ -6,10 +6,10 @@ use Rattle.std.proofs.lemmas.Bool.Decides.{nat_tests}
 use Rattle.bay_base.specs.declared.point.MeterField.{MeterField}
 use Rattle.bay_connection.specs.ConnectionStates.{ConnectionState}
 use Rattle.bay_nodes.specs.declared.switch.Switch.{Switch}
-use Rattle.bay_nodes.specs.Names.{meter_names}
-use Rattle.bay_process.specs.Names.{field_names}
+use Rattle.bay_nodes.specs.Names.{float_names, meter_names}
+use Rattle.bay_process.specs.Names.{field_float, field_names}
 use Rattle.bay_process.proofs.ModelLemmas.{health-keeps, input-keeps}
-use Rattle.bay_process.proofs.ToldLemmas.{Keeps, field-away, keeps-contact, keeps-doubt, keeps-measure}
+use Rattle.bay_process.proofs.ToldLemmas.{Keeps, field-away, float-away, keeps-contact, keeps-doubt, keeps-measure}
 use Rattle.bay_tree.specs.Rows.{leaf_named}
 use Rattle.bay_base.specs.declared.position.Dbpos.{Dbpos}
 use Rattle.bay_device.specs.Device.{State, device_after_bad_measure, device_after_contact, device_after_input, device_after_loss, device_after_measure, device_at, with_health}
@@ -134,7 +134,8 @@ module _ (now : ℕ) (s : State) where
       fixed = record { age = refl; image = refl; switches = refl; writes = refl };
       scans = refl;
       interlocking =
-          keeps-measure (field_names field (meter_names k)) value now s.rows (field-away k field);
+          keeps-measure (field_names field (meter_names k)) (field_float field (float_names k)) value
+          now s.rows (field-away k field) (float-away k field);
     }),
   )
 

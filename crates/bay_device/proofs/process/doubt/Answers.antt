@@ -3,6 +3,7 @@ use Rattle.bay_nodes.specs.Names.{StatusNames, meter_names}
 use Rattle.bay_process.specs.Layout.{layout_of, status_names_in, switches_of}
 use Rattle.bay_process.specs.Names.{field_names}
 use Rattle.bay_process.specs.Values.{rows_after_bad_measure, has_invalid_measure}
+use Rattle.bay_process.specs.declared.meter.MeasureRows.{MeasureRows}
 use Rattle.bay_process.proofs.FieldLemmas.{field-leaf_typed, field-named}
 use Rattle.bay_mms_services.specs.Views.{bay_view}
 use Rattle.bay_mms_services.proofs.PlaceLemmas.{names-kept, rows-kept}
@@ -19,7 +20,7 @@ invariant_of-bay c =
     let d = c.args.bay.now in
     let f = c.args.field in
     let named =
-    ap (status_names_in (layout_of d.tree)) c.field.ensures
+    ap (λ (r : MeasureRows). status_names_in (layout_of d.tree) r.status) c.field.ensures
     ∙ field-named (layout_of d.tree) c.args.rows f ∙ ap (field_names f) c.requires.named in
     let did = c.apply_bad_measure.ensures in
     let written : c.apply_bad_measure.new.tree
@@ -40,7 +41,7 @@ returns-clause-changed c =
     let d = c.args.bay.now in
     let f = c.args.field in
     let named =
-    ap (status_names_in (layout_of d.tree)) c.field.ensures
+    ap (λ (r : MeasureRows). status_names_in (layout_of d.tree) r.status) c.field.ensures
     ∙ field-named (layout_of d.tree) c.args.rows f ∙ ap (field_names f) c.requires.named in
     c.apply_bad_measure.ensures.changed
     ∙ ap (λ (n : StatusNames). not (has_invalid_measure n d.tree)) named
@@ -50,7 +51,7 @@ returns-clause-after c =
     let d = c.args.bay.now in
     let f = c.args.field in
     let named =
-    ap (status_names_in (layout_of d.tree)) c.field.ensures
+    ap (λ (r : MeasureRows). status_names_in (layout_of d.tree) r.status) c.field.ensures
     ∙ field-named (layout_of d.tree) c.args.rows f ∙ ap (field_names f) c.requires.named in
     ap (λ rs. record (bay_view d) { rows = rs })
     (c.apply_bad_measure.ensures.rows

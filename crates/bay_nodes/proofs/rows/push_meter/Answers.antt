@@ -15,10 +15,13 @@ returns c =
     c.in_ok-push_table.ensures
     ∙ ap (λ rows. rows ++ table_rows n (subject.Meter m) node last) c.in_ok-push_node.ensures
     ∙ two-appended c.args.rows.now.items node (node_name (codes "MMXU") c.args.number)
-    (map line c.meter_table-first.result.now) (map line last) (meter_values n.profile)
+    (map line c.meter_table-first.result.now) (map line last)
+    (meter_values n.profile (is_some m.now.scale))
     (meter_settings n.profile (is_some m.now.scale) n m.now)
     (c.as_str-node.ensures ∙ c.in_ok-name.ensures)
-    (c.meter_table-first.ensures n (subject.Meter m))
+    (c.meter_table-first.ensures n (subject.Meter m)
+    ∙ ap (λ scaled. rows_of_parts [] (parts_of (meter_values n.profile scaled)))
+    c.is_some-scaled.ensures)
     (c.meter_settings_table-last.ensures n m
     ∙ ap (λ scaled. rows_of_parts [] (parts_of (meter_settings n.profile scaled n m.now)))
-    c.is_some.ensures)
+    c.is_some-scaled.ensures)

@@ -13,7 +13,7 @@ returns-in-Some-clause-value c =
     got-some _ c.args.meter c.in-Some.bound c.in-Some.ensures.lookup in
     ap (λ z. Long z) (to_z-of_z w32 c.count_at.result (record { sfits = c.count_at.type_inv }))
     ∙ sym (ap (λ o. Long (number_of_leaf o)) c.count_at.ensures)
-    ∙ ap (λ r. Long (number_of_leaf (leaf_at_handle rows r.value))) c.field.ensures
+    ∙ ap (λ r. Long (number_of_leaf (leaf_at_handle rows r.status.value))) c.field.ensures
     ∙ sym (ap (meter_value rows c.args.field) here)
 
 pub returns-in-None-clause-value : goal.returns-in-None-clause-value

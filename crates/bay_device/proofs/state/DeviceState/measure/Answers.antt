@@ -1,13 +1,13 @@
 use Rattle.std.proofs.Common.{◌≡◌, Bool, false, ◌||◌, slice_get, Option, Some, Ok, option_map, ap, sym, ◌∙◌}
 use Rattle.std.proofs.lemmas.Int.{to_z-of_z}
 use Rattle.std.proofs.lemmas.Option.{slice_get-map}
-use Rattle.bay_nodes.specs.Names.{meter_names}
+use Rattle.bay_nodes.specs.Names.{float_names, meter_names}
 use Rattle.bay_process.specs.Layout.{meters_of}
-use Rattle.bay_process.specs.Names.{field_names}
+use Rattle.bay_process.specs.Names.{field_float, field_names}
 use Rattle.bay_process.specs.declared.meter.BoundMeter.{BoundMeter}
 use Rattle.bay_process.proofs.ListLemmas.{got-some}
 use Rattle.bay_process.proofs.KeptLemmas.{kept-stays}
-use Rattle.bay_process.proofs.ToldLemmas.{keeps-measure, field-away}
+use Rattle.bay_process.proofs.ToldLemmas.{keeps-measure, field-away, float-away}
 use Rattle.bay_mms_services.specs.Bay.{Bay}
 use Rattle.bay_device.specs.Device.{State, device_after_measure, with_bay, with_health}
 use Rattle.bay_device.specs.Outcomes.{Outcome, measure_outcome}
@@ -38,8 +38,9 @@ invariant_of-self c =
       valued = d.valued;
       modelled = rw (did.layout, did.switches) d.modelled;
       released = rw (written, did.switches) (kept-stays d.bay.tree _ _ d.releases d.released
-          (keeps-measure (field_names c.args.field (meter_names c.args.meter)) c.args.value
-          c.args.now d.bay.tree (field-away c.args.meter c.args.field)));
+          (keeps-measure (field_names c.args.field (meter_names c.args.meter))
+          (field_float c.args.field (float_names c.args.meter)) c.args.value c.args.now d.bay.tree
+          (field-away c.args.meter c.args.field) (float-away c.args.meter c.args.field)));
       tabled = rw did.switches d.tabled;
       typed = d.typed;
       spans_sized = rw did.switches d.spans_sized;
