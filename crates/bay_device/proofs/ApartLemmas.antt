@@ -138,12 +138,12 @@ field-apart k PhaseC = phase-apart (meter_node k) (codes "MX$A$phsC")
 
 pub float-apart : (k : ℕ) (field : MeterField)
     → IsApart (field_float field (float_names k))
-float-apart k TotW = apart-of (meter_node k) 36 _ refl
-float-apart k TotVAr = apart-of (meter_node k) 36 _ refl
-float-apart k Hz = apart-of (meter_node k) 36 _ refl
-float-apart k PhaseA = apart-of (meter_node k) 36 _ refl
-float-apart k PhaseB = apart-of (meter_node k) 36 _ refl
-float-apart k PhaseC = apart-of (meter_node k) 36 _ refl
+float-apart k TotW = apart-of (meter_node k) 36 (codes "MX$TotW$mag$f") refl
+float-apart k TotVAr = apart-of (meter_node k) 36 (codes "MX$TotVAr$mag$f") refl
+float-apart k Hz = apart-of (meter_node k) 36 (codes "MX$Hz$mag$f") refl
+float-apart k PhaseA = apart-of (meter_node k) 36 (codes "MX$A$phsA$cVal$mag$f") refl
+float-apart k PhaseB = apart-of (meter_node k) 36 (codes "MX$A$phsB$cVal$mag$f") refl
+float-apart k PhaseC = apart-of (meter_node k) 36 (codes "MX$A$phsC$cVal$mag$f") refl
 
 local-apart : (node : List ℕ) → AreApart (local_names node)
 local-apart node =

@@ -12,7 +12,7 @@ use Rattle.bay_tree.proofs.NamedLemmas.{leaf-named}
 use Rattle.bay_base.specs.declared.point.MeterField.{MeterField}
 use Rattle.bay_base.specs.declared.point.MeterField.TheVariants.{TotW, TotVAr, Hz, PhaseA, PhaseB, PhaseC}
 use Rattle.bay_nodes.specs.Names.{float_names_of}
-use Rattle.bay_process.specs.Layout.{AreFloatHandles, HasLeafType, IsFloatHandle, IsFloatTyped, Layout, field_rows, layout_of, row_name_in, type_among, type_named}
+use Rattle.bay_process.specs.Layout.{AreFloatHandles, HasLeafType, IsFloatHandle, Layout, field_rows, layout_of, row_name_in, type_among, type_named}
 use Rattle.bay_process.specs.Values.{is_float, with_float}
 use Rattle.bay_process.specs.declared.meter.MeterRows.{MeterRows}
 use Rattle.bay_process.proofs.NodeLemmas.{leaf_type_at-in, name_at-in}
@@ -83,13 +83,18 @@ typed-among (row ∷ rows) name =
 -- without a float of this name
 pub float-missing : (rows : List Row) (name : List ℕ) → is_float (leaf_named name rows) ≡ false
     → IsFloatHandle (layout_of rows) name None
-float-missing rows name other is =
-    let typed : is_float (leaf_named name rows) ≡ true =
-    is-float (leaf_named name rows) (sym (typed-among rows name) ∙ is) in
-    let both : false ≡ true = sym other ∙ typed in cc
+float-missing rows name other =
+    record {
+      named = λ handle e. absurd cc;
+      leaf_typed = λ handle e. absurd cc;
+      missing = λ none is.
+          let typed : is_float (leaf_named name rows) ≡ true =
+          is-float (leaf_named name rows) (sym (typed-among rows name) ∙ is) in
+          let both : false ≡ true = sym other ∙ typed in cc;
+    }
 
 pub float-kept : (rows : List Row) (name : List ℕ) (value : ℤ)
-    → IsFloatHandle (layout_of rows) name None → rows ≡ with_float name value rows
+    → type_named (layout_of rows) name ≢ Some leaf_type.Float → rows ≡ with_float name value rows
 float-kept rows name value none =
     sym (ap (λ b. cond b (with_leaf_named name (leaf.Float value) rows) rows)
     (no-float (leaf_named name rows) (λ is. none (typed-among rows name ∙ is))))
@@ -103,32 +108,34 @@ typed-within (row ∷ rows) (suc handle) t h =
     let later = typed-within rows handle t h in omega (arith, later)
 
 pub float-written : (rows : List Row) (name : List ℕ) (handle : ℕ) (value : ℤ) → IsTree rows
-    → IsFloatHandle (layout_of rows) name (Some handle)
+    → row_name_in (layout_of rows) handle ≡ name
+    → HasLeafType (layout_of rows) handle leaf_type.Float
     → with_leaf_named (row_name_in (layout_of rows) handle) (leaf.Float value) rows
     ≡ with_float name value rows
-float-written rows name handle value tree is =
+float-written rows name handle value tree has is =
     let typed : leaf_type_at rows handle ≡ Some leaf_type.Float =
-    sym (leaf_type_at-in rows handle) ∙ is.1 in
-    let named : name_at rows handle ≡ name = sym (name_at-in rows handle) ∙ is.0 in
+    sym (leaf_type_at-in rows handle) ∙ is in
+    let named : name_at rows handle ≡ name = sym (name_at-in rows handle) ∙ has in
     let own : leaf_at rows handle ≡ leaf_named name rows =
     leaf-named rows handle tree (typed-within rows handle _ typed)
     ∙ ap (λ n. leaf_named n rows) named in
-    ap (λ n. with_leaf_named n (leaf.Float value) rows) is.0
+    ap (λ n. with_leaf_named n (leaf.Float value) rows) has
     ∙ sym (ap (λ b. cond b (with_leaf_named name (leaf.Float value) rows) rows)
     (is-float (leaf_named name rows) (ap (option_map leaf_type_of) (sym own) ∙ typed)))
-
-pub float-typed : (layout : Layout) (name : List ℕ) (float : Option ℕ)
-    → IsFloatHandle layout name float → IsFloatTyped layout float
-float-typed layout name None is = tt
-float-typed layout name (Some handle) is = is.1
 
 -- the row of a handle that was found
 pub float-found : (rows : List Row) (name : List ℕ) (handle : ℕ) → name_at rows handle ≡ name
     → is_float (leaf_at rows handle) ≡ true → IsFloatHandle (layout_of rows) name (Some handle)
-float-found rows name handle named typed = (
-  name_at-in rows handle ∙ named,
-  leaf_type_at-in rows handle ∙ type-float (leaf_at rows handle) typed,
-)
+float-found rows name handle named typed =
+    let layout = layout_of rows in
+    record {
+      named = λ h is. let same : handle ≡ h = cc in
+          subst (λ n. row_name_in layout n ≡ name) same (name_at-in rows handle ∙ named);
+      leaf_typed = λ h is. let same : handle ≡ h = cc in
+          subst (λ n. HasLeafType layout n leaf_type.Float) same
+          (leaf_type_at-in rows handle ∙ type-float (leaf_at rows handle) typed);
+      missing = λ is. absurd cc;
+    }
 
 -- the floats of a meter
 pub are-floats : (layout : Layout) (node : List ℕ) (rows : MeterRows)

@@ -1,5 +1,6 @@
 -- The names and the types of the rows at the handles of switches and meters.
-use Rattle.std.specs.Prelude.{◌≡◌, ◌≢◌, ℕ, ◌+◌, if◌then◌else◌, ⊤, List, [], ◌∷◌, map, Option, Some, None, All, position, slice_get, slice_index_or}
+use Rattle.std.specs.Prelude.{◌≡◌, ◌≢◌, ℕ, ◌+◌, if◌then◌else◌, List, [], ◌∷◌, map, Option, Some, None, All, position, slice_get, slice_index_or}
+use Rattle.std.specs.Option.{ForNone, ForSome}
 use Rattle.std.specs.Str.{bytes_eq}
 use Rattle.bay_tree.specs.Rows.{names_of, leaf_types_of}
 use Rattle.bay_tree.specs.declared.row.Row.{Row}
@@ -155,15 +156,14 @@ abbrev pub type_named : Layout → List ℕ → Option LeafType
 type_named layout name = type_among name layout.names layout.leaf_types
 
 -- the handle is that of the float with this name; without a handle there is no such float
-abbrev pub IsFloatHandle : Layout → List ℕ → Option ℕ → Type 0
-IsFloatHandle layout name (Some handle) =
-    (row_name_in layout handle ≡ name) × HasLeafType layout handle leaf_type.Float
-IsFloatHandle layout name None = type_named layout name ≢ Some leaf_type.Float
+pub record IsFloatHandle (layout : Layout) (name : List ℕ) (float : Option ℕ) : Type 0 where
+  pub named : ForSome float (λ handle. row_name_in layout handle ≡ name)
+  pub leaf_typed : ForSome float (λ handle. HasLeafType layout handle leaf_type.Float)
+  pub missing : ForNone float (type_named layout name ≢ Some leaf_type.Float)
 
 -- the handle is that of a float, if there is one
 abbrev pub IsFloatTyped : Layout → Option ℕ → Type 0
-IsFloatTyped layout (Some handle) = HasLeafType layout handle leaf_type.Float
-IsFloatTyped layout None = ⊤
+IsFloatTyped layout float = ForSome float (λ handle. HasLeafType layout handle leaf_type.Float)
 
 -- the handles of the floats of a meter have these names
 abbrev pub AreFloatHandles : Layout → FloatNames → MeterRows → Type 0

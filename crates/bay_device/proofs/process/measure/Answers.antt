@@ -1,11 +1,10 @@
 use Rattle.std.proofs.Common.{◌≡◌, ap, sym, ◌∙◌, length, not}
 use Rattle.std.proofs.lemmas.Int.{to_z-of_z}
 use Rattle.bay_nodes.specs.Names.{StatusNames, float_names, meter_names}
-use Rattle.bay_process.specs.Layout.{IsFloatHandle, field_rows, layout_of, status_names_in, switches_of}
+use Rattle.bay_process.specs.Layout.{IsFloatHandle, layout_of, status_names_in, switches_of}
 use Rattle.bay_process.specs.Names.{field_float, field_names}
 use Rattle.bay_process.specs.Values.{rows_after_measure, has_measure}
 use Rattle.bay_process.specs.declared.meter.MeasureRows.{MeasureRows}
-use Rattle.bay_process.proofs.FloatLemmas.{float-typed}
 use Rattle.bay_process.proofs.FieldLemmas.{field-leaf_typed, field-named}
 use Rattle.bay_mms_services.specs.Views.{bay_view}
 use Rattle.bay_mms_services.proofs.PlaceLemmas.{names-kept, rows-kept}
@@ -17,9 +16,7 @@ apply_measure-requires c =
     rw c.field.ensures record {
       status = field-leaf_typed (layout_of c.args.bay.now.tree) c.args.rows c.args.field
           c.requires.leaf_typed;
-      float = float-typed (layout_of c.args.bay.now.tree)
-          (field_float c.args.field (float_names c.args._meter))
-          (field_rows c.args.rows c.args.field).float (c.requires.floats c.args.field);
+      float = (c.requires.floats c.args.field).leaf_typed;
     }
 
 pub invariant_of-bay : goal.invariant_of-bay

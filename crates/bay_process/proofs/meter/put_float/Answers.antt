@@ -13,8 +13,8 @@ returns-in-Some-clause-rows c name is =
     ∙ ap (λ z. with_leaf_named (row_name_in (layout_of rows) c.in-Some.handle) (leaf.Float z) rows)
     (to_z-of_z w32 c.args.value (record { sfits = c.ranges.value.sfits }))
     ∙ float-written rows name c.in-Some.handle c.args.value c.are_a_tree.ensures
-    (rw c.in-Some.is at is)
+    (is.named c.in-Some.handle c.in-Some.is) (is.leaf_typed c.in-Some.handle c.in-Some.is)
 
 pub returns-in_default-clause-rows : goal.returns-in_default-clause-rows
 returns-in_default-clause-rows c name is =
-    float-kept c.args.tree.now name c.args.value (rw c.in_default.is at is)
+    float-kept c.args.tree.now name c.args.value (is.missing c.in_default.is)
