@@ -1,5 +1,5 @@
 -- The floats of measured values: what a handle of one says of the row with its name.
-use Rattle.std.proofs.Common.{◌≡◌, ◌≢◌, ℕ, ℤ, zero, suc, ◌<◌, Bool, true, false, cond, List, [], ◌∷◌, length, find, slice_index_or, Option, Some, None, option_map, option_and_then, refl, ap, sym, ◌∙◌, subst, arith}
+use Rattle.std.proofs.Common.{◌≡◌, ◌≢◌, ℕ, ℤ, zero, suc, ◌<◌, Bool, true, false, cond, List, [], ◌∷◌, length, find, Option, Some, None, option_map, option_and_then, refl, ap, sym, ◌∙◌, subst, arith}
 use Rattle.std.specs.Str.{bytes_eq}
 use Rattle.bay_tree.specs.declared.leaf.Leaf.{Leaf}
 use Rattle.bay_tree.specs.declared.leaf.Leaf.TheVariants as leaf
@@ -9,10 +9,9 @@ use Rattle.bay_tree.specs.declared.row.Row.{Row}
 use Rattle.bay_tree.specs.LeafTypes.{leaf_type_of}
 use Rattle.bay_tree.specs.Rows.{IsTree, leaf_at, leaf_named, leaf_type_at, leaf_types_of, name_at, names_of, with_leaf_named}
 use Rattle.bay_tree.proofs.NamedLemmas.{leaf-named}
-use Rattle.bay_base.specs.declared.point.MeterField.{MeterField}
 use Rattle.bay_base.specs.declared.point.MeterField.TheVariants.{TotW, TotVAr, Hz, PhaseA, PhaseB, PhaseC}
 use Rattle.bay_nodes.specs.Names.{float_names_of}
-use Rattle.bay_process.specs.Layout.{AreFloatHandles, HasLeafType, IsFloatHandle, Layout, field_rows, layout_of, row_name_in, type_among, type_named}
+use Rattle.bay_process.specs.Layout.{AreFloatHandles, HasLeafType, IsFloatHandle, Layout, layout_of, row_name_in, type_among, type_named}
 use Rattle.bay_process.specs.Values.{is_float, with_float}
 use Rattle.bay_process.specs.declared.meter.MeterRows.{MeterRows}
 use Rattle.bay_process.proofs.NodeLemmas.{leaf_type_at-in, name_at-in}
