@@ -10,7 +10,7 @@ TABLE = re.compile(r'pub fn (\w+)_table\(.*?\n\{\n(.*?)\n\}\n', re.DOTALL)
 ARM = re.compile(r'\n        (\S[^\n]*?) => &\[(.*?)\],(?=\n)', re.DOTALL)
 LINE = re.compile(r'\(\s*(?:"([^"]*)"|paths::(\w+)(?:\.(\w+))?),\s*(\w+)(?:\((\d+)\))?,?\s*\)')
 STATUS = ['stVal', 'q', 't']
-MEASURED = [{'mag': {'i': ''}, 'q': '', 't': ''}, {'cVal': {'mag': {'i': ''}}, 'q': '', 't': ''}]
+INTEGER, SCALED = {'i': ''}, {'i': '', 'f': ''}  # the parts of a mag, without a scale and with one
 NODES = ('LLN0', 'LPHD1', 'XCBRn', 'XSWIn', 'CSWIn', 'CILOn', 'MMXUn', 'GGIO1')
 
 
@@ -34,11 +34,16 @@ def lines_of(text):
         yield (known[part] if part else known if known else path), value, number
 
 
+def bodies():
+    """The names and the bodies of the tables, in whichever files they are."""
+    texts = (path.read_text(encoding='utf-8') for path in sorted(SOURCES.rglob('*.rt')))
+    return [it for text in texts for it in TABLE.findall(text)]
+
+
 def tables():
     """The lines of each table by its name, and by the arm of its match; '' where it has none."""
-    text = (SOURCES / 'tables.rt').read_text(encoding='utf-8')
     found = {}
-    for name, body in TABLE.findall(text):
+    for name, body in bodies():
         arms = ARM.findall('\n' + body) or [('', body)]
         found[name] = {arm: list(lines_of(lines)) for arm, lines in arms}
     return found
@@ -61,14 +66,15 @@ def indented(name, table):
     return [(f'{name}{path}', value, number) for path, value, number in table]
 
 
-def node_lines(profile):
-    """The lines of each node in a profile. A meter has a scale."""
+def node_lines(profile, scaled=True):
+    """The lines of each node in a profile; a meter has a scale or not."""
     arm = f'Profile::{["One", "Two"][profile - 1]}'
     found = {'LLN0': lines('device', arm), 'LPHD1': lines('physical'),
              'XCBRn': lines('position', arm, 'true'), 'XSWIn': lines('position', arm, 'false'),
              'CSWIn': lines('control', arm) + lines('group') + lines('control_settings', arm),
              'CILOn': lines('interlocking', arm),
-             'MMXUn': lines('meter', arm) + lines('meter_settings', arm, 'true')}
+             'MMXUn': (lines('meter', arm, str(scaled).lower())
+                       + lines('meter_settings', arm, str(scaled).lower()))}
     if profile == 2:
         described = indented('$DC$Indn', lines('input_description'))
         found['GGIO1'] = (lines('inputs') + indented('$ST$Indn', lines('input'))
@@ -88,12 +94,18 @@ def tree(table):
     return root
 
 
+def measured(magnitude):
+    """The parts of a measured value, and of that of a phase."""
+    stamp = dict.fromkeys(('q', 't'), '')
+    return [{'mag': magnitude} | stamp, {'cVal': {'mag': magnitude}} | stamp]
+
+
 def part_text(name, part):
     """A part with its parts; of a status and of a measured value only its name, with its value if
     that is fixed."""
     if not isinstance(part, dict):
         return name + (f' ({part})' if part else '')
-    if not part or part in MEASURED:
+    if not part or part in measured(SCALED) + measured(INTEGER):
         return name
     if list(part) == STATUS:
         return name + (f' ({part["stVal"]})' if part['stVal'] else '')
@@ -108,13 +120,12 @@ def node_text(table):
 
 class Model(unittest.TestCase):
     def test_the_tables_are_read(self):
-        """Each line of tables.rt is one that this test knows."""
-        text = (SOURCES / 'tables.rt').read_text(encoding='utf-8')
-        bodies = ''.join(body for _, body in TABLE.findall(text))
+        """Each line of the tables is one that this test knows."""
+        text = ''.join(body for _, body in bodies())
         count = len(re.findall(r'Structure|False|Intermediate|Invalid|Good|Int8|Int32|Unsigned8|'
                                r'Octets|Reference|Moment|Vendor|Revision|NameSpace|Description|'
-                               r'Local\b|LocalQuality|SwitchType|ControlModel|SelectTimeout|'
-                               r'Multiplier', bodies))
+                               r'Float|Local\b|LocalQuality|SwitchType|ControlModel|SelectTimeout|'
+                               r'Multiplier', text))
         found = sum(len(table) for arms in TABLES.values() for table in arms.values())
         self.assertGreater(found, 300)
         self.assertEqual(found, count)
@@ -128,6 +139,18 @@ class Model(unittest.TestCase):
             heading = f'| Node in profile {profile} |'
             told = page.partition(f'\n{heading}')[2].partition('\n\n')[0].splitlines()[2:]
             self.assertEqual(told, wanted)
+
+    def test_measured_values(self):
+        """A meter with a scale has each value as an integer and as a float, in this order; another
+        meter has the integer alone."""
+        for profile, scaled, magnitude in ((1, False, INTEGER), (1, True, INTEGER),
+                                           (2, False, INTEGER), (2, True, SCALED)):
+            values = tree(node_lines(profile, scaled)['MMXUn'])['MX']
+            value, phase = measured(magnitude)
+            self.assertEqual(values, dict.fromkeys(('TotW', 'TotVAr', 'Hz'), value)
+                             | {'A': dict.fromkeys(('phsA', 'phsB', 'phsC'), phase)})
+            for found in (values['Hz'], values['A']['phsB']['cVal']):
+                self.assertEqual(list(found['mag']), list(magnitude))
 
 
 if __name__ == '__main__':

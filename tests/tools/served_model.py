@@ -1,8 +1,8 @@
 """A server that has a model: it answers who it is, its names, types and values, as a test says."""
 from baytools.wire import mms
 from baytools.wire.ber import element, number
-from baytools.wire.mms import (BITS, BOOLEAN, INTEGER, OCTETS, STRUCTURE, TEXT, TIME, UNSIGNED,
-                               Data)
+from baytools.wire.mms import (BITS, BOOLEAN, FLOAT, FLOAT_TYPE, INTEGER, OCTETS, STRUCTURE, TEXT,
+                               TIME, UNSIGNED, Data)
 
 TAGS = {word: tag for tag, word in mms.KINDS.items()}
 ABSENT = 10
@@ -10,10 +10,10 @@ ABSENT = 10
 
 def blank(kind) -> Data:
     """A value of a type."""
-    word, _, size = kind.partition(' ')
+    word, *sizes = kind.split(' ')
     return {BOOLEAN: Data(BOOLEAN, False), INTEGER: Data(INTEGER, 0), UNSIGNED: Data(UNSIGNED, 0),
-            BITS: Data(BITS, '0' * int(size or 1)), TIME: Data(TIME, 0), OCTETS: Data(OCTETS, b''),
-            TEXT: Data(TEXT, '')}[TAGS[word]]
+            BITS: Data(BITS, '0' * int((sizes or [1])[0])), FLOAT: Data(FLOAT, 0.0),
+            TIME: Data(TIME, 0), OCTETS: Data(OCTETS, b''), TEXT: Data(TEXT, '')}[TAGS[word]]
 
 
 class Model:
@@ -51,8 +51,10 @@ class Model:
             parts = (element(0x30, element(0x80, name.encode()), element(
                 0xA1, self.type_octets(f'{item}${name}', part))) for name, part in shape.items())
             return element(0xA2, element(0xA1, *parts))
-        word, _, size = self.types.get(item, shape).partition(' ')
-        return number(TAGS[word], int(size)) if size else element(TAGS[word])
+        word, *sizes = self.types.get(item, shape).split(' ')
+        if word == 'floating-point':
+            return element(FLOAT_TYPE, *(number(0x02, int(size)) for size in sizes))
+        return number(TAGS[word], int(sizes[0])) if sizes else element(TAGS[word])
 
     def __call__(self, pdu):
         self.asked.append(pdu)

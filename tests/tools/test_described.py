@@ -13,7 +13,7 @@ from baytools.panel.watch import Watcher, inputs_of, measures_of
 from baytools.wire import mms
 from baytools.wire.client import Client, Lost, Refused
 from baytools.wire.control import Control
-from baytools.wire.mms import BITS, BOOLEAN, INTEGER, STRUCTURE, TEXT, TIME, Data
+from baytools.wire.mms import BITS, BOOLEAN, FLOAT, INTEGER, STRUCTURE, TEXT, TIME, Data
 from baytools.wire.same_bay import compare_with_server
 from baytools.wire.words import value_text
 from tests.tool import Tools
@@ -134,6 +134,8 @@ class Titles(unittest.TestCase):
                 ('GGIO1$ST$Beh', 'GGIO1$ST$Beh'), ('GGIO1', 'GGIO1'),
                 ('XCBR1$ST$Loc$stVal', 'XCBR1$ST$Loc$stVal (Q1)'),
                 ('MMXU1$MX$TotW$mag$i', 'MMXU1$MX$TotW$mag$i (M1_TOTW, kW)'),
+                ('MMXU1$MX$TotW$mag$f', 'MMXU1$MX$TotW$mag$f (M1_TOTW, kW)'),
+                ('MMXU1$MX$A$phsC$cVal$mag$f', 'MMXU1$MX$A$phsC$cVal$mag$f (M1_AC, kA)'),
                 ('MMXU1$CF$TotW$units', 'MMXU1$CF$TotW$units (M1_TOTW)'),
                 ('MMXU2$MX$TotW$mag$i',
                  'MMXU2$MX$TotW$mag$i (M2_TOTW, in the unit of the process)')):
@@ -146,10 +148,29 @@ class Titles(unittest.TestCase):
                 ('XCBR1$ST$CBOpCap$stVal', Data(INTEGER, 2), '2 (open)'),
                 ('MMXU1$CF$Hz$units', Data(STRUCTURE, [Data(INTEGER, 33), Data(INTEGER, -3)]),
                  '{SIUnit 33 (Hz), multiplier -3}'),
+                ('MMXU1$MX$Hz$mag$f', Data(FLOAT, 50000.0), '50000.0'),
+                ('MMXU1$MX$Hz', measured(50000, 50000.0),
+                 '{mag {i 50000, f 50000.0}, q good, t 0 ms}'),
+                ('MMXU1$MX$A$phsA', phase_of(measured(-7, -7.0)),
+                 '{cVal {mag {i -7, f -7.0}}, q good, t 0 ms}'),
+                ('MMXU2$MX$Hz', measured(50), '{mag {i 50}, q good, t 0 ms}'),
                 ('GGIO1$ST$Ind1', Data(STRUCTURE, [Data(BOOLEAN, True), Data(BITS, GOOD),
                                                    Data(TIME, 5)]),
                  '{stVal TRUE, q good, t 5 ms}')):
             self.assertEqual(value_text(item, value), told)
+
+
+def measured(value, more=None):
+    """A measured value, with a float if its meter has a scale."""
+    floats = [] if more is None else [Data(FLOAT, more)]
+    return Data(STRUCTURE, [Data(STRUCTURE, [Data(INTEGER, value), *floats]), Data(BITS, GOOD),
+                            Data(TIME, 0)])
+
+
+def phase_of(value):
+    """The measured value of a phase."""
+    magnitude, *stamp = value.value
+    return Data(STRUCTURE, [Data(STRUCTURE, [magnitude]), *stamp])
 
 
 def input_data(value, quality=GOOD, moment=0):
@@ -171,16 +192,26 @@ class Panels(unittest.TestCase):
                 inputs_of(['KEY'], odd)
 
     def test_units(self):
-        phase = Data(STRUCTURE, [Data(STRUCTURE, [Data(STRUCTURE, [Data(INTEGER, 7)])]),
-                                 Data(BITS, GOOD), Data(TIME, 0)])
-        plain = Data(STRUCTURE, [Data(STRUCTURE, [Data(INTEGER, 7)]), Data(BITS, GOOD),
-                                 Data(TIME, 0)])
-        value = Data(STRUCTURE, [plain] * 3 + [Data(STRUCTURE, [phase] * 3)])
+        plain = measured(7, 7.0)
+        value = Data(STRUCTURE, [plain] * 3 + [Data(STRUCTURE, [phase_of(plain)] * 3)])
         units = [it['unit'] for it in measures_of({'id': 'M1', 'scale': 3}, value)]
         self.assertEqual(units, ['kW', 'kVAr', 'kHz', 'kA', 'kA', 'kA'])
         units = [it['unit'] for it in measures_of({'id': 'M1', 'scale': 5}, value)]
         self.assertEqual(units[0], '10^5 W')
         self.assertEqual({it['unit'] for it in measures_of({'id': 'M1'}, value)}, {''})
+
+    def test_measured_values(self):
+        """With floats and without, the panel shows the integers."""
+        for numbers in ((7, 7.0), (7,)):
+            plain = measured(*numbers)
+            value = Data(STRUCTURE, [plain] * 3 + [Data(STRUCTURE, [phase_of(plain)] * 3)])
+            found = measures_of({'id': 'M1'}, value)
+            self.assertEqual([(it['name'], it['value'], it['quality']) for it in found], [
+                (f'M1_{field}', 7, 'good')
+                for field in ('TOTW', 'TOTVAR', 'HZ', 'AA', 'AB', 'AC')])
+            with self.assertRaises(Lost):
+                mixed = Data(STRUCTURE, [plain] * 3 + [Data(STRUCTURE, [plain] * 3)])
+                measures_of({'id': 'M1'}, mixed)
 
     def test_why_not(self):
         key = Variable('KEY', ('0', '1'), True)

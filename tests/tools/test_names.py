@@ -37,6 +37,38 @@ class Titles(unittest.TestCase):
         self.assertEqual(Names().titled('MMXU1$MX$Hz'), 'MMXU1$MX$Hz')
 
 
+class Floats(unittest.TestCase):
+    def test_octets(self):
+        """Floats are those of IEEE 754: the nearest to a number, and of two the even one."""
+        for value, found, digits in (
+                (0.0, 0.0, '00000000'), (1.0, 1.0, '3f800000'), (-1.0, -1.0, 'bf800000'),
+                (16777217.0, 16777216.0, '4b800000'), (-16777219.0, -16777220.0, 'cb800002'),
+                (123456789.0, 123456792.0, '4ceb79a3'), (2147483647.0, 2147483648.0, '4f000000'),
+                (-0.15625, -0.15625, 'be200000')):
+            octets = mms.octets_of(Data(mms.FLOAT, value))
+            self.assertEqual(octets.hex(), f'870508{digits}')
+            self.assertEqual(mms.data_of(mms.FLOAT, octets[2:]), Data(mms.FLOAT, found))
+
+    def test_other_widths(self):
+        """What is no float of 32 bits is its octets."""
+        for digits in ('0b3ff0000000000000', '0800000000', '0b00000000', '080000', ''):
+            octets = bytes.fromhex(digits)
+            value = mms.data_of(mms.FLOAT, octets)
+            self.assertEqual(value.value, 0.0 if digits == '0800000000' else octets)
+            self.assertEqual(mms.octets_of(value)[2:], octets)
+
+    def test_a_type(self):
+        content = bytes.fromhex('020120020108')
+        self.assertEqual(mms.type_of(mms.FLOAT_TYPE, content), 'floating-point 32 8')
+
+    def test_words(self):
+        for value, told in ((0.0, '0.0'), (-1.0, '-1.0'), (2147483648.0, '2147483648.0'),
+                            (words.single(0.1), '0.1'), (words.single(1 / 3), '0.33333334'),
+                            (1e20, '1e+20'), (float('inf'), 'inf'), (float('nan'), 'nan')):
+            self.assertEqual(words.value_text('X', Data(mms.FLOAT, value)), told)
+        self.assertEqual(words.value_text('X', Data(mms.FLOAT, b'\x0b\0')), '0B 00')
+
+
 class Words(unittest.TestCase):
     def test_what_an_operate_does(self):
         for on, told in ((True, 'close'), (False, 'open')):

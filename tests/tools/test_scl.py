@@ -80,7 +80,8 @@ NEEDED = {  # the attributes that an element must have, and their form
     'EnumType': {'id': SOME}, 'EnumVal': {'ord': '-?[0-9]+'}}
 LEAVES = {  # the type that a client sees of a row, by the kind of its value in the cases
     'Truth': 'boolean', 'Int8': 'integer 8', 'Int32': 'integer 32', 'Unsigned8': 'unsigned 8',
-    'Unsigned32': 'unsigned 32', 'Dbpos': 'bit-string 2', 'Quality': 'bit-string 13',
+    'Unsigned32': 'unsigned 32', 'Float': 'floating-point 32 8', 'Dbpos': 'bit-string 2',
+    'Quality': 'bit-string 13',
     'Utc': 'utc-time', 'Octets': 'octet-string -64', 'Reference': 'visible-string -129',
     'Text': 'visible-string -255'}
 
@@ -270,6 +271,17 @@ class Scl(Tools):
             self.assertEqual(given[row], value, row)
         self.assertNotIn('MMXU2$CF$TotW$units$SIUnit', given)
 
+    def test_a_meter_with_a_scale_has_floats(self):
+        nodes = Reader(scl_text(FULL_BAY)).nodes()
+        integer, number = {'i': 'integer 32'}, {'f': 'floating-point 32 8'}
+        for node, magnitude in (('MMXU1', integer | number), ('MMXU2', integer)):
+            measured = nodes[node]['MX']
+            found = [measured[name]['mag'] for name in ('TotW', 'TotVAr', 'Hz')]
+            found += [measured['A'][name]['cVal']['mag'] for name in ('phsA', 'phsB', 'phsC')]
+            self.assertEqual([list(it.items()) for it in found], [list(magnitude.items())] * 6)
+        plain = Reader(scl_text(FULL_BAY.replace('profile = 2\n', '').replace('scale = 3\n', '')))
+        self.assertNotIn('FLOAT32', [it.get('bType') for it in plain.root.iter()])
+
     def test_each_scale_has_a_word(self):
         for scale in range(-6, 7):
             text = scl_text(FULL_BAY.replace('scale = 3', f'scale = {scale}'))
@@ -350,6 +362,17 @@ class Checks(Tools):
                 (without('CILO3'), 'the file has the row CILO3, and the server has it not'),
                 (with_row('XCBR1$ST$Loc$d'),
                  'the server has the row XCBR1$ST$Loc$d, and the file has it not'),
+                (without('MMXU1$MX$Hz$mag$f'),
+                 'the file has the row MMXU1$MX$Hz$mag$f, and the server has it not'),
+                (with_row('MMXU2$MX$Hz$mag$f'),
+                 'the server has the row MMXU2$MX$Hz$mag$f, and the file has it not'),
+                (with_type('MMXU1$MX$A$phsB$cVal$mag$f', 'floating-point 64 11'),
+                 'MMXU1$MX$A$phsB$cVal$mag$f is of type floating-point 64 11 at the server, and '
+                 'floating-point 32 8 in the file'),
+                (with_value('MMXU1$MX$Hz$mag$f', Data(mms.INTEGER, 50)),
+                 'a read of MMXU1$MX$Hz$mag$f has not the type floating-point 32 8'),
+                (with_value('MMXU1$MX$Hz$mag$f', Data(mms.FLOAT, bytes([11] + [0] * 8))),
+                 'a read of MMXU1$MX$Hz$mag$f has not the type floating-point 32 8'),
                 (with_type('LLN0$ST$Health$stVal', 'integer 32'),
                  'LLN0$ST$Health$stVal is of type integer 32 at the server, and integer 8 in the '
                  'file'),
@@ -365,6 +388,22 @@ class Checks(Tools):
             change(model)
             status, lines = self.check(model)
             self.assertEqual((status, lines[0]), (1, told))
+
+    def test_a_float_that_a_file_gives(self):
+        """It is compared as a number: the server has the float that is nearest to it."""
+        for text, value, told in (('16777217', 16777216, ''), ('0.1', 0.1, ''), ('1e3', 1000, ''),
+                                  ('0.1', 0.2, '0.2 at the server, and 0.1 in the file'),
+                                  ('none', 5, '5.0 at the server, and none in the file')):
+            model = self.model()
+            model.values['MMXU1$MX$Hz$mag$f'] = Data(mms.FLOAT, float(value))
+            given = scl_text(FULL_BAY).replace('<DOI name="Hz">', f'''<DOI name="Hz">
+                <SDI name="mag"><DAI name="f"><Val>{text}</Val></DAI></SDI>''', 1)
+            with serve_once(Bay(model)) as server:
+                found = self.call_tool('scl', self.file('bay.icd', given), '--check',
+                                       server.getsockname()[1])
+            self.assertEqual((found.status, found.error), (1 if told else 0, ''))
+            if told:
+                self.assertEqual(found.out.splitlines()[0], f'MMXU1$MX$Hz$mag$f is {told}')
 
     def test_another_device_and_another_order(self):
         model = self.model()

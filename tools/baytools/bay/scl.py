@@ -51,14 +51,18 @@ OPER = CANCEL + [('Check', '', 'Check')]
 ANALOGUE = [('i', '', 'INT32')]
 STRUCTURES = {'Origin': ORIGIN, 'Oper': OPER, 'Cancel': CANCEL, 'Analogue': ANALOGUE,
               'Vector': [('mag', '', 'Struct Analogue')],
+              'ScaledAnalogue': ANALOGUE + [('f', '', 'FLOAT32')],
+              'ScaledVector': [('mag', '', 'Struct ScaledAnalogue')],
               'Unit': [('SIUnit', '', 'Enum SIUnit'), ('multiplier', '', 'Enum multiplier')]}
 UNIT = ('units', 'CF', 'Struct Unit')
 MODEL = ('ctlModel', 'CF', 'Enum CtlModel')
 CONTROLS = {'status': (), 'direct': ('Oper',), 'sbo': ('SBO', 'Oper', 'Cancel'),
             'sbo-enhanced': ('SBOw', 'Oper', 'Cancel')}
 MODELS = {'status': 0, 'direct': 1, 'sbo': 2, 'sbo-enhanced': 4}
-VALUE, PHASE = [[(name, 'MX', kind), ('q', 'MX', 'Quality'), ('t', 'MX', 'Timestamp')]
-                for name, kind in (('mag', 'Struct Analogue'), ('cVal', 'Struct Vector'))]
+VALUE, PHASE, SCALED_VALUE, SCALED_PHASE = [
+    [(name, 'MX', f'Struct {kind}'), ('q', 'MX', 'Quality'), ('t', 'MX', 'Timestamp')]
+    for name, kind in (('mag', 'Analogue'), ('cVal', 'Vector'),
+                       ('mag', 'ScaledAnalogue'), ('cVal', 'ScaledVector'))]
 DATA = {  # the class of a data object, and its attributes
     'Mod': ('ENC', status('Enum Mod', MODEL)),
     'Beh': ('ENS', status('Enum Mod')),
@@ -79,7 +83,7 @@ DATA = {  # the class of a data object, and its attributes
     'Ena': ('SPS', status('BOOLEAN')),
     'Ind': ('SPS', status('BOOLEAN', ('d', 'DC', 'VisString255'))),
     'MV': ('MV', VALUE), 'CMV': ('CMV', PHASE),
-    'MV_units': ('MV', [*VALUE, UNIT]), 'CMV_units': ('CMV', [*PHASE, UNIT])}
+    'MV_units': ('MV', [*SCALED_VALUE, UNIT]), 'CMV_units': ('CMV', [*SCALED_PHASE, UNIT])}
 WYES = {'WYE': 'CMV', 'WYE_units': 'CMV_units'}  # the type of the phases of a WYE
 SWITCH = [('Pos', 'Pos'), ('BlkOpn', 'Blk'), ('BlkCls', 'Blk'), ('OpCnt', 'OpCnt')]
 INTERLOCKING = [('EnaOpn', 'Ena'), ('EnaCls', 'Ena')]

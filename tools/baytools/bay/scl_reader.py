@@ -9,6 +9,7 @@ CONSTRAINTS = ('ST', 'MX', 'CO', 'CF', 'DC')  # in the order in which a server l
 MMS_TYPES = {
     'BOOLEAN': 'boolean', 'INT8': 'integer 8', 'INT16': 'integer 16', 'INT32': 'integer 32',
     'INT8U': 'unsigned 8', 'INT16U': 'unsigned 16', 'INT32U': 'unsigned 32',
+    'FLOAT32': 'floating-point 32 8',
     'Enum': 'integer 8', 'Dbpos': 'bit-string 2', 'Check': 'bit-string 2',
     'Quality': 'bit-string 13', 'Timestamp': 'utc-time', 'Octet64': 'octet-string -64',
     'VisString64': 'visible-string -64', 'VisString129': 'visible-string -129',

@@ -31,12 +31,19 @@ UNREPORTED = '00', 'invalid'  # a position and its quality before the first repo
 # The values that are read, with the types of their parts.
 POSITION = {'stVal': mms.BITS, 'q': mms.BITS, 't': mms.TIME}
 POSITIONS = POSITION | {'stSeld': mms.BOOLEAN}, POSITION
-MEASURED = {'mag': {'i': mms.INTEGER}, 'q': mms.BITS, 't': mms.TIME}
-PHASE = {'cVal': {'mag': {'i': mms.INTEGER}}, 'q': mms.BITS, 't': mms.TIME}
 BEHAVIOUR = {'stVal': mms.INTEGER, 'q': mms.BITS, 't': mms.TIME}
 INPUT = {'stVal': mms.BOOLEAN, 'q': mms.BITS, 't': mms.TIME}
-METER = {**dict.fromkeys(('TotW', 'TotVAr', 'Hz'), MEASURED),
-         'A': dict.fromkeys(('phsA', 'phsB', 'phsC'), PHASE)}
+
+
+def meter_shape(magnitude: dict) -> dict:
+    """The measured values of a meter, by the parts of each."""
+    stamp = {'q': mms.BITS, 't': mms.TIME}
+    return {**dict.fromkeys(('TotW', 'TotVAr', 'Hz'), {'mag': magnitude} | stamp),
+            'A': dict.fromkeys(('phsA', 'phsB', 'phsC'), {'cVal': {'mag': magnitude}} | stamp)}
+
+
+# In profile 2 a meter with a scale has each value as a float, too.
+METERS = [meter_shape({'i': mms.INTEGER} | more) for more in ({}, {'f': mms.FLOAT})]
 
 
 def now() -> int:
@@ -268,8 +275,8 @@ def time_text(moment: int) -> str:
 
 
 def measures_of(meter, value) -> list:
-    """The measured values of a meter."""
-    if not words.fits(METER, value):
+    """The measured values of a meter, each as its integer."""
+    if not any(words.fits(shape, value) for shape in METERS):
         raise Lost(f'the server gives {meter["id"]} values of another type')
     *plain, phases = value.value
     found = [(part.value[0].value[0].value, part.value[1].value) for part in plain]

@@ -1,14 +1,17 @@
 """MMS (ISO 9506-2): PDUs and data, out of octets and into them."""
+import struct
 from dataclasses import dataclass, field
 
 from . import ber
 from .ber import Unreadable, element, number
 
 STRUCTURE, BOOLEAN, BITS, INTEGER = 0xA2, 0x83, 0x84, 0x85
-UNSIGNED, OCTETS, TEXT, TIME = 0x86, 0x89, 0x8A, 0x91
+UNSIGNED, FLOAT, OCTETS, TEXT, TIME = 0x86, 0x87, 0x89, 0x8A, 0x91
 KINDS = {STRUCTURE: 'structure', BOOLEAN: 'boolean', BITS: 'bit-string', INTEGER: 'integer',
-         UNSIGNED: 'unsigned', OCTETS: 'octet-string',
+         UNSIGNED: 'unsigned', FLOAT: 'floating-point', OCTETS: 'octet-string',
          TEXT: 'visible-string', TIME: 'utc-time'}
+FLOAT_TYPE = 0xA7  # a structure, where the other types are numbers
+SINGLE = b'\x08'  # the bits of the exponent of a float of 32 bits, before its four octets
 SERVICES = {0xA0: 'status', 0xA1: 'names', 0x82: 'identify', 0xA3: 'rename', 0xA4: 'read',
             0xA5: 'write', 0xA6: 'attributes'}
 DEEPEST = 10
@@ -17,7 +20,7 @@ DEEPEST = 10
 @dataclass
 class Data:
     """A value. A structure holds Data, bits are a text of 0 and 1, a time is in milliseconds since
-    1970, or its octets where these aren't 8."""
+    1970, or its octets where these aren't 8; a float of 32 bits is a float, another its octets."""
     tag: int
     value: object
 
@@ -85,6 +88,8 @@ def data_of(tag, content, depth=1) -> 'Data':
         return Data(tag, bits[:len(bits) - ber.octet(content, 0)])
     if tag == TIME and len(content) == 8:
         return Data(tag, moment_of(content))
+    if tag == FLOAT and content[:1] == SINGLE and len(content) == 5:
+        return Data(tag, struct.unpack('>f', content[1:])[0])
     return Data(tag, text(content) if tag == TEXT else content)
 
 
@@ -109,6 +114,8 @@ def octets_of(data) -> bytes:
     if tag == TIME and not isinstance(value, bytes):
         seconds, rest = divmod(value, 1000)
         return element(tag, seconds.to_bytes(4), ((rest << 24) // 1000).to_bytes(3), b'\x2a')
+    if tag == FLOAT and not isinstance(value, bytes):
+        return element(tag, SINGLE, struct.pack('>f', value))
     return element(tag, value.encode() if tag == TEXT else value)
 
 
@@ -196,13 +203,17 @@ def response_of(content) -> 'Pdu':
 
 
 def type_of(tag, content, depth=1) -> str | list:
-    """A type: the name of its kind with its size, or a list of names and types."""
+    """A type: the name of its kind with its size, of a float with that of its exponent, too, or a
+    list of names and types."""
     if depth > DEEPEST:
         raise Unreadable('a type more than 10 deep')
     if tag == STRUCTURE:
         parts = (part for _, part in ber.elements(ber.need(content, 0xA1)))
         return [(text(ber.need(part, 0x80)),
                  type_of(*several(ber.need(part, 0xA1), 1)[0], depth + 1)) for part in parts]
+    if tag == FLOAT_TYPE:
+        sizes = (ber.integer(it) for _, it in several(content, 2))
+        return ' '.join([KINDS[FLOAT], *map(str, sizes)])
     size = ber.integer(content) if content else None
     return KINDS.get(tag, f'{tag:02X}') + (f' {size}' if size is not None else '')
 

@@ -8,7 +8,7 @@ from baytools.bay.scl_reader import Reader
 from . import mms
 from .client import Client, Refused
 from .mms import Data, Failure
-from .words import value_text
+from .words import float_text, single, value_text
 
 TAGS = {word: tag for tag, word in mms.KINDS.items() if tag != mms.STRUCTURE}
 CONTROL = 'CO'
@@ -94,14 +94,34 @@ def differing_values(name: str, value: Data, told, given: dict[str, str]) -> Ite
         for part, found in zip(told, value.value):
             yield from differing_values(f'{name}${part}', found, told[part], given)
         return
-    kind, _, size = told.partition(' ')
-    if value.tag != TAGS.get(kind) or kind == 'bit-string' and len(value.value) != int(size):
+    if not has_type(value, told):
         yield f'a read of {name} has not the type {told}'
-    elif name in given and plain_text(value) != given[name]:
+    elif name in given and not is_given(value, given[name]):
         yield f'{name} is {plain_text(value)} at the server, and {given[name]} in the file'
+
+
+def has_type(value: Data, told: str) -> bool:
+    """Whether a value may have a type: its kind, and of bits and floats its size, too."""
+    kind, _, size = told.partition(' ')
+    if value.tag == mms.BITS == TAGS.get(kind):
+        return len(value.value) == int(size)
+    if value.tag == mms.FLOAT == TAGS.get(kind):
+        return isinstance(value.value, float)
+    return value.tag == TAGS.get(kind)
+
+
+def is_given(value: Data, text: str) -> bool:
+    """Whether a value is the one that an SCL file gives: of a float, the nearest to its number."""
+    if value.tag != mms.FLOAT:
+        return plain_text(value) == text
+    try:
+        return value.value == single(float(text))
+    except ValueError:
+        return False
 
 
 def plain_text(value: Data) -> str:
     """A value as an SCL file writes it, of an enumeration its number."""
-    return {True: 'true', False: 'false'}[value.value] if value.tag == mms.BOOLEAN else str(
-        value.value)
+    if value.tag == mms.BOOLEAN:
+        return 'true' if value.value else 'false'
+    return float_text(value.value) if value.tag == mms.FLOAT else str(value.value)

@@ -1,5 +1,7 @@
 """What stands in MMS, in the words of those who switch: positions, qualities, causes, errors, names
 of a bay."""
+import struct
+
 from baytools.common import moments, positions
 
 from . import mms
@@ -76,6 +78,9 @@ CONTROLS = {'status': {}, 'direct': {'Oper': OPER},
 # What profile 2 adds, in the order of IEC 61850-7-4.
 BEHAVIOUR = {'Beh': VALUE}
 PLATE = {'DC': {'NamPlt': dict.fromkeys(('vendor', 'swRev', 'd'))}}
+MAGNITUDE = {'mag': dict.fromkeys(('i', 'f'))}
+SCALED_METER = {'MX': dict.fromkeys(('TotW', 'TotVAr', 'Hz'), MEASURED | MAGNITUDE) | {
+    'A': dict.fromkeys(('phsA', 'phsB', 'phsC'), CURRENT | {'cVal': MAGNITUDE})}}
 FULL_PLATE = {'DC': {'NamPlt': dict.fromkeys(('vendor', 'swRev', 'd', 'configRev', 'ldNs'))}}
 UNIT = {'units': dict.fromkeys(('SIUnit', 'multiplier'))}
 METER_UNITS = {'CF': dict.fromkeys(('TotW', 'TotVAr', 'Hz'), UNIT)
@@ -111,8 +116,8 @@ NODES = {  # the shapes that a node may have, those of profile 1 first
     'XSWI': [SWITCH | {'ST': SWITCH['ST'] | {'SwTyp': VALUE}}, switch_shape('SwTyp', 'SwOpCap')],
     'CSWI': [*control_shapes({}, {}), *control_shapes(BEHAVIOUR, PLATE)],
     'CILO': [INTERLOCKING, {'ST': BEHAVIOUR | INTERLOCKING['ST']} | PLATE],
-    'MMXU': [METER, {'ST': BEHAVIOUR} | METER | PLATE, {'ST': BEHAVIOUR} | METER | METER_UNITS
-             | PLATE],
+    'MMXU': [METER, {'ST': BEHAVIOUR} | METER | PLATE,
+             {'ST': BEHAVIOUR} | SCALED_METER | METER_UNITS | PLATE],
     'GGIO': [inputs_shape(count) for count in range(1, MOST_INPUTS + 1)]}
 
 
@@ -175,6 +180,8 @@ def leaf_text(words, value) -> str:
         return moment_text(it)
     if tag == mms.TEXT:
         return in_quotes(it)
+    if isinstance(it, float):
+        return float_text(it)
     if tag == mms.INTEGER and word in ('ctlModel', 'orCat', 'stVal', 'SIUnit'):
         named = {'ctlModel': CONTROL_MODELS, 'orCat': dict(enumerate(ORIGINATORS)),
                  'stVal': STATES.get(owner, {}), 'SIUnit': UNITS}[word].get(it)
@@ -201,6 +208,23 @@ def moment_text(moment) -> str:
     if not moments.is_clock(moment):
         return f'{moment} ms'
     return moments.stamp_text(moment)
+
+
+def float_text(value) -> str:
+    """A float of 32 bits: a whole number with all its digits, and another with as few as say which
+    float it is."""
+    if value.is_integer() and abs(value) < 1e15:
+        return str(value)
+    texts = [f'{value:.{digits}g}' for digits in range(1, 10)]
+    return next((text for text in texts if single(float(text)) == value), texts[-1])
+
+
+def single(value) -> float:
+    """The float of 32 bits that is nearest to a number; if that is too great, the number itself."""
+    try:
+        return struct.unpack('>f', struct.pack('>f', value))[0]
+    except OverflowError:
+        return value
 
 
 def octets_text(octets) -> str:
