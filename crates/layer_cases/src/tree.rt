@@ -43,6 +43,7 @@ fn leaf_of(alloc: Global, kind: &str, value: &str) -> Result<Option<Leaf>> {
         "int32" => Leaf::Int32(value.parse::<i32>()?),
         "unsigned8" => Leaf::Unsigned8(value.parse::<u8>()?),
         "unsigned32" => Leaf::Unsigned32(value.parse::<u32>()?),
+        "float" => Leaf::Float(value.parse::<i32>()?),
         "octets" => Leaf::Octets(Listing::new(octets_of(alloc, value)?)),
         "reference" => Leaf::Reference(Text::from_str(alloc, value)?),
         "text" => Leaf::Text(Text::from_str(alloc, value)?),
