@@ -17,6 +17,7 @@ def sessions_of_others(checks) -> None:
     found, status = checks.run('explain', capture, '--bay', bay)
     checks.wants('their capture in words', found, status, [
         'asks 1: the names of the server, domains', 'GGIO1$DC$Ind1$d (SPRING) = \'SPRING\'',
+        'MMXU1$MX$TotW$mag$f (M1_TOTW, W) = 0.0', 'mag {i integer 32, f floating-point 32 8}',
         'operate QB1 open has ended: done', 'is refused: blocked by interlocking (10)'], 0)
 
 
