@@ -19,7 +19,6 @@ TITLE = re.compile(r'^(?:# (?!Shows )|== note (?!Shows )|== (?=report|eight|host
 ONE_LINE = 'no case can: each lack of memory of a load is told by the same line'
 OWN_RUNS = 'it speaks of definitions, on runs of its own'
 NONE = {
-    'P-011': 'each run of each case shows it: none prints two commands of an event',
     'P-014': 'no program of cases keeps what led to its controls',
     'P-037': 'no case can: nothing else makes a typed program',
     'P-053': ONE_LINE,
@@ -27,7 +26,6 @@ NONE = {
     'P-058': ONE_LINE,
     'P-071': 'no case can: it speaks of every run',
     'P-082': 'no case looks at what is lent behind a later piece',
-    'P-124': 'no trial refuses memory to a server that begins',
     'P-140': OWN_RUNS,
     'P-141': OWN_RUNS,
     'P-147': 'no case can: it speaks of every run',
