@@ -155,6 +155,23 @@ def closings(checks) -> None:
                      sorted(closed) == sorted(numbers), f'{numbers}, {server.printed()!r}')
 
 
+# Shows P-129.
+def reasons(checks) -> None:
+    """A client that goes is closed with 0; one that stays and sends no TPKT, or a TPDU that is
+    malformed, is closed with the number of that fault."""
+    with Server(checks.bayctl, BAY, LOGIC) as server:
+        server.client().close()
+        for why, octets in ((0, None), (10, b'\x04\0\0\0'), (11, bytes.fromhex('0300000803f08005'))):
+            with connect(server.port) as one:
+                number = number_of(one)
+                if octets is None:
+                    one.close()
+                else:
+                    one.sendall(octets)
+                checks.holds(f'what is closed with {why} has another number',
+                             prints(server, f' closed {number} {why}\n'), server.printed())
+
+
 # Shows P-122.
 def eight(checks) -> None:
     """Eight clients are served; a ninth waits until one of them goes."""
@@ -356,6 +373,7 @@ def all_of(checks) -> None:
     """Does all of it. The connections that are silent for ten seconds are so meanwhile."""
     silent = threading.Thread(target=checks.run_part, args=(silence,))
     silent.start()
-    for part in (clients, closings, eight, moments, turns, cycles, pieces, wakes, rests, unread):
+    for part in (clients, closings, reasons, eight, moments, turns, cycles, pieces, wakes, rests,
+                 unread):
         checks.run_part(part)
     silent.join()

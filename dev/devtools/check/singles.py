@@ -1,5 +1,6 @@
-"""Several operates in one event: in one write, and in messages that come together. Each check has
-the name of the wrong behaviour that it refuses."""
+"""Several operates in one event: in one write, and in messages that come together; and the results
+of reads and writes of several variables. Each check has the name of the wrong behaviour that it
+refuses."""
 from baytools.wire import mms, stream
 
 from .limits import bay, replay
@@ -9,6 +10,8 @@ BAY = bay(2).replace('sbo-enhanced', 'direct').replace('sbo_timeout_ms = 5000\n'
 LOGIC = ('PROGRAM P\nVAR_EXTERNAL\nQA1_ENA_OPN, QA1_ENA_CLS, QA2_ENA_OPN, QA2_ENA_CLS : BOOL;\n'
          'END_VAR\nLD TRUE\nST QA1_ENA_OPN\nST QA1_ENA_CLS\nST QA2_ENA_OPN\nST QA2_ENA_CLS\n'
          'END_PROGRAM\n')
+# The same two, which are selected by a read.
+SELECTED = BAY.replace('direct"\n', 'sbo"\nsbo_timeout_ms = 5000\n')
 FIRST, SECOND = (f'BAY1/CSWI{at}$CO$Pos$Oper' for at in (1, 2))
 
 
@@ -18,16 +21,35 @@ def write_of(*names: str) -> bytes:
     return stream.tpkt_frames(stream.data_tsdu(pdu))
 
 
-def commands_for(checks, octets: bytes) -> list[str]:
-    """The commands that a replay prints in which a client sends these octets in one event."""
+def replay_of(checks, of_bay: str, octets: bytes) -> str:
+    """What a replay prints in which a client of a bay of two switches, each of which is open and
+    released, sends these octets in one event."""
     opening = stream.connection_request(), stream.tpkt_frames(
         stream.association_request(mms.initiate_request(65_000)))
     trace = '1000 contact QA1 1\n1000 contact QA2 1\n1000 scan\n1000 open 1\n' + ''.join(
         f'1000 recv 1 {it.hex()}\n' for it in (*opening, octets))
-    printed = replay(checks, f'{BAY}%%\n{LOGIC}%%\n{trace}')
-    checks.holds('operates of two switches in one event are not read',
+    printed = replay(checks, f'{of_bay}%%\n{LOGIC}%%\n{trace}')
+    checks.holds('what a client sends in one event is not read',
                  printed.endswith('status 0') and 'closed' not in printed, printed)
-    return [line for line in printed.splitlines() if ' command ' in line]
+    return printed
+
+
+def commands_for(checks, octets: bytes) -> list[str]:
+    """The commands that a replay prints for these octets."""
+    return [line for line in replay_of(checks, BAY, octets).splitlines() if ' command ' in line]
+
+
+def results_for(checks, pdu: bytes) -> list:
+    """The results of a read or a write that comes alone."""
+    return results_of(replay_of(checks, SELECTED, stream.tpkt_frames(stream.data_tsdu(pdu))))
+
+
+def results_of(printed: str) -> list:
+    """The results in the last answer: values, errors by their numbers, and None for a success."""
+    answers, octets = stream.Stream(), b''.join(
+        bytes.fromhex(line.split(' ')[3]) for line in printed.splitlines() if ' send 1 ' in line)
+    pdus = [mms.read_pdu(got.octets) for got in answers.feed(octets) if got.kind == 'mms']
+    return [it.code if isinstance(it, mms.Failure) else it and it.value for it in pdus[-1].data]
 
 
 # Shows P-011.
@@ -45,4 +67,23 @@ def several_operates(checks) -> None:
                      found == ['1000 command QA1 on'], str(found))
 
 
-PARTS = (several_operates,)
+# Shows P-094.
+def several_results(checks) -> None:
+    """The results of a read and of a write stand in the order of their variables: values, a text,
+    an error and a success."""
+    select, released = 'BAY1/CSWI2$CO$Pos$SBO', 'BAY1/CILO1$ST$EnaOpn$stVal'
+    found = results_for(checks, mms.read_request(
+        1, [released, 'BAY1/none', select, 'BAY1/XSWI1$ST$Pos$stVal', 'BAY1/CSWI1$CO$Pos$SBO']))
+    checks.holds('results of a read stand in another order, or are others',
+                 found == [True, 10, 'BAY1/CSWI2$CO$Pos$SBO', '01', ''], str(found))
+    pdus = mms.read_request(1, [select]), mms.write_request(
+        2, [released, SECOND, FIRST], [mms.Data(mms.BOOLEAN, True), *[mms.control(True)] * 2])
+    found = results_for(checks, pdus[1])
+    checks.holds('a write without a select has a success', None not in found, str(found))
+    octets = b''.join(stream.tpkt_frames(stream.data_tsdu(it)) for it in pdus)
+    found = results_of(replay_of(checks, SELECTED, octets))
+    checks.holds('results of a write stand in another order, or are others',
+                 found == [3, None, 3], str(found))
+
+
+PARTS = (several_operates, several_results)
