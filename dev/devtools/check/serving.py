@@ -161,7 +161,8 @@ def reasons(checks) -> None:
     malformed, is closed with the number of that fault."""
     with Server(checks.bayctl, BAY, LOGIC) as server:
         server.client().close()
-        for why, octets in ((0, None), (10, b'\x04\0\0\0'), (11, bytes.fromhex('0300000803f08005'))):
+        for why, octets in ((0, None), (10, b'\x04\0\0\0'),
+                            (11, bytes.fromhex('0300000803f08005'))):
             with connect(server.port) as one:
                 number = number_of(one)
                 if octets is None:
