@@ -1,6 +1,6 @@
-"""Several operates in one event: in one write, and in messages that come together; and the results
-of reads and writes of several variables. Each check has the name of the wrong behaviour that it
-refuses."""
+"""Several operates in one event: in one write, and in messages that come together; the results of
+reads and writes of several variables; and which values an event changes. Each check has the name of
+the wrong behaviour that it refuses."""
 from baytools.wire import mms, stream
 
 from .limits import bay, replay
@@ -21,13 +21,15 @@ def write_of(*names: str) -> bytes:
     return stream.tpkt_frames(stream.data_tsdu(pdu))
 
 
-def replay_of(checks, of_bay: str, octets: bytes) -> str:
+def replay_of(checks, of_bay: str, octets: bytes, more: str = '') -> str:
     """What a replay prints in which a client of a bay of two switches, each of which is open and
-    released, sends these octets in one event."""
+    released, sends these octets in one event, and once more after further lines, if there are
+    any."""
     opening = stream.connection_request(), stream.tpkt_frames(
         stream.association_request(mms.initiate_request(65_000)))
     trace = '1000 contact QA1 1\n1000 contact QA2 1\n1000 scan\n1000 open 1\n' + ''.join(
         f'1000 recv 1 {it.hex()}\n' for it in (*opening, octets))
+    trace += more and f'{more}2000 recv 1 {octets.hex()}\n'
     printed = replay(checks, f'{of_bay}%%\n{LOGIC}%%\n{trace}')
     checks.holds('what a client sends in one event is not read',
                  printed.endswith('status 0') and 'closed' not in printed, printed)
@@ -45,11 +47,17 @@ def results_for(checks, pdu: bytes) -> list:
 
 
 def results_of(printed: str) -> list:
-    """The results in the last answer: values, errors by their numbers, and None for a success."""
+    """The results in the last answer."""
+    return all_results(printed)[-1]
+
+
+def all_results(printed: str) -> list[list]:
+    """The results in each answer: values, errors by their numbers, and None for a success."""
     answers, octets = stream.Stream(), b''.join(
         bytes.fromhex(line.split(' ')[3]) for line in printed.splitlines() if ' send 1 ' in line)
     pdus = [mms.read_pdu(got.octets) for got in answers.feed(octets) if got.kind == 'mms']
-    return [it.code if isinstance(it, mms.Failure) else it and it.value for it in pdus[-1].data]
+    return [[it.code if isinstance(it, mms.Failure) else it and it.value for it in pdu.data]
+            for pdu in pdus]
 
 
 # Shows P-011.
@@ -86,4 +94,21 @@ def several_results(checks) -> None:
                  found == [3, None, 3], str(found))
 
 
-PARTS = (several_operates, several_results)
+# Shows P-076.
+def one_contact(checks) -> None:
+    """A contact changes the values of its switch, and no other; all are read by the names that they
+    had."""
+    names = [f'BAY1/{node}{at}$ST$Pos${part}' for node in ('XSWI', 'CSWI') for at in (1, 2)
+             for part in ('stVal', 'q', 't')]
+    names += [f'BAY1/CILO{at}$ST${way}$stVal' for at in (1, 2) for way in ('EnaOpn', 'EnaCls')]
+    read = stream.tpkt_frames(stream.data_tsdu(mms.read_request(1, names)))
+    before, after = all_results(replay_of(checks, BAY, read, '1500 contact QA1 2\n'))[-2:]
+    changed = {name: value for name, value, old in zip(names, after, before) if value != old}
+    checks.holds('a contact changes other values than those of its switch', changed == {
+        f'BAY1/{node}1$ST$Pos${part}': value for node in ('XSWI', 'CSWI')
+        for part, value in (('stVal', '10'), ('t', 1500))}, str(changed))
+    checks.holds('a value changes its type',
+                 [type(it) for it in before] == [type(it) for it in after], f'{before}, {after}')
+
+
+PARTS = (several_operates, several_results, one_contact)
