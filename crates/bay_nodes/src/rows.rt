@@ -18,7 +18,7 @@ use crate::names::{
 use crate::profile::Profile;
 use crate::subject::Subject;
 use crate::switch::Switch;
-use crate::tables as tables;
+use crate::{meter_tables as meter_tables, tables as tables};
 use bay_base::listing::Listing;
 use bay_base::switch::Control;
 use bay_base::text::Text;
@@ -254,8 +254,8 @@ fn push_meter(
     let node = name.as_str();
     let subject = Subject::Meter(meter);
     let scaled = meter.scale.is_some();
-    let first = tables::meter_table(nameplate.profile, scaled);
-    let last = tables::meter_settings_table(nameplate.profile, scaled);
+    let first = meter_tables::meter_table(nameplate.profile, scaled);
+    let last = meter_tables::meter_settings_table(nameplate.profile, scaled);
     push_node(alloc, rows, nameplate, subject, node, first)?;
     push_table(alloc, rows, nameplate, subject, node, last)?;
     Ok(())
