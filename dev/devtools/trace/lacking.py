@@ -57,8 +57,6 @@ NO_EDIT = {
     'bay_device_example_laws a_select_backs_its_own_operate': DEFINITIONS,
     'bay_audit_rules conditions_have_truths': 'it is about conditions as they are read; the '
         'edits of reading are at `read_rules`',
-    'bay_server_turn Server::new': 'its clause has the whole value, a device and eight empty '
-                                   'queues, and no edit is spent on it',
     'cmd_audit_laws the_last_scan_releases_a_command': DEFINITIONS,
     'il_compile programs_have_a_meaning': DEFINITIONS}
 
