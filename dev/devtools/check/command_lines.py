@@ -166,14 +166,17 @@ def late(checks) -> None:
     words = ['serve', '--log', '--turns', str(count), '--port', str(free_port()),
              '--bay', checks.file('late.toml', bay()), '--logic', checks.file('late.il', LOGIC),
              '--trace', checks.file('late.trace', '0 contact NONE 1\n' * count)]
-    with subprocess.Popen([checks.bayctl, *words], stdout=subprocess.PIPE,
-                          stderr=subprocess.PIPE) as server:
-        fcntl.fcntl(server.stdout, fcntl.F_SETPIPE_SZ, 4_096)
+    reader, writer = os.pipe()
+    fcntl.fcntl(writer, fcntl.F_SETPIPE_SZ, 4_096)
+    with (open(reader, 'rb') as output,
+          subprocess.Popen([checks.bayctl, *words], stdout=writer,
+                           stderr=subprocess.PIPE) as server):
+        os.close(writer)
         log = b''
         while b' all turns are served' not in log and (line := server.stderr.readline()):
             log += line
         time.sleep(0.3)
-        out = server.stdout.read()
+        out = output.read()
         log += server.stderr.read()
     checks.holds('a reader that is late at the end loses output', server.returncode == 0
                  and out.count(b' refused 113\n') == count, f'{server.returncode} {out!r} {log!r}')
