@@ -15,6 +15,9 @@
 -- `AssociationStates`: the state of an association within a turn, as open or closed with a queue
 -- that will be offered once more; which of these accept replies.
 --
+-- `Recorded`: the record of a session. An event adds its line as a whole, or ends the record; a write
+-- hands what waits to the file, which takes a front of it.
+--
 -- `Served`: why a turn is refused, and what a turn promises that is not: there is a script such
 -- that the calls, the server after the turn and its report are the script's. `Supervised`: the
 -- lines of a supervised process, each with its moment. `Room`: a turn reports each closed
@@ -25,11 +28,13 @@
 pub use Rattle.bay_device.specs.Device
 pub use Rattle.bay_device.specs.Outcomes
 pub use Rattle.bay_trace.specs.Resolving
+pub use Rattle.bay_trace.specs.Recording
 pub use Rattle.bay_trace.specs.Trace
 -- Its own definitions.
 pub mod Calls
 pub mod Code
 pub mod Offers
+pub mod Recorded
 pub mod Room
 pub mod Served
 pub mod AssociationStates

@@ -151,9 +151,10 @@ module _ {L : Type 0} (step : L → Call → L → Type 0) where
   -- There is a script, of the results of an accept, eight reads (none, if the turn skips reads) and
   -- eight offers and of where memory ran out, such that the calls on the link, the server after them and the report of the
   -- turn are those of the script.
-  pub record Serves (old new : L) (now : ℕ) (given : ProcessReport) (before after : ServerData)
-      (turn : Turn) : Type 0 where
+  pub record Serves (old new : L) (now : ℕ) (given : ProcessReport) (source : List ℕ)
+      (before after : ServerData) (turn : Turn) : Type 0 where
     pub script : Script
+    pub source_is : script.source ≡ source
     pub all_read : length script.readings ≡ reading_count given
     pub all_offered : length script.offers ≡ associations
     pub makes : MakesCalls step old (turn_calls now given script before) new

@@ -1,5 +1,5 @@
 -- A turn of the server, as a function of what the link and the memory decide.
-use Rattle.std.specs.Prelude.{ℕ, zero, suc, ◌+◌, max, nat_le, Bool, if◌then◌else◌, List, [], ◌∷◌, ◌++◌, length, position, replicate, slice_set, Option, Some, None, is_none, is_some, Result, Ok, Err}
+use Rattle.std.specs.Prelude.{◌≡◌, ℕ, zero, suc, ◌+◌, max, nat_le, Bool, if◌then◌else◌, List, [], ◌∷◌, ◌++◌, length, position, replicate, slice_set, Option, Some, None, is_none, is_some, Result, Ok, Err}
 use Rattle.std.specs.List.{slice_index_or}
 use Rattle.std.specs.declared.net.socket_addr.SocketAddrV4.{SocketAddrV4}
 use Rattle.bay_mms_services.specs.declared.answer.Command.{Command}
@@ -17,19 +17,34 @@ use Rattle.bay_device.specs.declared.fault.StepFault.{StepFault}
 use Rattle.bay_trace.specs.Resolving.{borrow_of}
 use Rattle.bay_server_turn.specs.Calls.{Call, Accepts, Reads, Closes, ReadOutcome, Octets, Silence, StreamEnd, Failure}
 use Rattle.bay_server_turn.specs.Offers.{Offer, OfferOutcome, offer_outcome}
+use Rattle.bay_server_turn.specs.Recorded.{Recording, WritesRecording, recorded}
 use Rattle.bay_server_turn.specs.AssociationStates.{after_full, is_full, is_draining, is_close_reported, accepts_replies}
 use Rattle.bay_server_turn.specs.declared.process_input.ProcessEvent.{ProcessEvent}
 use Rattle.bay_server_turn.specs.declared.process_input.ProcessEvent.TheVariants as process
 use Rattle.bay_server_turn.specs.declared.process_input.ProcessReport.{ProcessReport}
 use Rattle.bay_server_turn.specs.declared.association_state.AssociationState.{AssociationState}
 use Rattle.bay_server_turn.specs.declared.association_state.AssociationState.TheVariants.{Steady, Draining, Closed}
+use Rattle.bay_server_turn.specs.declared.record.RecordEnd.{RecordEnd}
 use Rattle.bay_server_turn.specs.declared.turn_report.CloseReason.{CloseReason}
 use Rattle.bay_server_turn.specs.declared.turn_report.CloseReason.TheVariants as closing
 
--- the device, and for each association the octets that are still to be sent to it
+-- the device; for each association the octets that are still to be sent to it; and the record of
+-- the session, if it is recorded
 pub record ServerData : Type 0 where
   pub device : State
   pub queues : List (List ℕ)
+  pub recording : Option Recording
+
+-- a server with another record
+abbrev pub with_recording : Option Recording → ServerData → ServerData
+with_recording recording h = record h { recording = recording }
+
+-- What was recorded is written, and the server is otherwise as it was. The answer is why the record
+-- has ended, if that was not reported before.
+pub record WritesRecord (old new : ServerData) (answer : Option RecordEnd) : Type 0 where
+  pub took : List ℕ
+  pub writes : WritesRecording took old.recording new.recording answer
+  pub kept : new ≡ with_recording new.recording old
 
 -- what a turn collects: the state of each association, and the report; for each association what
 -- was decided on the controls that it requested, if the device handled octets of it
@@ -79,11 +94,11 @@ state_at slot s = noted_state slot s.noted
 -- the state with another device
 abbrev pub with_device : State → TurnState → TurnState
 with_device device s =
-    record { server = record { device = device; queues = s.server.queues }; noted = s.noted }
+    record { server = record s.server { device = device }; noted = s.noted }
 
 -- a server with another queue of an association
 abbrev pub put_queue : ℕ → List ℕ → ServerData → ServerData
-put_queue slot queue h = record { device = h.device; queues = slice_set h.queues slot queue }
+put_queue slot queue h = record h { queues = slice_set h.queues slot queue }
 
 -- a turn with another queue of an association
 abbrev pub with_queue : ℕ → List ℕ → TurnState → TurnState
@@ -161,6 +176,14 @@ put_ended (Some sent) s = put_sent sent s
 
 -- ---- steps of the device
 
+-- An event is recorded, if the session is; an event of the process with the line that it was read
+-- from.
+abbrev pub with_recorded : ℕ → List ℕ → Event → TurnState → TurnState
+with_recorded now source event s = record {
+  server = record s.server { recording = recorded now source event s.server.recording };
+  noted = s.noted;
+}
+
 -- after an event that sends nothing but the report that an operation ended
 abbrev pub put_quiet : Result Step StepFault → TurnState → TurnState
 put_quiet (Err fault) s = s
@@ -173,7 +196,8 @@ quiet_after o s = put_quiet o.answer (with_device o.after s)
 
 -- an event at a turn's moment
 abbrev pub after_event : ℕ → Event → TurnState → TurnState
-after_event now event s = quiet_after (outcome None now event s.server.device) s
+after_event now event s =
+    with_recorded now [] event (quiet_after (outcome None now event s.server.device) s)
 
 -- An association is closed at once, and the rest of its queue is lost.
 unfoldable pub close_at_once : ℕ → CloseReason → ℕ → TurnState → TurnState
@@ -305,7 +329,8 @@ answer_after slot o s = put_answer slot o.answer (with_device o.after s)
 -- octets of an association are handled
 abbrev pub after_octets : ℕ → ℕ → Option ℕ → List ℕ → TurnState → TurnState
 after_octets now slot choice octets s =
-    answer_after slot (outcome choice now (Recv (slot + 1) (borrow_of octets)) s.server.device) s
+    with_recorded now [] (Recv (slot + 1) (borrow_of octets))
+    (answer_after slot (outcome choice now (Recv (slot + 1) (borrow_of octets)) s.server.device) s)
 
 -- the client sends no more
 abbrev pub after_end : ℕ → ℕ → TurnState → TurnState
@@ -360,24 +385,27 @@ record_refusal (Ok step) s = put_ended step.ended s
 abbrev pub after_reported : Outcome → TurnState → TurnState
 after_reported o s = record_refusal o.answer (with_device o.after s)
 
--- an event of the process is applied at the turn's moment
-abbrev pub after_process_event : ℕ → ProcessEvent → TurnState → TurnState
-after_process_event now event s =
-    after_reported (outcome None now (event_of event) s.server.device) s
+-- an event of the process is applied at the turn's moment; it was read from this line
+abbrev pub after_process_event : ℕ → List ℕ → ProcessEvent → TurnState → TurnState
+after_process_event now source event s =
+    with_recorded now source (event_of event)
+    (after_reported (outcome None now (event_of event) s.server.device) s)
 
 -- the event that a turn applies before it reads: the loss of the process, if it is lost
 abbrev pub loss_event : ProcessReport → Option ProcessEvent
 loss_event given = if given.is_lost then Some process.Lost else None
 
 -- the event of the process is applied, if there is one
-abbrev pub with_event : ℕ → Option ProcessEvent → TurnState → TurnState
-with_event now None s = s
-with_event now (Some event) s = after_closing_full now (after_process_event now event s)
+abbrev pub with_event : ℕ → List ℕ → Option ProcessEvent → TurnState → TurnState
+with_event now source None s = s
+with_event now source (Some event) s =
+    after_closing_full now (after_process_event now source event s)
 
 -- the calls on the link after the event of the process, if there is one
-abbrev pub event_calls : ℕ → Option ProcessEvent → TurnState → List Call
-event_calls now None s = []
-event_calls now (Some event) s = calls_closing_full now (after_process_event now event s)
+abbrev pub event_calls : ℕ → List ℕ → Option ProcessEvent → TurnState → List Call
+event_calls now source None s = []
+event_calls now source (Some event) s =
+    calls_closing_full now (after_process_event now source event s)
 
 -- the program runs once
 abbrev pub after_turn_scan : ℕ → TurnState → TurnState
@@ -442,9 +470,10 @@ calls_of_each f calls slot [] s = []
 calls_of_each f calls slot (c ∷ cs) s =
     calls slot c s ++ calls_of_each f calls (slot + 1) cs (f slot c s)
 
--- all that a turn does not decide itself: whether a connection waited, what each association
--- brought, and what the link took of each queue
+-- all that a turn does not decide itself: the line that the event of the process was read from,
+-- whether a connection waited, what each association brought, and what the link took of each queue
 pub record Script : Type 0 where
+  pub source : List ℕ
   pub accepted : Option (Option SocketAddrV4)
   pub readings : List Reading
   pub offers : List Offer
@@ -475,7 +504,8 @@ after_accept now script h = with_accept now script.accepted (turn_begin h)
 
 -- after the loss of the process, if it is lost
 abbrev pub after_loss : ℕ → ProcessReport → Script → ServerData → TurnState
-after_loss now given script h = with_event now (loss_event given) (after_accept now script h)
+after_loss now given script h =
+    with_event now script.source (loss_event given) (after_accept now script h)
 
 -- after the reads
 abbrev pub after_reads : ℕ → ProcessReport → Script → ServerData → TurnState
@@ -484,7 +514,8 @@ after_reads now given script h =
 
 -- after the event of the process, if there is one
 abbrev pub after_line : ℕ → ProcessReport → Script → ServerData → TurnState
-after_line now given script h = with_event now given.event (after_reads now given script h)
+after_line now given script h =
+    with_event now script.source given.event (after_reads now given script h)
 
 -- after the scan
 abbrev pub after_scan : ℕ → ProcessReport → Script → ServerData → TurnState
@@ -501,10 +532,10 @@ after_turn now given script h =
 abbrev pub turn_calls : ℕ → ProcessReport → Script → ServerData → List Call
 turn_calls now given script h =
     accept_calls now script.accepted (turn_begin h)
-    ++ event_calls now (loss_event given) (after_accept now script h)
+    ++ event_calls now script.source (loss_event given) (after_accept now script h)
     ++ calls_of_each (read_one now) (read_calls now) 0 script.readings
     (after_loss now given script h)
-    ++ event_calls now given.event (after_reads now given script h)
+    ++ event_calls now script.source given.event (after_reads now given script h)
     ++ scan_calls now (after_line now given script h)
     ++ calls_of_each (offer_one now) (offer_calls now) 0 script.offers
     (after_scan now given script h)

@@ -1,9 +1,10 @@
 // A device with a queue of octets for each of its clients.
-ghost use Rattle.std.specs.Prelude.{◌≡◌, ℕ, ◌+◌, ◌<◌, ◌≤◌, ◌++◌, [], None, length, drop, replicate, IfSome, IfOk, IfErr, if◌then◌else◌};
+ghost use Rattle.std.specs.Prelude.{◌≡◌, ℕ, ◌+◌, ◌<◌, ◌≤◌, ◌++◌, [], None, Some, length, drop, replicate, IfSome, IfOk, IfErr, if◌then◌else◌};
 ghost use Rattle.bay_device.specs.Commands.{IsSingle};
 ghost use Rattle.bay_device.specs.Outcomes.{associations, outcome};
 ghost use Rattle.bay_device.specs.Steps.{IsOutcome, IsWithoutOctets, Steps};
-ghost use Rattle.bay_server_turn.specs.Turns.{has_room, has_open, put_queue, server_queue};
+ghost use Rattle.bay_server_turn.specs.Recorded.{recorded};
+ghost use Rattle.bay_server_turn.specs.Turns.{WritesRecord, has_room, has_open, put_queue, server_queue};
 ghost use Rattle.bay_server_turn.specs.Turns as spec;
 
 use crate::record::{Record, RecordEnd};
@@ -12,6 +13,7 @@ use bay_device::event::{ASSOCIATIONS, Event, Step};
 use bay_device::fault::StepFault;
 use bay_lines::bounded_buffer::BoundedBuffer;
 use std::alloc::{AllocError, AllocFailed, Global};
+use std::fs::File;
 use std::marker::Model;
 
 // The maximum number of octets in a queue.
@@ -25,13 +27,12 @@ type Queue = BoundedBuffer<ROOM>;
 struct Parts {
     device: Device,
     queues: Vec<Queue>,
-    record: Option<Record>,
+    record: Option<Record<File>>,
 }
 
 /// A device, and for each association a queue of at most 262,144 octets that are still to be sent.
-/// The queues are allocated when the server is created. The events of the device may be recorded,
-/// on which contracts promise nothing. Everything is in one box, so that a server is dropped in one
-/// call.
+/// The queues are allocated when the server is created. The events of the device may be recorded.
+/// Everything is in one box, so that a server is dropped in one call.
 #[derive(Drop)]
 pub struct Server {
     parts: Box<Parts>,
@@ -40,7 +41,7 @@ pub struct Server {
 impl Model for Server {
     ghost use Rattle.bay_server_turn.specs.Turns.{ServerData};
     ghost use Rattle.std.specs.Coded.{codes};
-    ghost use Rattle.std.specs.Prelude.{◌≡◌, length};
+    ghost use Rattle.std.specs.Prelude.{◌≡◌, length, option_map};
     ghost use Rattle.bay_device.specs.Outcomes.{associations};
 
     ghost Value = { ServerData };
@@ -50,6 +51,7 @@ impl Model for Server {
     ghost view = { λ s. record {
       device = s.parts.value.device;
       queues = s.parts.value.queues.items;
+      recording = option_map (λ r. r.recording) s.parts.value.record;
     } };
 
     ghost invariant = { λ s. length s.parts.value.queues.items ≡ associations };
@@ -72,7 +74,8 @@ impl Server {
     pub fn new(alloc: Global, device: Device) -> Result<Self, AllocFailed<Device>>
         requires closed { device.connections ≡ replicate associations None }
         ensures ok { IfOk result
-            (λ server. server ≡ record { device = device; queues = replicate associations [] }) }
+            (λ server. server ≡ record { device = device; queues = replicate associations [];
+            recording = None }) }
         ensures err { IfErr result (λ refused. refused.value ≡ device) }
     {
         let queues = match make_queues(alloc) {
@@ -117,8 +120,8 @@ impl Server {
     }
 
     /// Records the device's events from now on.
-    pub fn start_record(&mut self, kept: Record)
-        ensures { self.new ≡ self.old }
+    pub fn start_record(&mut self, kept: Record<File>)
+        ensures { self.new ≡ record self.old { recording = Some kept.recording } }
     {
         self.parts.record = Some(kept);
     }
@@ -126,7 +129,7 @@ impl Server {
     /// Writes what was recorded and not written yet. Returns once why the record has ended;
     /// otherwise `None`.
     pub fn write_record(&mut self) -> Option<RecordEnd>
-        ensures { self.new ≡ self.old }
+        ensures { WritesRecord self.old self.new result }
     {
         self.parts.record.as_mut()?.write()
     }
@@ -145,6 +148,8 @@ impl Server {
             → IsOutcome (outcome None now event.entry self.old.device) result self.new.device }
         ensures single { IsSingle result }
         ensures queues { self.new.queues ≡ self.old.queues }
+        ensures recording { self.new.recording
+            ≡ recorded now source_line.now event.entry self.old.recording }
     {
         if let Some(record) = &mut self.parts.record {
             record.put(now, event, source_line);

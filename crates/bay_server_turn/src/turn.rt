@@ -1,5 +1,5 @@
 // One turn of the server.
-ghost use Rattle.std.specs.Prelude.{◌≡◌, None, Some, IfOk, IfErr, OnErr, OnOk};
+ghost use Rattle.std.specs.Prelude.{◌≡◌, [], None, Some, IfOk, IfErr, OnErr, OnOk, unwrap_or};
 ghost use Rattle.bay_server_turn.specs.Calls.{CountedCall, MakesCalls};
 ghost use Rattle.bay_server_turn.specs.Served.{Serves, turn_input_of, report_in, text_in, turn_refusal};
 ghost use Rattle.bay_server_turn.specs.Turns.{event_calls, with_event, moment_at, scan_calls, after_turn_scan, after_process_event, turn_state};
@@ -26,7 +26,7 @@ fn apply_event(
     source_line: &[u8],
 )
     ensures after { turn_state server.new notes.new
-        ≡ after_process_event now event (turn_state server.old notes.old) }
+        ≡ after_process_event now source_line.now event (turn_state server.old notes.old) }
     ensures commands { notes.new.commands ≡ notes.old.commands }
 {
     match server.step(now, event.event(), source_line) {
@@ -46,9 +46,9 @@ fn apply_event_if_any<L: Link>(
     source_line: &[u8],
 )
     ensures makes { MakesCalls (CountedCall L.does L.failures) link.old
-        (event_calls now event (turn_state server.old notes.old)) link.new }
+        (event_calls now source_line.now event (turn_state server.old notes.old)) link.new }
     ensures after { turn_state server.new notes.new
-        ≡ with_event now event (turn_state server.old notes.old) }
+        ≡ with_event now source_line.now event (turn_state server.old notes.old) }
     ensures commands { notes.new.commands ≡ notes.old.commands }
 {
     if let Some(event) = event {
@@ -96,7 +96,7 @@ pub fn serve_event<L: Link>(
     ensures ok { IfOk result
         (λ turn. Serves (CountedCall L.does L.failures) link.old link.new
         (moment_at clock server.old)
-        (report_in given) server.old server.new turn) }
+        (report_in given) source_line.now server.old server.new turn) }
     // A turn succeeds exactly if its input has no fault and its moment is not too large; otherwise
     // the error is this fault.
     ensures right { OnOk result (turn_refusal clock given server.old ≡ None) }
@@ -150,8 +150,8 @@ pub fn serve_turn<L: Link>(
     ensures ok { IfOk result
         (λ turn. Serves (CountedCall L.does L.failures) link.old link.new
         (moment_at clock server.old)
-        (report_in (turn_input_of server.old.device (text_in line.entry))) server.old server.new
-        turn) }
+        (report_in (turn_input_of server.old.device (text_in line.entry)))
+        (unwrap_or (text_in line.entry) []) server.old server.new turn) }
     ensures right { OnOk result
         (turn_refusal clock (turn_input_of server.old.device (text_in line.entry)) server.old
         ≡ None) }
