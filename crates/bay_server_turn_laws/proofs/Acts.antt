@@ -15,15 +15,15 @@ use Rattle.bay_server_turn_laws.specs.Flows.{read_by_calls}
 use Rattle.bay_server_turn_laws.proofs.CallLemmas.{Offering, SayNothing, and-no, and-true, one-fails}
 
 -- A call brings nothing, and nothing happens; octets of an association are heard, with where memory
--- was refused; its client hangs up; what happens to the process is told; the program runs; an
--- association is closed to which a reply did not fit; one is closed of which the last of these
--- calls failed; what is to be sent to one is offered, by these calls, and so much is left; and that
--- is done for the last time.
+-- was refused; its client hangs up; what happens to the process is told, with the line that it was
+-- read from; the program runs; an association is closed to which a reply did not fit; one is closed
+-- of which the last of these calls failed; what is to be sent to one is offered, by these calls, and
+-- so much is left; and that is done for the last time.
 pub data Act : Type 0 where
   Asks : Call → Act
   Hears : ℕ → Option ℕ → List ℕ → Act
   HangsUp : ℕ → Act
-  Tells : ProcessEvent → Act
+  Tells : List ℕ → ProcessEvent → Act
   Scans : Act
   Fills : ℕ → Act
   Breaks : ℕ → List Call → Act
@@ -35,7 +35,7 @@ abbrev pub calls_by : Act → List Call
 calls_by (Asks call) = call ∷ []
 calls_by (Hears slot choice octets) = Reads (slot + 1) 4096 (Octets octets) ∷ []
 calls_by (HangsUp slot) = Reads (slot + 1) 4096 StreamEnd ∷ []
-calls_by (Tells event) = []
+calls_by (Tells source event) = []
 calls_by Scans = []
 calls_by (Fills slot) = Closes (slot + 1) ∷ []
 calls_by (Breaks slot calls) = calls ++ Closes (slot + 1) ∷ []
@@ -47,7 +47,7 @@ abbrev pub events_by : Act → List ChosenEvent
 events_by (Asks call) = []
 events_by (Hears slot choice octets) = (choice, Recv (slot + 1) (borrow_of octets)) ∷ []
 events_by (HangsUp slot) = closing_of slot ∷ []
-events_by (Tells event) = with_memory (event_of event) ∷ []
+events_by (Tells source event) = with_memory (event_of event) ∷ []
 events_by Scans = with_memory Scan ∷ []
 events_by (Fills slot) = closing_of slot ∷ []
 events_by (Breaks slot calls) = closing_of slot ∷ []
@@ -59,7 +59,7 @@ abbrev pub after : ℕ → Act → TurnState → TurnState
 after now (Asks call) s = s
 after now (Hears slot choice octets) s = after_octets now slot choice octets s
 after now (HangsUp slot) s = after_end now slot s
-after now (Tells event) s = after_process_event now event s
+after now (Tells source event) s = after_process_event now source event s
 after now Scans s = after_event now Scan s
 after now (Fills slot) s = close_at_once now closing.QueueFull slot s
 after now (Breaks slot calls) s = close_at_once now closing.LinkFailed slot s
@@ -125,7 +125,7 @@ abbrev pub Can : ℕ → Act → TurnState → Type 0
 Can most (Asks call) s = IsIdle call
 Can most (Hears slot choice octets) s = IsOpenAt most slot s
 Can most (HangsUp slot) s = IsOpenAt most slot s
-Can most (Tells event) s = Unit {0}
+Can most (Tells source event) s = Unit {0}
 Can most Scans s = Unit {0}
 Can most (Fills slot) s = (slot < 8) × (state_at slot s ≡ Full)
 Can most (Breaks slot calls) s =

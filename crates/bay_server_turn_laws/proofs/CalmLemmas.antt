@@ -23,8 +23,7 @@ gone-standings now slot why s = let t : TurnState = after_event now (Close (slot
 pub closing-puts : (now slot : ℕ) (s : TurnState) → Puts s (after_event now (Close (slot + 1)) s)
 closing-puts now slot s =
     let o = outcome None now (Close (slot + 1)) s.server.device in
-    let puts : Puts (with_device o.after s) (after_event now (Close (slot + 1)) s) =
-    put_quiet-puts o.answer (with_device o.after s) in
+    let puts = put_quiet-puts o.answer (with_device o.after s) in
     record { queues = puts.queues; fills = puts.fills }
 
 cut-remaining : (now slot : ℕ) (why : CloseReason) (s : TurnState) → state_at slot s ≡ Full

@@ -4,11 +4,12 @@ use Rattle.std.proofs.lemmas.Bool.{eqb-true, eq-eqb, leb-false}
 use Rattle.std.proofs.lemmas.List.{get_or-set_same, get_or-set_other, length-set}
 use Rattle.bay_device.specs.Device.{State}
 use Rattle.bay_device.specs.Outcomes.{slot_of}
+use Rattle.bay_device.specs.declared.event.Event.{Event}
 use Rattle.bay_device.specs.declared.event.Sent.{Sent}
 use Rattle.bay_device.specs.declared.event.Step.{Step}
 use Rattle.bay_device.specs.declared.fault.StepFault.{StepFault}
 use Rattle.bay_server_turn.specs.AssociationStates.{after_full, accepts_replies}
-use Rattle.bay_server_turn.specs.Turns.{TurnState, has_room, is_open_at, put_all, put_at, put_ended, put_quiet, put_sent, record_refusal, put_whole, turn_queue, state_at, with_state, with_device, with_noted, with_queue}
+use Rattle.bay_server_turn.specs.Turns.{TurnState, has_room, is_open_at, put_all, put_at, put_ended, put_quiet, put_sent, record_refusal, put_whole, turn_queue, state_at, with_state, with_device, with_noted, with_queue, with_recorded}
 use Rattle.bay_server_turn.specs.declared.association_state.AssociationState.{AssociationState}
 use Rattle.bay_server_turn.specs.declared.association_state.AssociationState.TheVariants.{Steady, Full, Draining, DrainingFull, Closed}
 use Rattle.bay_server_turn_laws.specs.Causes.{is_queue_full, reports_close}
@@ -315,6 +316,17 @@ put_told-carried now p held taken sent (Err fault) s h q c =
     }) (sym (append-nil sent))
 put_told-carried now p held taken sent (Ok step) s h q c =
     put_quiet-carried now p held taken sent (Ok step) s h q c
+
+-- an event is recorded
+pub recorded-carried : (now p : ℕ) (held taken sent source : List ℕ) (event : Event)
+    (s : TurnState) → Carried now p held taken sent s
+    → Carried now p held taken sent (with_recorded now source event s)
+recorded-carried now p held taken sent source event s c = record {
+  sound = record
+      { queues = c.sound.queues; states = c.sound.states; moment = c.sound.moment };
+  carries = c.carries;
+  full = c.full;
+}
 
 -- the device goes on, and the association stays as open as it was
 pub device-carried : (now p : ℕ) (held taken sent : List ℕ) (d : State) (s : TurnState)

@@ -136,8 +136,8 @@ module _ (now p : ℕ) (low : p < 8) where
         let none = λ (b : Bool). ap (λ v. (v && b) || false) (other-number i p ne) in
         still-learns (HangsUp i) s sized can ne (none false) (none true)
         (no-reason (Close (i + 1)) s tt))
-    act-learns (Tells event) = λ can.
-        still-learns (Tells event) s sized can tt refl refl
+    act-learns (Tells source event) = λ can.
+        still-learns (Tells source event) s sized can tt refl refl
         (no-reason (event_of event) s (process-quiet event))
     act-learns Scans = λ can. still-learns Scans s sized can tt refl refl (no-reason Scan s tt)
     act-learns (Fills slot) = λ can.

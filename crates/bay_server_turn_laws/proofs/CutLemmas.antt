@@ -5,17 +5,17 @@ use Rattle.std.proofs.lemmas.List.{get_or-set_same, length-set}
 use Rattle.bay_device.specs.Device.{State}
 use Rattle.bay_device.specs.Outcomes.{last_moment, outcome}
 use Rattle.bay_device.specs.declared.event.Event.TheVariants.{Close}
-use Rattle.bay_server_turn.specs.Turns.{TurnData, TurnState, close_at_once, is_open_at, put_quiet, turn_queue, state_at, with_closing, with_device, with_noted, with_queue}
+use Rattle.bay_server_turn.specs.Turns.{TurnData, TurnState, after_event, close_at_once, is_open_at, put_quiet, turn_queue, state_at, with_closing, with_device, with_noted, with_queue}
 use Rattle.bay_server_turn.specs.declared.association_state.AssociationState.{AssociationState}
 use Rattle.bay_server_turn.specs.declared.association_state.AssociationState.TheVariants.{Full, Closed, Draining, DrainingFull, Steady}
 use Rattle.bay_server_turn.specs.declared.turn_report.CloseReason.{CloseReason}
 use Rattle.bay_server_turn_laws.specs.Causes.{is_queue_full, reports_close}
 use Rattle.bay_server_turn_laws.specs.Flows.{answer_to}
 use Rattle.bay_server_turn_laws.proofs.CalmLemmas.{closing-puts}
-use Rattle.bay_server_turn_laws.proofs.CarryLemmas.{Carried, Carries, Carries-as, IsSound, MayLose, also-lost, device-carried, longer, longer-behind, other-queue, other-standing, put_quiet-carried}
+use Rattle.bay_server_turn_laws.proofs.CarryLemmas.{Carried, Carries, Carries-as, IsSound, MayLose, also-lost, device-carried, longer, longer-behind, other-queue, other-standing, put_quiet-carried, recorded-carried}
 use Rattle.bay_server_turn_laws.proofs.PutLemmas.{Puts, told-standings}
 use Rattle.bay_server_turn_laws.proofs.QuietLemmas.{outcome-quiet}
-use Rattle.bay_server_turn_laws.proofs.SameLemmas.{Same, put_quiet-same}
+use Rattle.bay_server_turn_laws.proofs.SameLemmas.{Same, put_quiet-same, recorded-same}
 use Rattle.bay_server_turn_laws.proofs.TellsLemmas.{full-by, stepped-closed, told-other}
 use Rattle.bay_server_turn_laws.proofs.UpLemmas.{close-outcome-far, close-outcome-here, outcome-moment, up_at}
 
@@ -52,10 +52,12 @@ cut-far now p i held taken sent why s h n c =
     device-carried now p held taken sent o.after s
     (outcome-moment None now (Close (i + 1)) s.server.device c.sound.moment)
     (close-outcome-far None now i p s.server.device n) c in
-    let t : TurnState = put_quiet o.answer (with_device o.after s) in
+    let t : TurnState = after_event now (Close (i + 1)) s in
     let put : Carried now p held taken more t =
-    put_quiet-carried now p held taken sent o.answer (with_device o.after s) h
-    (outcome-quiet None now (Close (i + 1)) s.server.device tt) moved in
+    recorded-carried now p held taken more [] (Close (i + 1))
+    (put_quiet o.answer (with_device o.after s))
+    (put_quiet-carried now p held taken sent o.answer (with_device o.after s) h
+    (outcome-quiet None now (Close (i + 1)) s.server.device tt) moved) in
     let x : TurnState = with_queue i [] t in
     let y : TurnState = with_noted (with_closing i why t.noted) x in
     other-standing now p i held taken more Closed y n
@@ -75,10 +77,13 @@ pub cut-lost : (now p : ℕ) (held taken sent rest : List ℕ) (why : CloseReaso
 unfolding close_at_once
 cut-lost now p held taken sent rest why s h past sound is over =
     let o = outcome None now (Close (p + 1)) s.server.device in
-    let t : TurnState = put_quiet o.answer (with_device o.after s) in
+    let t : TurnState = after_event now (Close (p + 1)) s in
     let n : TurnData = with_closing p why t.noted in
     let puts : Puts s t = closing-puts now p s in
-    let same : Same (with_device o.after s) t = put_quiet-same o.answer (with_device o.after s) in
+    let same : Same (with_device o.after s) t =
+    recorded-same now [] (Close (p + 1)) (with_device o.after s)
+    (put_quiet o.answer (with_device o.after s))
+    (put_quiet-same o.answer (with_device o.after s)) in
     let queues : length t.server.queues ≡ 8 = puts.queues ∙ sound.queues in
     let states : length n.states ≡ 8 =
     ap length (told-standings p why t.noted) ∙ puts.fills.sized ∙ sound.states in

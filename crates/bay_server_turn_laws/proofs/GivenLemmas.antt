@@ -37,7 +37,7 @@ module _ (a : ℕ) where
   act-brings most (Asks call) s can = can.gives a
   act-brings most (Hears slot choice octets) s can = refl
   act-brings most (HangsUp slot) s can = ap (λ l. l ++ []) (none-if (slot + 1 == a))
-  act-brings most (Tells event) s can = ap (λ l. l ++ []) (sym (told-brings event))
+  act-brings most (Tells source event) s can = ap (λ l. l ++ []) (sym (told-brings event))
   act-brings most Scans s can = refl
   act-brings most (Fills slot) s can = refl
   act-brings most (Breaks slot calls) s can =

@@ -54,7 +54,7 @@ abbrev pub Concerns : (ℕ → Type 0) → Act → Type 0
 Concerns E (Asks call) = Unit {0}
 Concerns E (Hears slot choice octets) = E slot
 Concerns E (HangsUp slot) = E slot
-Concerns E (Tells event) = Unit {0}
+Concerns E (Tells source event) = Unit {0}
 Concerns E Scans = Unit {0}
 Concerns E (Fills slot) = Unit {0}
 Concerns E (Breaks slot calls) = E slot
@@ -65,7 +65,7 @@ pub all-concern : (E : ℕ → Type 0) → ((slot : ℕ) → E slot) → (a : Ac
 all-concern E all (Asks call) = tt
 all-concern E all (Hears slot choice octets) = all slot
 all-concern E all (HangsUp slot) = all slot
-all-concern E all (Tells event) = tt
+all-concern E all (Tells source event) = tt
 all-concern E all Scans = tt
 all-concern E all (Fills slot) = tt
 all-concern E all (Breaks slot calls) = all slot
@@ -170,7 +170,7 @@ module _ (most : ℕ) (Ends : ℕ → Type 0) (P : TurnData → Type 0) (k : IsN
         keep-stepped (Kept P) fills-kept now (Close (slot + 1))
         (with_noted (start_closing slot Ended s.noted) s)
         (leaves-kept slot Ended s.noted can.low may q)
-    keep-act (Tells event) s can may q =
+    keep-act (Tells source event) s can may q =
         let o = outcome None now (event_of event) s.server.device in
         told-kept o.answer (with_device o.after s) q
     keep-act Scans s can may q = keep-stepped (Kept P) fills-kept now Scan s q

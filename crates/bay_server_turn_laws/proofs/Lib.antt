@@ -29,3 +29,5 @@ pub mod OpenFlows
 pub mod FullFlows
 pub mod GivenLemmas
 pub mod OrderLemmas
+pub mod RecordLemmas
+pub mod RecordFlows

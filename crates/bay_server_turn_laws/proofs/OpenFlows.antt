@@ -146,8 +146,8 @@ module _ (now p : ℕ) (low : p < 8) where
     | inr ne ↦ far-open (HangsUp slot) s sized can ne
         (λ u. close-outcome-far None now slot p s.server.device ne ∙ u) o
   ]
-  act-open (Tells event) s sized can o =
-      far-open (Tells event) s sized can tt
+  act-open (Tells source event) s sized can o =
+      far-open (Tells source event) s sized can tt
       (λ u. process-outcome-up None now p event s.server.device ∙ u) o
   act-open Scans s sized can o =
       far-open Scans s sized can tt (λ u. scan-outcome-up None now p s.server.device ∙ u) o

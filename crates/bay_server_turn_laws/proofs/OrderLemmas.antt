@@ -201,11 +201,11 @@ in-order now given script h readings offers =
     let lost = loss_event given in
     let line = given.event in
     let m1 = (accept-turned now 8 h (lowest_free_association h) script.accepted refl).passes in
-    let m0 = line-through now 8 lost s1 m1.sized m1.calm in
+    let m0 = line-through now 8 script.source lost s1 m1.sized m1.calm in
     let p0 = m0.passes in
     let p2 =
     reads-pass now 8 0 script.readings z (omega (arith, readings)) p0.sized p0.calm in
-    let m3 = line-through now 8 line s2 p2.sized p2.calm in
+    let m3 = line-through now 8 script.source line s2 p2.sized p2.calm in
     let p3 = m3.passes in
     let m4 = then-through now 8 Scans s3 p3.sized tt in
     let p4 = m4.passes in
@@ -225,9 +225,9 @@ in-order now given script h readings offers =
     fails-later a _ failing (record { is = e }) in
     or_right (reports_close is_queue_full a reported) _ whole.is) in
     let opens = accept_events now script.accepted (turn_begin h) in
-    let losses = line_events now lost s1 in
+    let losses = line_events now script.source lost s1 in
     let reads = events_of_each (read_one now) (read_events now) 0 script.readings z in
-    let lines = line_events now line s2 in
+    let lines = line_events now script.source line s2 in
     let scans = scan_events now s3 in
     subst (AreInOrder now reported why given script h.device)
     (sym (right-nested opens losses reads lines scans last))

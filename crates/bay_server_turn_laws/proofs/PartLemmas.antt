@@ -11,7 +11,7 @@ use Rattle.bay_device.specs.declared.event.Why.TheVariants.{Ended}
 use Rattle.bay_device.specs.declared.fault.StepFault.{StepFault}
 use Rattle.bay_trace.specs.Resolving.{borrow_of}
 use Rattle.bay_server_turn.specs.Calls.{Call, Closes, is_failed}
-use Rattle.bay_server_turn.specs.Turns.{ServerData, TurnData, Script, TurnState, after_event, after_opening, after_closing, after_turn, close_at_once, event_of, after_end, start_closing, after_process_event, turn_begin, turn_calls, with_device, with_noted, with_queue}
+use Rattle.bay_server_turn.specs.Turns.{ServerData, TurnData, Script, TurnState, after_event, after_opening, after_closing, after_turn, close_at_once, event_of, after_end, start_closing, after_process_event, put_quiet, record_refusal, turn_begin, turn_calls, with_device, with_noted, with_queue}
 use Rattle.bay_server_turn.specs.declared.process_input.ProcessReport.{ProcessReport}
 use Rattle.bay_server_turn.specs.declared.turn_report.CloseReason.{CloseReason}
 use Rattle.bay_server_turn.specs.declared.turn_report.CloseReason.TheVariants as closing
@@ -22,7 +22,7 @@ use Rattle.bay_server_turn_laws.proofs.Acts.{Act, Asks, Breaks, Can, Fills, Hang
 use Rattle.bay_server_turn_laws.proofs.CallLemmas.{some-append}
 use Rattle.bay_server_turn_laws.proofs.DoneLemmas.{commands-append}
 use Rattle.bay_server_turn_laws.proofs.QuietLemmas.{IsQuiet, outcome-quiet, process-quiet}
-use Rattle.bay_server_turn_laws.proofs.SameLemmas.{Same, Same-refl, goes-commands, goes-same, leaves-same, parted-same, put_answer-commands, put_quiet-same, put_told-same}
+use Rattle.bay_server_turn_laws.proofs.SameLemmas.{Same, Same-refl, goes-commands, goes-same, leaves-same, parted-same, put_answer-commands, put_quiet-same, put_told-same, recorded-same}
 use Rattle.bay_server_turn_laws.proofs.KeptLemmas.{IsKept, answers_to, turned-device, turned-keeps}
 use Rattle.bay_server_turn_laws.proofs.WalkLemmas.{Begins, Opening, Quietly, turn-is-acts}
 
@@ -81,7 +81,9 @@ module _ (now : ℕ) where
       let o = outcome None now (Close (slot + 1)) s.server.device in
       let part : Part now s calls (closing_of slot ∷ []) t =
       quiet-part s s t calls (Close (slot + 1)) tt (Same-refl s)
-      (put_quiet-same o.answer (with_device o.after s)) in
+      (recorded-same now [] (Close (slot + 1)) (with_device o.after s)
+      (put_quiet o.answer (with_device o.after s))
+      (put_quiet-same o.answer (with_device o.after s))) in
       record {
         device = part.device;
         commands = goes-commands slot why t.noted ∙ part.commands;
@@ -107,16 +109,24 @@ module _ (now : ℕ) where
       let o = outcome None now (Close (slot + 1)) s.server.device in
       let left : TurnState = with_noted (start_closing slot Ended s.noted) s in
       quiet-part s left (after_end now slot s) (calls_by (HangsUp slot)) (Close (slot + 1)) tt
-      (leaves-same slot Ended s) (put_quiet-same o.answer (with_device o.after left))
-  act-part most (Tells event) s can =
+      (leaves-same slot Ended s)
+      (recorded-same now [] (Close (slot + 1)) (with_device o.after left)
+      (put_quiet o.answer (with_device o.after left))
+      (put_quiet-same o.answer (with_device o.after left)))
+  act-part most (Tells source event) s can =
       let o = outcome None now (event_of event) s.server.device in
-      quiet-part s s (after_process_event now event s) [] (event_of event) (process-quiet event)
+      quiet-part s s (after_process_event now source event s) [] (event_of event)
+      (process-quiet event)
       (Same-refl s)
-      (put_told-same o.answer (with_device o.after s))
+      (recorded-same now source (event_of event) (with_device o.after s)
+      (record_refusal o.answer (with_device o.after s))
+      (put_told-same o.answer (with_device o.after s)))
   act-part most Scans s can =
       let o = outcome None now Scan s.server.device in
       quiet-part s s (after_event now Scan s) [] Scan tt (Same-refl s)
-      (put_quiet-same o.answer (with_device o.after s))
+      (recorded-same now [] Scan (with_device o.after s)
+      (put_quiet o.answer (with_device o.after s))
+      (put_quiet-same o.answer (with_device o.after s)))
   act-part most (Fills slot) s can =
       cut-part closing.QueueFull slot s (Closes (slot + 1) ∷ []) (inl refl)
   act-part most (Breaks slot calls) s can =
@@ -154,7 +164,9 @@ module _ (now : ℕ) where
       let o = outcome None now (Open (slot + 1)) h.device in
       let part : Part now t c (with_memory (Open (slot + 1)) ∷ []) (after_opening now slot t) =
       quiet-part t t (after_opening now slot t) c (Open (slot + 1)) tt (Same-refl t)
-      (put_quiet-same o.answer (with_device o.after t)) in
+      (recorded-same now [] (Open (slot + 1)) (with_device o.after t)
+      (put_quiet o.answer (with_device o.after t))
+      (put_quiet-same o.answer (with_device o.after t))) in
       record {
         commands = part.commands;
         blames = λ reported. elim (part.blames reported) [ inl f ↦ absurd (cc) | inr f ↦ f ];

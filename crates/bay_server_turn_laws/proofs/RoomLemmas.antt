@@ -1,5 +1,5 @@
 -- What each part of a turn puts into queues is within their room; and a server as it is made.
-use Rattle.std.proofs.Common.{All, Err, List, None, Ok, Result, [], ap, arith, false, get_or, inl, inr, leb, length, refl, replicate, subst, sym, true, ℕ, ◌++◌, ◌+◌, ◌<◌, ◌≡◌, ◌≤◌, ◌⊎◌}
+use Rattle.std.proofs.Common.{All, Err, List, None, Ok, Option, Result, [], ap, arith, false, get_or, inl, inr, leb, length, refl, replicate, subst, sym, true, ℕ, ◌++◌, ◌+◌, ◌<◌, ◌≡◌, ◌≤◌, ◌⊎◌}
 use Rattle.std.proofs.Math.ListN.{get_or-eq_default}
 use Rattle.std.proofs.lemmas.Bool.{leb-true}
 use Rattle.std.proofs.lemmas.Bool.Decides.{leb_tells}
@@ -14,6 +14,7 @@ use Rattle.bay_device.specs.declared.event.Why.TheVariants.{Ended}
 use Rattle.bay_device.specs.declared.fault.StepFault.{StepFault}
 use Rattle.bay_trace.specs.Resolving.{borrow_of}
 use Rattle.bay_server_turn.specs.Calls.{Call}
+use Rattle.bay_server_turn.specs.Recorded.{Recording}
 use Rattle.bay_server_turn.specs.Turns.{ServerData, Script, TurnState, after_event, after_turn, close_at_once, event_of, start_closing, after_device_close, put_answer, put_ended, record_refusal, server_queue, turn_queue, turn_begin, turn_calls, with_device, with_noted, with_queue}
 use Rattle.bay_server_turn.specs.declared.process_input.ProcessReport.{ProcessReport}
 use Rattle.bay_server_turn.specs.declared.turn_report.CloseReason.{CloseReason}
@@ -95,7 +96,7 @@ module _ (now : ℕ) where
       holds-answer slot o.answer (with_device o.after s) p
   holds-act most (HangsUp slot) s can p =
       holds-stepped (Close (slot + 1)) (with_noted (start_closing slot Ended s.noted) s) p
-  holds-act most (Tells event) s can p =
+  holds-act most (Tells source event) s can p =
       let o = outcome None now (event_of event) s.server.device in
       holds-told o.answer (with_device o.after s) p
   holds-act most Scans s can p = holds-stepped Scan s p
@@ -130,12 +131,14 @@ module _ (now : ℕ) where
 
 -- ---- a server as it is made
 
-abbrev made : State → ServerData
-made device = record { device = device; queues = replicate 8 [] }
+abbrev made : State → Option Recording → ServerData
+made device recording =
+    record { device = device; queues = replicate 8 []; recording = recording }
 
-pub made-in-room : (device : State) → AreInRoom (made device)
-made-in-room device = All-replicate Fits 8 [] (omega arith)
+pub made-in-room : (device : State) (recording : Option Recording)
+    → AreInRoom (made device recording)
+made-in-room device recording = All-replicate Fits 8 [] (omega arith)
 
-pub made-tidy : (device : State) → IsTidy (made device)
-made-tidy device =
+pub made-tidy : (device : State) (recording : Option Recording) → IsTidy (made device recording)
+made-tidy device recording =
     record { sized = refl; empty = λ slot low up. get_or-replicate 8 slot [] [] low }

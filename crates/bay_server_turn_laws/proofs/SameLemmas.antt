@@ -1,12 +1,13 @@
 -- What changes neither the device nor the commands, and tells of no failed link.
 use Rattle.std.proofs.Common.{Bool, Err, List, None, Ok, Option, Result, Some, [], ap, append-nil, false, if◌then◌else◌, refl, sym, true, ℕ, ◌++◌, ◌+◌, ◌∷◌, ◌≡◌}
 use Rattle.bay_mms_services.specs.declared.answer.Command.{Command}
+use Rattle.bay_device.specs.declared.event.Event.{Event}
 use Rattle.bay_device.specs.declared.event.Step.{Step}
 use Rattle.bay_device.specs.declared.event.Why.{Why}
 use Rattle.bay_device.specs.declared.event.Why.TheVariants.{Ended, Fault, Memory}
 use Rattle.bay_device.specs.declared.fault.StepFault.{StepFault}
 use Rattle.bay_server_turn.specs.AssociationStates.{is_close_reported}
-use Rattle.bay_server_turn.specs.Turns.{TurnData, TurnState, after_closing, mark_closed, start_closing, after_device_close, put_all, put_answer, put_ended, put_quiet, record_refusal, noted_state, memory_reported, close_reported, with_closing, with_noted}
+use Rattle.bay_server_turn.specs.Turns.{TurnData, TurnState, after_closing, mark_closed, start_closing, after_device_close, put_all, put_answer, put_ended, put_quiet, record_refusal, noted_state, memory_reported, close_reported, with_closing, with_noted, with_recorded}
 use Rattle.bay_server_turn.specs.declared.turn_report.CloseReason.{CloseReason}
 use Rattle.bay_server_turn.specs.declared.turn_report.CloseReason.TheVariants as closing
 use Rattle.bay_server_turn_laws.specs.Events.{answer_commands}
@@ -37,6 +38,12 @@ pub put_told-same : (answer : Result Step StepFault) (s : TurnState)
     → Same s (record_refusal answer s)
 put_told-same (Err fault) s = record { device = refl; commands = refl; failures = refl }
 put_told-same (Ok step) s = puts-ended (Same s) (same-put s) step.ended s (Same-refl s)
+
+-- an event is recorded
+pub recorded-same : (now : ℕ) (source : List ℕ) (event : Event) (s t : TurnState) → Same s t
+    → Same s (with_recorded now source event t)
+recorded-same now source event s t p =
+    record { device = p.device; commands = p.commands; failures = p.failures }
 
 -- ---- what is told
 

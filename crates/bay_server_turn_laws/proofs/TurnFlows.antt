@@ -10,7 +10,7 @@ use Rattle.bay_device.specs.declared.fault.StepFault.{StepFault}
 use Rattle.bay_trace.specs.Resolving.{borrow_of}
 use Rattle.bay_server_turn.specs.Calls.{Call, Closes}
 use Rattle.bay_server_turn.specs.AssociationStates.{is_full, is_draining}
-use Rattle.bay_server_turn.specs.Turns.{ServerData, Script, TurnState, after_event, after_opening, after_closing, after_scan, after_turn, close_at_once, event_of, after_end, is_open_at, start_closing, put_answer, server_queue, turn_queue, state_at, after_process_event, turn_begin, turn_calls, with_device, with_noted, with_queue}
+use Rattle.bay_server_turn.specs.Turns.{ServerData, Script, TurnState, after_event, after_opening, after_closing, after_scan, after_turn, close_at_once, event_of, after_end, is_open_at, start_closing, put_answer, put_quiet, record_refusal, server_queue, turn_queue, state_at, after_process_event, turn_begin, turn_calls, with_device, with_noted, with_queue, with_recorded}
 use Rattle.bay_server_turn.specs.declared.process_input.ProcessReport.{ProcessReport}
 use Rattle.bay_server_turn.specs.declared.association_state.AssociationState.{AssociationState}
 use Rattle.bay_server_turn.specs.declared.association_state.AssociationState.TheVariants.{Full, Closed, Draining, DrainingFull, Steady}
@@ -19,7 +19,7 @@ use Rattle.bay_server_turn_laws.specs.Events.{ChosenEvent, closing_of, outcomes_
 use Rattle.bay_server_turn_laws.specs.Flows.{IsInTime, IsTidy, LosesNothing, answer_to, replies_to, written_by_calls}
 use Rattle.bay_server_turn_laws.proofs.Acts.{Act, Asks, Breaks, Can, Fills, HangsUp, Hears, Offers, Parts, Scans, Tells, after, calls_by, events_by}
 use Rattle.bay_server_turn_laws.proofs.CallLemmas.{closing-says, taken-append}
-use Rattle.bay_server_turn_laws.proofs.CarryLemmas.{Carried, MayLose, device-carried, longer-behind, other-queue, other-standing, put_quiet-carried, put_told-carried}
+use Rattle.bay_server_turn_laws.proofs.CarryLemmas.{Carried, MayLose, device-carried, longer-behind, other-queue, other-standing, put_quiet-carried, put_told-carried, recorded-carried}
 use Rattle.bay_server_turn_laws.proofs.CutLemmas.{cut-carried, cut-far}
 use Rattle.bay_server_turn_laws.proofs.MoveLemmas.{sent-append}
 use Rattle.bay_server_turn_laws.proofs.OfferFlows.{cut-here, each-left, kept-here, parted-here}
@@ -103,10 +103,14 @@ module _ (most now p : ℕ) (held : List ℕ) (low : p < 8) (past : now ≤ last
           answered : (q : ℕ) (o : Outcome)
               → Marked now p q held t u o.answer (with_device o.after s)
               → Carried now p held (t ++ []) (u ++ (answer_to (p + 1) o.answer ++ []))
-              (put_answer q o.answer (with_device o.after s))
+              (with_recorded now [] (Recv (q + 1) (borrow_of octets))
+              (put_answer q o.answer (with_device o.after s)))
           answered q o r =
-              event-carried [] o.answer _ refl
-              (answer-carried now p q held t u o.answer (with_device o.after s) low r)
+              let d : TurnState = put_answer q o.answer (with_device o.after s) in
+              let event = Recv (q + 1) (borrow_of octets) in
+              event-carried [] o.answer (with_recorded now [] event d) refl
+              (recorded-carried now p held t (u ++ answer_to (p + 1) o.answer) [] event d
+              (answer-carried now p q held t u o.answer (with_device o.after s) low r))
       act-carried (HangsUp i) = same-place HangsUp i
           (λ can. closed p (left-carried most now p held t u Ended
           (outcome None now (Close (p + 1)) s.server.device).after s low c
@@ -126,21 +130,28 @@ module _ (most now p : ℕ) (held : List ℕ) (low : p < 8) (past : now ≤ last
               (u ++ replies_to (p + 1) (answers_to now (closing_of q ∷ []) s)) (after_end now q s)
           closed q d =
               let o = outcome None now (Close (q + 1)) s.server.device in
+              let left : TurnState =
+              with_device o.after (with_noted (start_closing q Ended s.noted) s) in
               event-carried (calls_by (HangsUp q)) o.answer (after_end now q s) refl
-              (put_quiet-carried now p held t u o.answer _ low
-              (outcome-quiet None now (Close (q + 1)) s.server.device tt) d)
-      act-carried (Tells event) = λ can.
+              (recorded-carried now p held t (u ++ answer_to (p + 1) o.answer) [] (Close (q + 1))
+              (put_quiet o.answer left) (put_quiet-carried now p held t u o.answer left low
+              (outcome-quiet None now (Close (q + 1)) s.server.device tt) d))
+      act-carried (Tells source event) = λ can.
           let o = outcome None now (event_of event) s.server.device in
-          event-carried [] o.answer (after_process_event now event s) refl
+          event-carried [] o.answer (after_process_event now source event s) refl
+          (recorded-carried now p held t (u ++ answer_to (p + 1) o.answer) source (event_of event)
+          (record_refusal o.answer (with_device o.after s))
           (put_told-carried now p held t u o.answer (with_device o.after s) low
           (outcome-quiet None now (event_of event) s.server.device (process-quiet event))
-          (stepped (event_of event) (process-outcome-up None now p event s.server.device)))
+          (stepped (event_of event) (process-outcome-up None now p event s.server.device))))
       act-carried Scans = λ can.
           let o = outcome None now Scan s.server.device in
           event-carried [] o.answer (after_event now Scan s) refl
+          (recorded-carried now p held t (u ++ answer_to (p + 1) o.answer) [] Scan
+          (put_quiet o.answer (with_device o.after s))
           (put_quiet-carried now p held t u o.answer (with_device o.after s) low
           (outcome-quiet None now Scan s.server.device tt)
-          (stepped Scan (scan-outcome-up None now p s.server.device)))
+          (stepped Scan (scan-outcome-up None now p s.server.device))))
       act-carried (Fills i) = λ can.
           event-carried (Closes (i + 1) ∷ [])
           (outcome None now (Close (i + 1)) s.server.device).answer
@@ -199,13 +210,15 @@ module _ (most now p : ℕ) (low : p < 8) (past : now ≤ last_moment) where
       let o = outcome None now (Open (slot + 1)) h.device in
       event-carried most now p (server_queue p h) low past [] [] c o.answer
       (after_opening now slot (turn_begin h)) refl
+      (recorded-carried now p (server_queue p h) [] ([] ++ answer_to (p + 1) o.answer) []
+      (Open (slot + 1)) (put_quiet o.answer (with_device o.after (turn_begin h)))
       (put_quiet-carried now p (server_queue p h) [] [] o.answer
       (with_device o.after (turn_begin h))
       low
       (outcome-quiet None now (Open (slot + 1)) h.device tt)
       (begun-carried now p h o.after low tidy
       (outcome-moment None now (Open (slot + 1)) h.device before)
-      (open-outcome-up None now (slot + 1) p h.device)))
+      (open-outcome-up None now (slot + 1) p h.device))))
 
 kept-at : (x : AssociationState) (u : Bool) (q lost : List ℕ) → MayLose x u q lost
     → is_full x ≡ false

@@ -110,7 +110,7 @@ module _ (now most : ℕ) where
       let o = outcome None now (Close (slot + 1)) s.server.device in
       (put_quiet-same o.answer
       (with_device o.after (with_noted (start_closing slot Ended s.noted) s))).device
-  device-act (Tells event) s =
+  device-act (Tells source event) s =
       let o = outcome None now (event_of event) s.server.device in
       (put_told-same o.answer (with_device o.after s)).device
   device-act Scans s =
@@ -309,12 +309,12 @@ module _ (now most : ℕ) where
           (record { low = low; up = is; calm = calm slot }) sized calm
       by-up false is = stays-through s sized calm
 
-  pub line-through : (line : Option ProcessEvent) (s : TurnState) → length s.noted.states ≡ 8
-      → AreCalm s.noted.states
-      → Through s (process_events line) (event_calls now line s) (line_events now line s)
-      (with_event now line s)
-  line-through None s sized calm = stays-through s sized calm
-  line-through (Some event) s sized calm = then-through (Tells event) s sized tt
+  pub line-through : (source : List ℕ) (line : Option ProcessEvent) (s : TurnState)
+      → length s.noted.states ≡ 8 → AreCalm s.noted.states
+      → Through s (process_events line) (event_calls now source line s)
+      (line_events now source line s) (with_event now source line s)
+  line-through source None s sized calm = stays-through s sized calm
+  line-through source (Some event) s sized calm = then-through (Tells source event) s sized tt
 
   -- an association of which a write fails is closed
   abbrev pub offered_first : ℕ → Offer → TurnState → List ChosenEvent
@@ -530,8 +530,8 @@ module _ (now most : ℕ) where
       (then-turned h script.accepted z s2 _ _ _ _
       (then-turned h script.accepted s1 z _ _ _ _
       (accept-turned h (lowest_free_association h) script.accepted refl)
-      (λ sized calm. (line-through (loss_event given) s1 sized calm).passes))
+      (λ sized calm. (line-through script.source (loss_event given) s1 sized calm).passes))
       (reads-pass 0 script.readings z (omega (arith, reads))))
-      (λ sized calm. (line-through given.event s2 sized calm).passes))
+      (λ sized calm. (line-through script.source given.event s2 sized calm).passes))
       (λ sized calm. (then-through Scans s3 sized tt).passes))
       (offers-pass 0 script.offers s4 (omega (arith, offers)))

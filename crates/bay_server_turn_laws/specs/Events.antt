@@ -78,11 +78,12 @@ abbrev pub read_events : ℕ → ℕ → Reading → TurnState → List ChosenEv
 read_events now slot r s =
     if is_open_at slot s then events_on_read now slot r.choice r.heard s else []
 
--- an event of the process, if there is one
-abbrev pub line_events : ℕ → Option ProcessEvent → TurnState → List ChosenEvent
-line_events now None s = []
-line_events now (Some event) s =
-    with_memory (event_of event) ∷ events_closing_full now (after_process_event now event s)
+-- an event of the process, if there is one; it was read from this line
+abbrev pub line_events : ℕ → List ℕ → Option ProcessEvent → TurnState → List ChosenEvent
+line_events now source None s = []
+line_events now source (Some event) s =
+    with_memory (event_of event)
+    ∷ events_closing_full now (after_process_event now source event s)
 
 -- the program runs once
 abbrev pub scan_events : ℕ → TurnState → List ChosenEvent
@@ -114,10 +115,10 @@ events_of_each f events slot (c ∷ cs) s =
 abbrev pub turn_events : ℕ → ProcessReport → Script → ServerData → List ChosenEvent
 turn_events now given script h =
     accept_events now script.accepted (turn_begin h)
-    ++ line_events now (loss_event given) (after_accept now script h)
+    ++ line_events now script.source (loss_event given) (after_accept now script h)
     ++ events_of_each (read_one now) (read_events now) 0 script.readings
     (after_loss now given script h)
-    ++ line_events now given.event (after_reads now given script h)
+    ++ line_events now script.source given.event (after_reads now given script h)
     ++ scan_events now (after_line now given script h)
     ++ events_of_each (offer_one now) (offer_events now) 0 script.offers
     (after_scan now given script h)

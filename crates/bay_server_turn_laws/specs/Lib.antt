@@ -8,12 +8,13 @@
 -- associations. `CloseReports`: how often the closing of an association is reported. `Causes`: with
 -- which reason, by the calls on the link and the device's answers. `Faults`: the report of a failed
 -- link. `Room`: no queue has more than its room. `Fullness`: when a reply had no room, by octets
--- alone.
+-- alone. `Records`: the record of a session, and what its file takes, by the lines of the events.
 
 -- What public clauses cite of the crates below.
 pub use Rattle.bay_device.specs.Device
 pub use Rattle.bay_device.specs.Outcomes
 pub use Rattle.bay_server_turn.specs.Calls
+pub use Rattle.bay_server_turn.specs.Recorded
 pub use Rattle.bay_server_turn.specs.Served
 pub use Rattle.bay_server_turn.specs.Turns
 pub use Rattle.bay_trace.specs.Trace
@@ -24,5 +25,6 @@ pub mod Faults
 pub mod Flows
 pub mod Fullness
 pub mod Order
+pub mod Records
 pub mod Room
 pub mod CloseReports

@@ -1,18 +1,21 @@
 // Laws of a turn. Each function does nothing, and its contract is the law.
-ghost use Rattle.std.specs.Prelude.{◌≡◌, ℕ, ◌+◌, ◌-◌, ◌^◌, ◌<◌, ◌≤◌, [], true, List, Option, length, replicate};
+ghost use Rattle.std.specs.Prelude.{◌≡◌, ℕ, ◌+◌, ◌-◌, ◌^◌, ◌<◌, ◌≤◌, [], true, false, List, Option, None, Some, length, replicate};
 ghost use Rattle.bay_device.specs.Device.{State};
 ghost use Rattle.bay_device.specs.Outcomes.{associations};
 ghost use Rattle.bay_server_turn.specs.Calls.{CountedCall};
+ghost use Rattle.bay_server_turn.specs.Recorded.{Recording, WritesRecording};
 ghost use Rattle.bay_server_turn.specs.Served.{Serves};
 ghost use Rattle.bay_server_turn.specs.Turns.{ServerData, Script, after_turn, turn_calls};
 ghost use Rattle.bay_server_turn.specs.declared.process_input.ProcessReport.{ProcessReport};
+ghost use Rattle.bay_server_turn.specs.declared.record.RecordEnd.{RecordEnd};
 ghost use Rattle.bay_server_turn.specs.declared.turn_report.Turn.{Turn};
 ghost use Rattle.bay_server_turn_laws.specs.Causes.{HasItsCause};
-ghost use Rattle.bay_server_turn_laws.specs.Events.{TurnIsItsEvents, turn_events};
+ghost use Rattle.bay_server_turn_laws.specs.Events.{ChosenEvent, TurnIsItsEvents, turn_events};
 ghost use Rattle.bay_server_turn_laws.specs.Faults.{reports_failure};
 ghost use Rattle.bay_server_turn_laws.specs.Flows.{IsInTime, IsTidy, LosesNothing, read_by_calls, received_of};
 ghost use Rattle.bay_server_turn_laws.specs.Fullness.{IsOpenIn, IsReportedIfFull};
 ghost use Rattle.bay_server_turn_laws.specs.Order.{IsInOrder};
+ghost use Rattle.bay_server_turn_laws.specs.Records.{IsWritten, RecordsTurn, TakesLines, lines_of, recorded_all};
 ghost use Rattle.bay_server_turn_laws.specs.Room.{AreInRoom};
 ghost use Rattle.bay_server_turn_laws.specs.CloseReports.{times_reported};
 
@@ -21,20 +24,22 @@ use bay_server_turn::link::Link;
 /// A turn reports a failed connection of an association only if a call of the link failed: the
 /// link's count of failures rises in such a turn, unless it is at its maximum.
 pub fn a_reported_failure_is_counted<L: Link>(_link: &L)
-    ensures { (old new : L) (now : ℕ) (given : ProcessReport) (before after : ServerData)
+    ensures { (old new : L) (now : ℕ) (given : ProcessReport) (source : List ℕ)
+        (before after : ServerData)
         (turn : Turn)
         →
-        Serves (CountedCall L.does L.failures) old new now given before after turn
+        Serves (CountedCall L.does L.failures) old new now given source before after turn
         → reports_failure turn.closed ≡ true →
         L.failures old < 2 ^ 64 - 1 → L.failures old < L.failures new }
 {}
 
 /// A turn reports the closing of an association at most once: with its reason, or as out of memory.
 pub fn an_association_is_reported_once<L: Link>(_link: &L)
-    ensures { (old new : L) (now : ℕ) (given : ProcessReport) (before after : ServerData)
+    ensures { (old new : L) (now : ℕ) (given : ProcessReport) (source : List ℕ)
+        (before after : ServerData)
         (turn : Turn)
         (slot : ℕ) →
-        Serves (CountedCall L.does L.failures) old new now given before after turn
+        Serves (CountedCall L.does L.failures) old new now given source before after turn
         → times_reported (slot + 1) turn.closed turn.memory ≤ 1 }
 {}
 
@@ -85,15 +90,17 @@ pub fn octets_are_neither_lost_nor_repeated()
         → (a : ℕ) → read_by_calls a (turn_calls now given script h)
         ≡ received_of a (turn_events now given script h) }
     // A server is tidy when it is created.
-    ensures begins { (device : State)
-        → IsTidy (record { device = device; queues = replicate associations [] }) }
+    ensures begins { (device : State) (recording : Option Recording)
+        → IsTidy (record { device = device; queues = replicate associations [];
+        recording = recording }) }
 {}
 
 /// No queue ever holds more than 262,144 octets: none does when a server is created, and none does
 /// after a turn if none did before it.
 pub fn queues_stay_in_their_room()
-    ensures begins { (device : State)
-        → AreInRoom (record { device = device; queues = replicate associations [] }) }
+    ensures begins { (device : State) (recording : Option Recording)
+        → AreInRoom (record { device = device; queues = replicate associations [];
+        recording = recording }) }
     ensures stays { (now : ℕ) (given : ProcessReport) (script : Script) (h : ServerData)
         → AreInRoom h
         → AreInRoom (after_turn now given script h).server }
@@ -110,4 +117,32 @@ pub fn a_full_queue_is_reported()
         → length script.offers ≡ associations → (slot : ℕ) → slot < associations
         → IsOpenIn slot script h
         → IsReportedIfFull now given script h slot }
+{}
+
+/// In a turn each event of the turn is recorded, in order, if the session is: an event of the
+/// process with the line that it was read from.
+pub fn a_turn_records_its_events()
+    ensures { (now : ℕ) (given : ProcessReport) (script : Script) (h : ServerData)
+        → (after_turn now given script h).server.recording
+        ≡ recorded_all now script.source (turn_events now given script h) h.recording }
+{}
+
+/// In a turn the file takes the lines of all the turn's events, in order, or the turn reports why
+/// the record has ended, and the file took a front of them; after that it takes nothing.
+pub fn a_record_is_a_front()
+    // A record that has not ended takes all the lines of events and goes on, or takes a front of
+    // them and ends.
+    ensures lines { (now : ℕ) (source : List ℕ) (events : List ChosenEvent) (r : Recording)
+        → r.is_over ≡ false → r.end ≡ None
+        → TakesLines (lines_of now source events) r
+        (recorded_all now source events (Some r)) }
+    // A record that has ended stays as it is.
+    ensures ended { (now : ℕ) (source : List ℕ) (events : List ChosenEvent) (r : Recording)
+        → r.is_over ≡ true → recorded_all now source events (Some r) ≡ Some r }
+    // The events of a turn are recorded, and then what waits is written.
+    ensures turn { (now : ℕ) (source : List ℕ) (events : List ChosenEvent)
+        (old mid new : Option Recording) (took : List ℕ) (answer : Option RecordEnd)
+        → IsWritten old → mid ≡ recorded_all now source events old
+        → WritesRecording took mid new answer
+        → RecordsTurn (lines_of now source events) took old new answer }
 {}
