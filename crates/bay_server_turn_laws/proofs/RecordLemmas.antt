@@ -319,20 +319,20 @@ module _ (lines took : List ℕ) (a b c : Option Recording) (x y : Option Record
         ⊎ WritesFront (lines ++ more) (took ++ further) a c (option_or x y)
     both-write (inl w) = elim (t.recording w.goes_on) [
       | inl v ↦ inl (record {
-          all = ap (λ l. l ++ further) w.all ∙ ap (λ l. lines ++ l) v.all;
-          no_end = ap (λ o. option_or o y) w.no_end ∙ v.no_end;
-          goes_on = v.goes_on;
-          left = omega (arith, w.left, v.left, length-append took further);
-        })
+        all = ap (λ l. l ++ further) w.all ∙ ap (λ l. lines ++ l) v.all;
+        no_end = ap (λ o. option_or o y) w.no_end ∙ v.no_end;
+        goes_on = v.goes_on;
+        left = omega (arith, w.left, v.left, length-append took further);
+      })
       | inr v ↦ inr (record {
-          rest = v.rest;
-          is = append_assoc took further v.rest ∙ ap (λ l. l ++ (further ++ v.rest)) w.all
-              ∙ ap (λ l. lines ++ l) v.is;
-          reason = v.reason;
-          reported = ap (λ o. option_or o y) w.no_end ∙ v.reported;
-          over = v.over;
-          room = omega (arith, w.left, v.room, length-append took further);
-        })
+        rest = v.rest;
+        is = append_assoc took further v.rest ∙ ap (λ l. l ++ (further ++ v.rest)) w.all
+            ∙ ap (λ l. lines ++ l) v.is;
+        reason = v.reason;
+        reported = ap (λ o. option_or o y) w.no_end ∙ v.reported;
+        over = v.over;
+        room = omega (arith, w.left, v.room, length-append took further);
+      })
     ]
     both-write (inr w) =
         let v = t.idle w.over in

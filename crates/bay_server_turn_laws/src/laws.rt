@@ -91,16 +91,22 @@ pub fn octets_are_neither_lost_nor_repeated()
         ≡ received_of a (turn_events now given script h) }
     // A server is tidy when it is created.
     ensures begins { (device : State) (recording : Option Recording)
-        → IsTidy (record { device = device; queues = replicate associations [];
-        recording = recording }) }
+        → IsTidy (record {
+          device = device;
+          queues = replicate associations [];
+          recording = recording;
+        }) }
 {}
 
 /// No queue ever holds more than 262,144 octets: none does when a server is created, and none does
 /// after a turn if none did before it.
 pub fn queues_stay_in_their_room()
     ensures begins { (device : State) (recording : Option Recording)
-        → AreInRoom (record { device = device; queues = replicate associations [];
-        recording = recording }) }
+        → AreInRoom (record {
+          device = device;
+          queues = replicate associations [];
+          recording = recording;
+        }) }
     ensures stays { (now : ℕ) (given : ProcessReport) (script : Script) (h : ServerData)
         → AreInRoom h
         → AreInRoom (after_turn now given script h).server }
