@@ -1,4 +1,4 @@
--- The record of a session takes a front of the lines of events, and so does its file.
+-- The record of a session takes a prefix of the lines of events, and so does its file.
 use Rattle.std.proofs.Common.{Bool, List, None, Option, Some, [], ap, append-nil, append_assoc, arith, cond, false, inl, inr, is_some, leb, length, length-append, not, refl, subst, sym, true, ℕ, ◌++◌, ◌+◌, ◌-◌, ◌∙◌, ◌∷◌, ◌≡◌, ◌≤◌, ◌⊎◌}
 use Rattle.std.proofs.lemmas.Bool.{leb-true}
 use Rattle.std.specs.Option.{option_or}
@@ -8,19 +8,19 @@ use Rattle.bay_server_turn.specs.Recorded.{Recording, WritesRecording, after_wri
 use Rattle.bay_server_turn.specs.declared.record.RecordEnd.{RecordEnd}
 use Rattle.bay_server_turn.specs.declared.record.RecordEnd.TheVariants.{Full, Overlong, Failed}
 use Rattle.bay_server_turn_laws.specs.Events.{ChosenEvent}
-use Rattle.bay_server_turn_laws.specs.Records.{IsWritten, RecordsTurn, TakesAll, TakesFront, TakesLines, WritesAll, WritesFront, is_recording, lines_of, recorded_all, room_left}
+use Rattle.bay_server_turn_laws.specs.Records.{IsWritten, RecordsTurn, TakesAll, TakesPrefix, TakesLines, WritesAll, WritesPrefix, is_recording, lines_of, recorded_all, room_left}
 
--- a record takes all the lines or a front of them
+-- a record takes all the lines or a prefix of them
 abbrev pub Takes : List ℕ → Recording → Recording → Type 0
-Takes lines old new = TakesAll lines old new ⊎ TakesFront lines old new
+Takes lines old new = TakesAll lines old new ⊎ TakesPrefix lines old new
 
 -- ---- an event
 
 -- a record that ends takes nothing
 ends-now : (lines : List ℕ) (reason : RecordEnd) (r : Recording)
-    → TakesFront lines r (finished reason r)
+    → TakesPrefix lines r (finished reason r)
 ends-now lines reason r = record {
-  front = [];
+  taken = [];
   rest = lines;
   is = refl;
   over = refl;
@@ -99,23 +99,23 @@ all-then line lines r m n a (inl b) = inl (record {
   left = omega (arith, a.left, b.left, length-append line lines);
 })
 all-then line lines r m n a (inr b) = inr (record {
-  front = line ++ b.front;
+  taken = line ++ b.taken;
   rest = b.rest;
-  is = append_assoc line b.front b.rest ∙ ap (λ l. line ++ l) b.is;
+  is = append_assoc line b.taken b.rest ∙ ap (λ l. line ++ l) b.is;
   over = b.over;
   reason = b.reason;
   ended = b.ended;
-  waiting = b.waiting ∙ ap (λ l. l ++ b.front) a.waiting ∙ append_assoc r.waiting line b.front;
-  left = omega (arith, a.left, b.left, length-append line b.front);
+  waiting = b.waiting ∙ ap (λ l. l ++ b.taken) a.waiting ∙ append_assoc r.waiting line b.taken;
+  left = omega (arith, a.left, b.left, length-append line b.taken);
 })
 
 -- lines that come after the end
-front-then : (line lines : List ℕ) (r m : Recording) → TakesFront line r m
-    → TakesFront (line ++ lines) r m
-front-then line lines r m f = record {
-  front = f.front;
+prefix-then : (line lines : List ℕ) (r m : Recording) → TakesPrefix line r m
+    → TakesPrefix (line ++ lines) r m
+prefix-then line lines r m f = record {
+  taken = f.taken;
   rest = f.rest ++ lines;
-  is = sym (append_assoc f.front f.rest lines) ∙ ap (λ l. l ++ lines) f.is;
+  is = sym (append_assoc f.taken f.rest lines) ∙ ap (λ l. l ++ lines) f.is;
   over = f.over;
   reason = f.reason;
   ended = f.ended;
@@ -139,10 +139,10 @@ then-lines line lines r m later (inl a) goes stays =
 then-lines line lines r m later (inr f) goes stays = record {
   recording = m;
   is = stays m f.over;
-  takes = inr (front-then line lines r m f);
+  takes = inr (prefix-then line lines r m f);
 }
 
--- a record that has not ended takes all the lines of events, or a front of them
+-- a record that has not ended takes all the lines of events, or a prefix of them
 pub takes-lines : (now : ℕ) (source : List ℕ) (events : List ChosenEvent) (r : Recording)
     → r.is_over ≡ false → r.end ≡ None
     → TakesLines (lines_of now source events) r (recorded_all now source events (Some r))
@@ -177,11 +177,11 @@ write-written : (rest : List ℕ) (r : Recording) (new : Option Recording)
     → new ≡ Some (after_write rest r) → IsWritten new
 write-written rest r new after = subst IsWritten (sym after) (refl, refl)
 
--- what waits is a front of the lines, and a front of this is written
+-- what waits is a prefix of the lines, and a prefix of this is written
 write-takes : (lines took rest : List ℕ) (r m : Recording) (new : Option Recording)
     (answer : Option RecordEnd) → r.waiting ≡ [] → took ++ rest ≡ m.waiting
     → new ≡ Some (after_write rest m) → answer ≡ end_after_write rest m → Takes lines r m
-    → WritesAll lines took (Some r) new answer ⊎ WritesFront lines took (Some r) new answer
+    → WritesAll lines took (Some r) new answer ⊎ WritesPrefix lines took (Some r) new answer
 write-takes lines took [] r m new answer none is after answered (inl a) =
     let all : took ≡ lines =
     sym (append-nil took) ∙ is ∙ a.waiting ∙ ap (λ l. l ++ lines) none in
@@ -206,7 +206,7 @@ write-takes lines took (x ∷ rest) r m new answer none is after answered (inl a
       room = low;
     })
 write-takes lines took rest r m new answer none is after answered (inr f) =
-    let front : took ++ rest ≡ f.front = is ∙ f.waiting ∙ ap (λ l. l ++ f.front) none in
+    let front : took ++ rest ≡ f.taken = is ∙ f.waiting ∙ ap (λ l. l ++ f.taken) none in
     let low : length took ≤ r.left =
     omega (arith, f.left, ap length front, length-append took rest) in
     let ends = end-of rest in
@@ -309,14 +309,14 @@ no-turn r written = record {
   idle = λ e. record { nothing = refl; no_end = refl; same = refl };
 }
 
--- The file of a turn and of what follows took a front of the lines of both; the end is reported
+-- The file of a turn and of what follows took a prefix of the lines of both; the end is reported
 -- once.
 module _ (lines took : List ℕ) (a b c : Option Recording) (x y : Option RecordEnd)
     (more further : List ℕ) (s : RecordsTurn lines took a b x) (t : RecordsTurn more further b c y)
   where
-    both-write : WritesAll lines took a b x ⊎ WritesFront lines took a b x
+    both-write : WritesAll lines took a b x ⊎ WritesPrefix lines took a b x
         → WritesAll (lines ++ more) (took ++ further) a c (option_or x y)
-        ⊎ WritesFront (lines ++ more) (took ++ further) a c (option_or x y)
+        ⊎ WritesPrefix (lines ++ more) (took ++ further) a c (option_or x y)
     both-write (inl w) = elim (t.recording w.goes_on) [
       | inl v ↦ inl (record {
         all = ap (λ l. l ++ further) w.all ∙ ap (λ l. lines ++ l) v.all;

@@ -24,22 +24,22 @@ pub record TakesAll (lines : List ℕ) (old new : Recording) : Type 0 where
   pub waiting : new.waiting ≡ old.waiting ++ lines
   pub left : new.left + length lines ≡ old.left
 
--- A record takes a front of the lines, after those that wait, and ends.
-pub record TakesFront (lines : List ℕ) (old new : Recording) : Type 0 where
-  pub front : List ℕ
+-- A record takes a prefix of the lines, after those that wait, and ends.
+pub record TakesPrefix (lines : List ℕ) (old new : Recording) : Type 0 where
+  pub taken : List ℕ
   pub rest : List ℕ
-  pub is : front ++ rest ≡ lines
+  pub is : taken ++ rest ≡ lines
   pub over : new.is_over ≡ true
   pub reason : RecordEnd
   pub ended : new.end ≡ Some reason
-  pub waiting : new.waiting ≡ old.waiting ++ front
-  pub left : new.left + length front ≡ old.left
+  pub waiting : new.waiting ≡ old.waiting ++ taken
+  pub left : new.left + length taken ≡ old.left
 
--- The record takes all the lines and goes on, or takes a front of them and ends.
+-- The record takes all the lines and goes on, or takes a prefix of them and ends.
 pub record TakesLines (lines : List ℕ) (old : Recording) (new : Option Recording) : Type 0 where
   pub recording : Recording
   pub is : new ≡ Some recording
-  pub takes : TakesAll lines old recording ⊎ TakesFront lines old recording
+  pub takes : TakesAll lines old recording ⊎ TakesPrefix lines old recording
 
 -- ---- what the file takes in a turn
 
@@ -66,9 +66,9 @@ pub record WritesAll (lines took : List ℕ) (old new : Option Recording) (answe
   pub goes_on : is_recording new ≡ true
   pub left : room_left new + length took ≡ room_left old
 
--- The file took a front of the lines, which the record had room for; the record has ended, and it is
--- reported why.
-pub record WritesFront (lines took : List ℕ) (old new : Option Recording)
+-- The file took a prefix of the lines, which the record had room for; the record has ended, and it
+-- is reported why.
+pub record WritesPrefix (lines took : List ℕ) (old new : Option Recording)
     (answer : Option RecordEnd) : Type 0 where
   pub rest : List ℕ
   pub is : took ++ rest ≡ lines
@@ -84,12 +84,12 @@ pub record WritesNothing (took : List ℕ) (old new : Option Recording) (answer 
   pub no_end : answer ≡ None
   pub same : new ≡ old
 
--- What the file of a record takes in a turn whose events have these lines: all of them, or a front of
--- them if the record ends; and nothing if there is no record, or it has ended before.
+-- What the file of a record takes in a turn whose events have these lines: all of them, or a prefix
+-- of them if the record ends; and nothing if there is no record, or it has ended before.
 pub record RecordsTurn (lines took : List ℕ) (old new : Option Recording)
     (answer : Option RecordEnd) : Type 0 where
   pub written : IsWritten new
   pub kept : is_some new ≡ is_some old
   pub recording : is_recording old ≡ true
-      → WritesAll lines took old new answer ⊎ WritesFront lines took old new answer
+      → WritesAll lines took old new answer ⊎ WritesPrefix lines took old new answer
   pub idle : is_recording old ≡ false → WritesNothing took old new answer
