@@ -1,5 +1,6 @@
 pub mod OfferLemmas
 pub mod PartLemmas
+pub mod RecordingLemmas
 pub mod RoomLemmas
 pub mod StepLemmas
 pub mod SupervisedLemmas

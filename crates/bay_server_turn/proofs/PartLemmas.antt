@@ -218,14 +218,14 @@ module _ {L : Type 0} (step : L → Call → L → Type 0) where
 
   -- ---- a turn
 
-  serves : (old k l m p q new : L) (now : ℕ) (given : ProcessReport) (before after : ServerData)
-      (noted : TurnData)
+  serves : (old k l m p q new : L) (now : ℕ) (given : ProcessReport) (source : List ℕ)
+      (before after : ServerData) (noted : TurnData)
       (s z t u v : TurnState) (opened : Option (ℕ × SocketAddrV4)) (over : Option ℕ) (turn : Turn)
       → Opens step now old k (turn_begin before) s opened
-      → MakesCalls step k (event_calls now (loss_event given) s) l
-      → z ≡ with_event now (loss_event given) s
+      → MakesCalls step k (event_calls now source (loss_event given) s) l
+      → z ≡ with_event now source (loss_event given) s
       → PerformsEach step (read_one now) (read_calls now) l m (reading_count given) z t
-      → MakesCalls step m (event_calls now given.event t) p → u ≡ with_event now given.event t
+      → MakesCalls step m (event_calls now source given.event t) p → u ≡ with_event now source given.event t
       → MakesCalls step p (scan_calls now u) q → v ≡ after_turn_scan now u
       → PerformsEach step (offer_one now) (offer_calls now) q new 8 v (turn_state after noted)
       → over ≡ expired_at now before.device
@@ -238,33 +238,33 @@ module _ {L : Type 0} (step : L → Call → L → Type 0) where
         closed = noted.closed;
         memory = noted.memory;
       }
-      → Serves step old new now given before after turn
-  serves old k l m p q new now given before after noted s z t u v opened over turn a first_talks
+      → Serves step old new now given source before after turn
+  serves old k l m p q new now given source before after noted s z t u v opened over turn a first_talks
       first_is r line_talks line_is scan_talks scan_is o over_is told =
       let script : Script =
-      record { accepted = a.performs.choice; readings = r.choices; offers = o.choices } in
+      record { source = source; accepted = a.performs.choice; readings = r.choices; offers = o.choices } in
       let zero : s ≡ after_accept now script before = a.performs.is in
       let first : z ≡ after_loss now given script before =
-      first_is ∙ ap (with_event now (loss_event given)) zero in
+      first_is ∙ ap (with_event now source (loss_event given)) zero in
       let second : t ≡ after_reads now given script before =
       r.is ∙ ap (after_each (read_one now) 0 r.choices) first in
       let third : u ≡ after_line now given script before =
-      line_is ∙ ap (with_event now given.event) second in
+      line_is ∙ ap (with_event now source given.event) second in
       let fourth : v ≡ after_scan now given script before =
       scan_is ∙ ap (after_turn_scan now) third in
       let whole : turn_state after noted ≡ after_turn now given script before =
       o.is ∙ ap (after_each (offer_one now) 0 o.choices) fourth in
       let lost_talks : MakesCalls step k
-      (event_calls now (loss_event given) (after_accept now script before)) l =
-      subst (λ x. MakesCalls step k (event_calls now (loss_event given) x) l) zero first_talks in
+      (event_calls now source (loss_event given) (after_accept now script before)) l =
+      subst (λ x. MakesCalls step k (event_calls now source (loss_event given) x) l) zero first_talks in
       let read_talks : MakesCalls step l
       (calls_of_each (read_one now) (read_calls now) 0 r.choices
       (after_loss now given script before)) m =
       subst (λ x. MakesCalls step l (calls_of_each (read_one now) (read_calls now) 0 r.choices x) m)
       first r.makes in
       let lines : MakesCalls step m
-      (event_calls now given.event (after_reads now given script before)) p =
-      subst (λ x. MakesCalls step m (event_calls now given.event x) p) second line_talks in
+      (event_calls now source given.event (after_reads now given script before)) p =
+      subst (λ x. MakesCalls step m (event_calls now source given.event x) p) second line_talks in
       let scans : MakesCalls step p (scan_calls now (after_line now given script before)) q =
       subst (λ x. MakesCalls step p (scan_calls now x) q) third scan_talks in
       let offers : MakesCalls step q
@@ -275,6 +275,7 @@ module _ {L : Type 0} (step : L → Call → L → Type 0) where
       fourth o.makes in
       record {
         script = script;
+        source_is = refl;
         all_read = r.many;
         all_offered = o.many;
         makes = Talks-append step old q new _ _
@@ -298,14 +299,14 @@ module _ {L : Type 0} (step : L → Call → L → Type 0) where
       }
 
   -- with what the code has in hand
-  pub serves-with : (old k l m p q new : L) (now : ℕ) (given : ProcessReport)
+  pub serves-with : (old k l m p q new : L) (now : ℕ) (given : ProcessReport) (source : List ℕ)
       (first_event : Option ProcessEvent) (before after : ServerData) (first noted : TurnData)
       (s z t u v : TurnState) (opened : Option (ℕ × SocketAddrV4)) (over : Option ℕ) (turn : Turn)
       → turn_state before first ≡ turn_begin before → first_event ≡ loss_event given
       → Opens step now old k (turn_state before first) s opened
-      → MakesCalls step k (event_calls now first_event s) l → z ≡ with_event now first_event s
+      → MakesCalls step k (event_calls now source first_event s) l → z ≡ with_event now source first_event s
       → PerformsEach step (read_one now) (read_calls now) l m (reading_count given) z t
-      → MakesCalls step m (event_calls now given.event t) p → u ≡ with_event now given.event t
+      → MakesCalls step m (event_calls now source given.event t) p → u ≡ with_event now source given.event t
       → MakesCalls step p (scan_calls now u) q → v ≡ after_turn_scan now u
       → PerformsEach step (offer_one now) (offer_calls now) q new 8 v (turn_state after noted)
       → over ≡ expired_at now before.device
@@ -318,19 +319,18 @@ module _ {L : Type 0} (step : L → Call → L → Type 0) where
         closed = noted.closed;
         memory = noted.memory;
       }
-      → Serves step old new now given before after turn
-  serves-with old k l m p q new now given first_event before after first noted s z t u v opened over
+      → Serves step old new now given source before after turn
+  serves-with old k l m p q new now given source first_event before after first noted s z t u v opened over
       turn e f a ft fi r lt li st si o ov told =
-      serves old k l m p q new now given before after noted s z t u v opened over turn
+      serves old k l m p q new now given source before after noted s z t u v opened over turn
       (subst (λ x. Opens step now old k x s opened) e a)
-      (subst (λ x. MakesCalls step k (event_calls now x s) l) f ft)
-      (fi ∙ ap (λ x. with_event now x s) f)
+      (subst (λ x. MakesCalls step k (event_calls now source x s) l) f ft)
+      (fi ∙ ap (λ x. with_event now source x s) f)
       r lt li st si o ov told
 
   pub serves-as : (old new : L) (now same : ℕ) (given told : ProcessReport)
-      (before after : ServerData)
-      (turn : Turn) → Serves step old new now given before after turn
-      → now ≡ same → given ≡ told → Serves step old new same told before after turn
-  serves-as old new now same given told before after turn serves p q =
-      subst (λ n. Serves step old new n told before after turn) p
-      (subst (λ l. Serves step old new now l before after turn) q serves)
+      (source : List ℕ) (before after : ServerData) (turn : Turn) → Serves step old new now given source before after turn
+      → now ≡ same → given ≡ told → Serves step old new same told source before after turn
+  serves-as old new now same given told source before after turn serves p q =
+      subst (λ n. Serves step old new n told source before after turn) p
+      (subst (λ l. Serves step old new now l source before after turn) q serves)

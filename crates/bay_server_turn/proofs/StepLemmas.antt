@@ -1,8 +1,9 @@
 -- Steps of the device within a turn.
-use Rattle.std.proofs.Common.{◌≡◌, ℕ, ◌+◌, List, Option, None, Result, Ok, ap, sym, ◌∙◌}
+use Rattle.std.proofs.Common.{◌≡◌, ℕ, ◌+◌, List, [], Option, None, Some, Result, Ok, Err, ap, subst, sym, ◌∙◌}
 use Rattle.std.specs.Borrow.{Bor}
 use Rattle.bay_mms_services.specs.declared.answer.Command.{Command}
 use Rattle.bay_mms_services.specs.declared.answer.ControlDecision.{ControlDecision}
+use Rattle.bay_device.specs.Code.{step_code_of}
 use Rattle.bay_device.specs.Device.{State}
 use Rattle.bay_device.specs.Outcomes.{Outcome, outcome}
 use Rattle.bay_device.specs.Steps.{IsOutcome, Steps}
@@ -12,35 +13,106 @@ use Rattle.bay_device.specs.declared.event.Sent.{Sent}
 use Rattle.bay_device.specs.declared.event.Step.{Step}
 use Rattle.bay_device.specs.declared.fault.StepFault.{StepFault}
 use Rattle.bay_trace.specs.Resolving.{borrow_of}
+use Rattle.bay_server_turn.specs.Recorded.{Recording, recorded}
 use Rattle.bay_server_turn.specs.Served.{HandlesOctets}
-use Rattle.bay_server_turn.specs.Turns.{ServerData, TurnData, TurnState, with_decisions, event_of, after_device_close, start_closing_if_closed, put_all, put_answer, put_ended, record_refusal, after_process_event, turn_state, with_commands, with_device, with_noted}
+use Rattle.bay_server_turn.specs.Turns.{ServerData, TurnData, TurnState, with_decisions, event_of, after_device_close, start_closing_if_closed, put_all, put_answer, put_ended, put_quiet, record_refusal, after_event, after_process_event, turn_state, with_commands, with_device, with_noted}
 use Rattle.bay_server_turn.specs.declared.process_input.ProcessEvent.{ProcessEvent}
+use Rattle.bay_server_turn.proofs.RecordingLemmas.{all-recorded, answer-recorded, ended-recorded, refusal-recorded, with_record}
 
-held-as : (h : ServerData) (device : State) (queues : List (List ℕ)) → h.device ≡ device
-    → h.queues ≡ queues → h ≡ record { device = device; queues = queues }
-held-as h device queues p q =
+held-as : (h : ServerData) (device : State) (queues : List (List ℕ)) (recording : Option Recording)
+    → h.device ≡ device → h.queues ≡ queues → h.recording ≡ recording
+    → h ≡ record { device = device; queues = queues; recording = recording }
+held-as h device queues recording p q r =
+    let with_recording : Option Recording → ServerData =
+    λ x. record { device = h.device; queues = h.queues; recording = x } in
     let with_queues : List (List ℕ) → ServerData =
-    λ qs. record { device = h.device; queues = qs } in
-    let with_state : State → ServerData = λ d. record { device = d; queues = queues } in
-    ap with_queues q ∙ ap with_state p
+    λ qs. record { device = h.device; queues = qs; recording = recording } in
+    let with_state : State → ServerData =
+    λ d. record { device = d; queues = queues; recording = recording } in
+    ap with_recording r ∙ ap with_queues q ∙ ap with_state p
+
+-- the server after a step
+stepped : (now : ℕ) (source : List ℕ) (e : Event) (h after : ServerData) (noted : TurnData)
+    (device : State) → after.device ≡ device → after.queues ≡ h.queues
+    → after.recording ≡ recorded now source e h.recording
+    → turn_state after noted
+    ≡ with_record (recorded now source e) (with_device device (turn_state h noted))
+stepped now source e h after noted device left queues record_is =
+    ap (λ (x : ServerData). turn_state x noted)
+    (held-as after device h.queues (recorded now source e h.recording) left queues record_is)
+
+-- an event that sends nothing but the report that an operation ended was applied
+pub quieted : (now : ℕ) (e : Event) (h after : ServerData) (noted : TurnData)
+    (result : Result Step StepFault) (step : Step) (t : TurnState)
+    → IsOutcome (outcome None now e h.device) result after.device → result ≡ Ok step
+    → after.queues ≡ h.queues → after.recording ≡ recorded now [] e h.recording
+    → t ≡ put_ended step.ended (turn_state after noted)
+    → t ≡ after_event now e (turn_state h noted)
+quieted now e h after noted result step t gives ok queues record_is put =
+    let o : Outcome = outcome None now e h.device in
+    let f : Option Recording → Option Recording = recorded now [] e in
+    let s : TurnState = with_device o.after (turn_state h noted) in
+    put ∙ ap (put_ended step.ended)
+    (stepped now [] e h after noted o.after gives.left queues record_is)
+    ∙ ended-recorded f step.ended s
+    ∙ ap (λ (a : Result Step StepFault). with_record f (put_quiet a s))
+    (sym ok ∙ gives.answered)
+
+-- an event that the device refuses was recorded
+pub unquieted : (now : ℕ) (e : Event) (h after : ServerData) (noted : TurnData)
+    (result : Result Step StepFault) (fault : StepFault)
+    → IsOutcome (outcome None now e h.device) result after.device → result ≡ Err fault
+    → after.queues ≡ h.queues → after.recording ≡ recorded now [] e h.recording
+    → turn_state after noted ≡ after_event now e (turn_state h noted)
+unquieted now e h after noted result fault gives refused queues record_is =
+    let o : Outcome = outcome None now e h.device in
+    let f : Option Recording → Option Recording = recorded now [] e in
+    let s : TurnState = with_device o.after (turn_state h noted) in
+    stepped now [] e h after noted o.after gives.left queues record_is
+    ∙ ap (λ (a : Result Step StepFault). with_record f (put_quiet a s))
+    (sym refused ∙ gives.answered)
 
 -- what happens to the process was done
-pub told : (now : ℕ) (event : ProcessEvent) (h after : ServerData) (noted : TurnData) (e : Event)
+pub told : (now : ℕ) (source : List ℕ) (event : ProcessEvent) (h after : ServerData)
+    (noted : TurnData) (e : Event)
     (result : Result Step StepFault) (step : Step) (t : TurnState) → e ≡ event_of event
     → IsOutcome (outcome None now e h.device) result after.device → result ≡ Ok step
-    → after.queues ≡ h.queues → t ≡ put_ended step.ended (turn_state after noted)
-    → t ≡ after_process_event now event (turn_state h noted)
-told now event h after noted e result step t is gives ok queues put =
-    let o : Outcome = outcome None now (event_of event) h.device in
-    let same : outcome None now e h.device ≡ o = ap (λ x. outcome None now x h.device) is in
-    let answer : o.answer ≡ Ok step =
-    ap (λ (x : Outcome). x.answer) (sym same) ∙ sym gives.answered ∙ ok in
-    let held : after ≡ record { device = o.after; queues = h.queues } =
-    held-as after o.after h.queues (gives.left ∙ ap (λ (x : Outcome). x.after) same) queues in
-    put ∙ ap (λ (x : ServerData). put_ended step.ended (turn_state x noted)) held
-    ∙ ap (λ (a : Result Step StepFault). record_refusal a
-    (with_device o.after (turn_state h noted)))
-    (sym answer)
+    → after.queues ≡ h.queues → after.recording ≡ recorded now source e h.recording
+    → t ≡ put_ended step.ended (turn_state after noted)
+    → t ≡ after_process_event now source event (turn_state h noted)
+told now source event h after noted e result step t is gives ok queues record_is put =
+    subst (λ (x : Event). t ≡ with_record (recorded now source x)
+    (record_refusal (outcome None now x h.device).answer
+    (with_device (outcome None now x h.device).after (turn_state h noted)))) is
+    (let o : Outcome = outcome None now e h.device in
+    let f : Option Recording → Option Recording = recorded now source e in
+    let s : TurnState = with_device o.after (turn_state h noted) in
+    put ∙ ap (put_ended step.ended)
+    (stepped now source e h after noted o.after gives.left queues record_is)
+    ∙ ended-recorded f step.ended s
+    ∙ ap (λ (a : Result Step StepFault). with_record f (record_refusal a s))
+    (sym ok ∙ gives.answered))
+
+-- what happens to the process was refused
+pub untold : (now : ℕ) (source : List ℕ) (event : ProcessEvent) (h after : ServerData)
+    (noted refused : TurnData) (e : Event)
+    (result : Result Step StepFault) (fault : StepFault) → e ≡ event_of event
+    → IsOutcome (outcome None now e h.device) result after.device → result ≡ Err fault
+    → after.queues ≡ h.queues → after.recording ≡ recorded now source e h.recording
+    → refused ≡ record noted { refused = Some (step_code_of fault) }
+    → turn_state after refused ≡ after_process_event now source event (turn_state h noted)
+untold now source event h after noted refused e result fault is gives no queues record_is noted_is =
+    subst (λ (x : Event). turn_state after refused ≡ with_record (recorded now source x)
+    (record_refusal (outcome None now x h.device).answer
+    (with_device (outcome None now x h.device).after (turn_state h noted)))) is
+    (let o : Outcome = outcome None now e h.device in
+    let f : Option Recording → Option Recording = recorded now source e in
+    let s : TurnState = with_device o.after (turn_state h noted) in
+    ap (turn_state after) noted_is
+    ∙ ap (λ (x : TurnState). record_refusal (Err fault) x)
+    (stepped now source e h after noted o.after gives.left queues record_is)
+    ∙ ap (λ (a : Result Step StepFault). with_record f (record_refusal a s))
+    (sym no ∙ gives.answered))
 
 -- octets were taken in
 pub taken : (now slot : ℕ) (octets : Bor (List ℕ)) (h after : ServerData) (noted left : TurnData)
@@ -48,6 +120,7 @@ pub taken : (now slot : ℕ) (octets : Bor (List ℕ)) (h after : ServerData) (n
     (decisions : List ControlDecision) (t u v : TurnState) (n : TurnData)
     → Steps now (Recv (slot + 1) octets) h.device result after.device → result ≡ Ok step
     → after.queues ≡ h.queues
+    → after.recording ≡ recorded now [] (Recv (slot + 1) octets) h.recording
     → left ≡ start_closing_if_closed slot step.closed noted
     → t ≡ put_ended step.ended (turn_state after left)
     → sends ≡ step.sent → u ≡ put_all sends t
@@ -55,19 +128,20 @@ pub taken : (now slot : ℕ) (octets : Bor (List ℕ)) (h after : ServerData) (n
     → decisions ≡ step.decisions → n ≡ with_decisions slot decisions v.noted
     → HandlesOctets now slot octets.now (turn_state h noted) (with_noted n v)
 taken now slot octets h after noted left result step sends commands decisions t u v n steps ok
-    queues leaves put all_sent puts all-told tells all-decided decided =
+    queues record_is leaves put all_sent puts all-told tells all-decided decided =
     let choice : Option ℕ = steps.choice in
-    let o : Outcome = outcome choice now (Recv (slot + 1) (borrow_of octets.now)) h.device in
+    let e : Event = Recv (slot + 1) (borrow_of octets.now) in
+    let f : Option Recording → Option Recording = recorded now [] e in
+    let o : Outcome = outcome choice now e h.device in
     let answer : o.answer ≡ Ok step = sym steps.answered ∙ ok in
-    let held : after ≡ record { device = o.after; queues = h.queues } =
-    held-as after o.after h.queues steps.left queues in
-    let first : turn_state after left
-    ≡ after_device_close slot step.closed (with_device o.after (turn_state h noted)) =
-    ap (λ (x : ServerData). turn_state x left) held
-    ∙ ap (λ (n : TurnData). turn_state (record { device = o.after; queues = h.queues }) n) leaves in
+    let s : TurnState = with_device o.after (turn_state h noted) in
+    let first : turn_state after left ≡ with_record f (after_device_close slot step.closed s) =
+    ap (turn_state after) leaves
+    ∙ ap (after_device_close slot step.closed)
+    (stepped now [] e h after noted o.after steps.left queues record_is) in
     let whole : v ≡ with_commands step.commands
     (put_all step.sent (put_ended step.ended
-    (after_device_close slot step.closed (with_device o.after (turn_state h noted))))) =
+    (with_record f (after_device_close slot step.closed s)))) =
     tells ∙ ap (λ (cs : List Command). with_commands cs u) all-told
     ∙ ap (λ (x : TurnState). with_commands step.commands x)
     (puts ∙ ap (λ (xs : List Sent). put_all xs t) all_sent
@@ -79,6 +153,6 @@ taken now slot octets h after noted left result step sends commands decisions t 
           ∙ ap (λ (ds : List ControlDecision). with_noted (with_decisions slot ds v.noted) v)
           all-decided
           ∙ ap (λ (x : TurnState). with_noted (with_decisions slot step.decisions x.noted) x) whole
-          ∙ ap (λ (a : Result Step StepFault). put_answer slot a
-          (with_device o.after (turn_state h noted))) (sym answer);
+          ∙ answer-recorded f slot (Ok step) s
+          ∙ ap (λ (a : Result Step StepFault). with_record f (put_answer slot a s)) (sym answer);
     }

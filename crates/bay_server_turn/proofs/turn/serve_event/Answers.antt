@@ -6,8 +6,8 @@ use Rattle.bay_server_turn.proofs.turn.serve_event.Goals as goal
 pub returns-clause-ok : goal.returns-clause-ok
 returns-clause-ok g c =
     let now : c.max-now.result ≡ moment_at c.args.clock c.args.server.now = search rules in
-    serves-as _ _ _ _ _ _ _ _ _ _
-    (serves-with _ _ _ _ _ _ _ _ _ _ _ _ _ _ _ _ _ _ _ _ _ _ _
+    serves-as _ _ _ _ _ _ _ _ _ _ _
+    (serves-with _ _ _ _ _ _ _ _ _ _ _ _ _ _ _ _ _ _ _ _ _ _ _ _
     (ap (turn_state c.args.server.now) c.new-notes.ensures) c.loss_event.ensures
     c.accept_one-opened.ensures.opens c.apply_event_if_any.ensures.makes
     c.apply_event_if_any.ensures.after
