@@ -11,7 +11,7 @@ use std::alloc::{AllocError, Global};
 
 // The version of the program, of its formats and of its fault numbers. CHANGELOG.md lists the
 // changes of each version.
-const VERSION: &str = "1.16.0";
+const VERSION: &str = "1.17.0";
 
 // The note below the options in the help of a command with a program.
 const WANTED: &str = "Exactly one of --logic and --image is needed.";
