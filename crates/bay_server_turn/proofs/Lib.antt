@@ -5,3 +5,4 @@ pub mod RoomLemmas
 pub mod StepLemmas
 pub mod SupervisedLemmas
 pub mod TalkLemmas
+pub mod WriteLemmas

@@ -150,7 +150,10 @@ impl<W: Write> Record<W> {
     {
         let lines = self.lines.as_slice();
         if write_front(&mut self.writer, lines) < lines.len() {
-            self.finish(RecordEnd::Failed);
+            self.lines.clear();
+            self.is_over = true;
+            self.end = None;
+            return Some(RecordEnd::Failed);
         }
         self.lines.clear();
         self.end.take()

@@ -4,7 +4,7 @@ use Rattle.bay_server_turn.proofs.record.write_front.Given as goal
 
 abbrev pub invariant-loop : goal.invariant-loop
 invariant-loop g l = record {
-  within : l.taken ≤ length l.octets.now;
+  within : l.taken ≤ length l.octets;
   bytes : Appends (g.W.Write.contents l.initial.writer) (g.W.Write.contents l.writer)
-      (take l.taken l.octets.now);
+      (take l.taken l.octets);
 }
