@@ -15,9 +15,9 @@ use Rattle.bay_device.specs.declared.fault.StepFault.{StepFault}
 use Rattle.bay_trace.specs.Resolving.{borrow_of}
 use Rattle.bay_server_turn.specs.Recorded.{Recording, recorded}
 use Rattle.bay_server_turn.specs.Served.{HandlesOctets}
-use Rattle.bay_server_turn.specs.Turns.{ServerData, TurnData, TurnState, with_decisions, event_of, after_device_close, start_closing_if_closed, put_all, put_answer, after_event, after_process_event, after_reported, answer_after, put_ended, quiet_after, turn_state, with_commands, with_device, with_noted, with_recorded}
+use Rattle.bay_server_turn.specs.Turns.{ServerData, TurnData, TurnState, with_decisions, event_of, after_device_close, start_closing_if_closed, put_all, after_event, after_process_event, after_reported, answer_after, put_ended, quiet_after, turn_state, with_commands, with_device, with_noted, with_recorded}
 use Rattle.bay_server_turn.specs.declared.process_input.ProcessEvent.{ProcessEvent}
-use Rattle.bay_server_turn.proofs.RecordingLemmas.{all-recorded, answer-recorded, ended-recorded, refusal-recorded, with_record}
+use Rattle.bay_server_turn.proofs.RecordingLemmas.{answer-recorded, ended-recorded, with_record}
 
 held-as : (h : ServerData) (device : State) (queues : List (List ℕ)) (recording : Option Recording)
     → h.device ≡ device → h.queues ≡ queues → h.recording ≡ recording

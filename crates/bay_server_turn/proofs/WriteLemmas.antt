@@ -67,12 +67,15 @@ module _ {W : Type 0} (contents : W → Option (List ℕ)) (old new : W) (r : Re
   -- the writer took all
   pub writes-all : length lines ≤ n → answer ≡ r.end
       → Writes contents (record { writer = old; recording = r })
-      (record { writer = new; recording = record {
-        waiting = left;
-        left = r.left;
-        is_over = r.is_over;
-        end = end;
-      } }) answer
+      (record {
+        writer = new;
+        recording = record {
+          waiting = left;
+          left = r.left;
+          is_over = r.is_over;
+          end = end;
+        };
+      }) answer
   writes-all all answered = record {
     took = take n lines;
     rest = [];
@@ -85,12 +88,15 @@ module _ {W : Type 0} (contents : W → Option (List ℕ)) (old new : W) (r : Re
   -- the writer took a front
   pub writes-some : n < length lines → answer ≡ Some Failed
       → Writes contents (record { writer = old; recording = r })
-      (record { writer = new; recording = record {
-        waiting = left;
-        left = r.left;
-        is_over = true;
-        end = end;
-      } }) answer
+      (record {
+        writer = new;
+        recording = record {
+          waiting = left;
+          left = r.left;
+          is_over = true;
+          end = end;
+        };
+      }) answer
   writes-some less answered =
       let some : is_whole (drop n lines) ≡ false =
       some-left (drop n lines) (omega (arith, length-drop n lines)) in
@@ -100,10 +106,10 @@ module _ {W : Type 0} (contents : W → Option (List ℕ)) (old new : W) (r : Re
         is = take-append-drop n lines ∙ is;
         bytes = bytes;
         after = same true ∙ ap (λ b. record {
-              waiting = [];
-              left = r.left;
-              is_over = cond b r.is_over true;
-              end = None;
-            }) (sym some);
+          waiting = [];
+          left = r.left;
+          is_over = cond b r.is_over true;
+          end = None;
+        }) (sym some);
         answered = answered ∙ ap (λ b. cond b r.end (Some Failed)) (sym some);
       }

@@ -120,8 +120,10 @@ impl<W> Record<W> {
     /// Records an event at a moment, in milliseconds since 1970; `source_line` is the line it was
     /// read from, if it is one of the process.
     pub(crate) fn put(&mut self, now: u64, event: Event<'_>, source_line: &[u8])
-        ensures { self.new ≡ record self.old { recording
-            = with_event_line now source_line.now event.entry self.old.recording } }
+        ensures { self.new ≡ record self.old {
+          recording
+              = with_event_line now source_line.now event.entry self.old.recording;
+        } }
     {
         if self.is_over {
             return;

@@ -74,8 +74,11 @@ impl Server {
     pub fn new(alloc: Global, device: Device) -> Result<Self, AllocFailed<Device>>
         requires closed { device.connections ≡ replicate associations None }
         ensures ok { IfOk result
-            (λ server. server ≡ record { device = device; queues = replicate associations [];
-            recording = None }) }
+            (λ server. server ≡ record {
+              device = device;
+              queues = replicate associations [];
+              recording = None;
+            }) }
         ensures err { IfErr result (λ refused. refused.value ≡ device) }
     {
         let queues = match make_queues(alloc) {

@@ -1,4 +1,4 @@
-use Rattle.std.proofs.Common.{None, Some, refl, subst}
+use Rattle.std.proofs.Common.{None, Some, true, refl, subst}
 use Rattle.bay_server_turn.specs.Recorded.{RecordState, Recording, Writes}
 use Rattle.bay_server_turn.specs.declared.record.RecordEnd.TheVariants.{Failed}
 use Rattle.bay_server_turn.proofs.WriteLemmas.{writes-all, writes-some}
@@ -12,7 +12,16 @@ returns-then-write_front-lines g c =
       is_over = c.self.inside.is_over;
       end = c.self.inside.end;
     } in
-    subst (λ (o : RecordState g.row.W.Denot). Writes g.W.Write.contents o _ (Some Failed))
+    let left : RecordState g.row.W.Denot = record {
+      writer = c.write_front.new.writer;
+      recording = record {
+        waiting = c.clear.new.self;
+        left = c.self.inside.left;
+        is_over = true;
+        end = None;
+      };
+    } in
+    subst (λ (o : RecordState g.row.W.Denot). Writes g.W.Write.contents o left (Some Failed))
     c.self.view_is
     (writes-some g.W.Write.contents c.self.inside.writer c.write_front.new.writer r
     c.write_front.result c.as_slice-lines.result.now c.clear.new.self None (Some Failed)
@@ -27,7 +36,16 @@ returns g c =
       is_over = c.self.inside.is_over;
       end = c.self.inside.end;
     } in
-    subst (λ (o : RecordState g.row.W.Denot). Writes g.W.Write.contents o _ c.take.result)
+    let left : RecordState g.row.W.Denot = record {
+      writer = c.write_front.new.writer;
+      recording = record {
+        waiting = c.clear-2.new.self;
+        left = c.self.inside.left;
+        is_over = c.self.inside.is_over;
+        end = c.take.new.self;
+      };
+    } in
+    subst (λ (o : RecordState g.row.W.Denot). Writes g.W.Write.contents o left c.take.result)
     c.self.view_is
     (writes-all g.W.Write.contents c.self.inside.writer c.write_front.new.writer r
     c.write_front.result c.as_slice-lines.result.now c.clear-2.new.self c.take.new.self
