@@ -25,7 +25,7 @@ use Rattle.bay_server.specs.declared.serving.TurnAttempt.TheVariants as tried
 use Rattle.bay_report.proofs.PieceLemmas.{lines-cut}
 use Rattle.bay_server_turn.specs.Calls.{Call, CountedCall, MakesCalls}
 use Rattle.bay_server_turn.specs.Served.{Serves, report_in, turn_refusal}
-use Rattle.bay_server_turn.specs.Turns.{ServerData, moment_at}
+use Rattle.bay_server_turn.specs.Turns.{ServerData, WritesRecord, moment_at, with_recording}
 use Rattle.bay_server_turn.specs.declared.turn_report.Turn.{Turn}
 use Rattle.bay_server_turn.specs.declared.process_input.ProcessReport.{ProcessReport}
 use Rattle.bay_server_turn.specs.declared.fault.ServeFault.{ServeFault}
@@ -89,14 +89,16 @@ module _ {L B : Type 0} (below : B → L) (does : L → Call → L → Type 0) (
     talks-below calls makes.0 new makes.2,
   )
 
-  pub serves-below : (old new : B) (now : ℕ) (given : ProcessReport) (before after : ServerData)
-      (turn : Turn)
+  pub serves-below : (old new : B) (now : ℕ) (given : ProcessReport) (source : List ℕ)
+      (before after : ServerData) (turn : Turn)
       → Serves (CountedCall (λ o call n. does (below o) call (below n)) (λ b. failures (below b)))
       old
-      new now given before after turn
-      → Serves (CountedCall does failures) (below old) (below new) now given before after turn
-  serves-below old new now given before after turn s = record {
+      new now given source before after turn
+      → Serves (CountedCall does failures) (below old) (below new) now given source before after
+      turn
+  serves-below old new now given source before after turn s = record {
     script = s.script;
+    source_is = s.source_is;
     all_read = s.all_read;
     all_offered = s.all_offered;
     makes = talks-below _ old new s.makes;
@@ -117,12 +119,12 @@ module _ {L B H W : Type 0} (below : B → L) (does : L → Call → L → Type 
     (asks : W → WriteCall → W → Type 0) where
   -- a turn was done over the link that has another below it, what it tells was printed, and the
   -- process was attended to
-  pub turn-goes : (link-before link-after : B) (held-before held-after : ServerData)
+  pub turn-goes : (link-before link-after : B) (held-before held-served held-after : ServerData)
       (clock-before clock-after : ClockData) (host-before host-after : H)
       (process-before process-chosen process-after : Option (ProcessData L))
       (lines-before lines-after : List (ℕ × List ℕ)) (clocks : Clocks) (clock now : ℕ)
       (next : NextInput)
-      (shift : Option ClockShift) (device : State) (before : BayView)
+      (shift : Option ClockShift) (device : State) (source : List ℕ) (before : BayView)
       (old begun told-to new : WriterState W) (end : Option RecordEnd) (turn : Turn) (s : State)
       (jump : ℕ) (count-before count-after : LineCount) (answer : Result ℕ WriteFault)
       → clock-after ≡ after_reading clocks clock-before → clock ≡ clock-after.moment
@@ -132,13 +134,14 @@ module _ {L B H W : Type 0} (below : B → L) (does : L → Call → L → Type 
       → next ≡ (choose_input device now jump lines-before process-before).next
       → process-chosen ≡ (choose_input device now jump lines-before process-before).process
       → lines-after ≡ (choose_input device now jump lines-before process-before).lines
-      → s ≡ held-after.device
+      → s ≡ held-served.device → source ≡ next.shown
+      → WritesRecord held-served held-after end
       → acts host-before (ReadsTimes clocks.system clocks.steady) host-after
       → LogsAll contents asks old (shift_log now shift) begun
       → turn_refusal clock next.given held-before ≡ None
       → Serves (CountedCall (λ o call n. does (below o) call (below n)) (λ b. failures (below b)))
-      link-before link-after (moment_at clock held-before) (report_in next.given) held-before
-      held-after turn
+      link-before link-after (moment_at clock held-before) (report_in next.given) source held-before
+      held-served turn
       → before ≡ bay_view held-before.device
       → ReportsAndPolls (CountedCall does failures) contents asks now count-before next before turn
       s
@@ -164,11 +167,11 @@ module _ {L B H W : Type 0} (below : B → L) (does : L → Call → L → Type 
         process = process-after;
         lines = lines-after;
       }) new answer
-  turn-goes link-before link-after held-before held-after clock-before clock-after host-before
-      host-after process-before process-chosen process-after lines-before lines-after clocks
-      clock now next shift device before old begun told-to new end turn s jump count-before
-      count-after answer read is-clock now-is shift-is by-device jump-is is-next is-process is-lines
-      is-s reported logged at-clock at-clock-serves is-before reports counted ended =
+  turn-goes link-before link-after held-before held-served held-after clock-before clock-after
+      host-before host-after process-before process-chosen process-after lines-before lines-after
+      clocks clock now next shift device source before old begun told-to new end turn s jump
+      count-before count-after answer read is-clock now-is shift-is by-device jump-is is-next
+      is-process is-lines is-s is-source writes reported logged at-clock at-clock-serves is-before reports counted ended =
       let k : ℕ = moment_read clocks clock-before in
       let same : clock ≡ k = is-clock ∙ ap (λ (x : ClockData). x.moment) read in
       let is-now : now ≡ moment_at k held-before =
@@ -178,9 +181,11 @@ module _ {L B H W : Type 0} (below : B → L) (does : L → Call → L → Type 
       (ap (λ (x : ClockData). x.moment) read) shift-is in
       let right : turn_refusal k next.given held-before ≡ None =
       subst (λ m. turn_refusal m next.given held-before ≡ None) same at-clock in
+      let held-is : held-served ≡ with_recording held-served.recording held-after =
+      sym (ap (λ (h : ServerData). with_recording held-served.recording h) writes.kept) in
       let serves = subst (λ m. Serves (CountedCall (λ o call n. does (below o) call (below n))
       (λ b. failures (below b))) link-before link-after (moment_at m held-before)
-      (report_in next.given) held-before held-after turn) same at-clock-serves in
+      (report_in next.given) source held-before held-served turn) same at-clock-serves in
       let here : ChosenInput L =
       choose_input held-before.device (moment_at k held-before) (jump_of clocks clock-before)
       lines-before
@@ -194,9 +199,15 @@ module _ {L B H W : Type 0} (below : B → L) (does : L → Call → L → Type 
       let next-is : next ≡ here.next = is-next ∙ ap (λ (x : ChosenInput L). x.next) here-is in
       let process-is : process-chosen ≡ here.process =
       is-process ∙ ap (λ (x : ChosenInput L). x.process) here-is in
-      let serves-turn = serves-below below does failures link-before link-after
-      (moment_at (moment_read clocks clock-before) held-before) (report_in next.given) held-before
-      held-after turn serves in
+      let serves-turn = subst (λ h. Serves (CountedCall does failures) (below link-before)
+      (below link-after) (moment_at (moment_read clocks clock-before) held-before)
+      (report_in next.given) next.shown held-before h turn) held-is
+      (subst (λ line. Serves (CountedCall does failures) (below link-before) (below link-after)
+      (moment_at (moment_read clocks clock-before) held-before) (report_in next.given) line
+      held-before held-served turn) is-source
+      (serves-below below does failures link-before link-after
+      (moment_at (moment_read clocks clock-before) held-before) (report_in next.given) source
+      held-before held-served turn serves)) in
       record {
         clocks = clocks;
         begun = begun;
@@ -214,10 +225,12 @@ module _ {L B H W : Type 0} (below : B → L) (does : L → Call → L → Type 
             subst (λ (n : NextInput). turn_refusal (moment_read clocks clock-before) n.given
             held-before
             ≡ None) next-is right;
+        unwritten = held-served.recording;
         serves =
             subst (λ (n : NextInput). Serves (CountedCall does failures) (below link-before)
             (below link-after) (moment_at (moment_read clocks clock-before) held-before)
-            (report_in n.given) held-before held-after turn) next-is serves-turn;
+            (report_in n.given) n.shown held-before
+            (with_recording held-served.recording held-after) turn) next-is serves-turn;
         reported = told-to;
         reports =
             subst (λ m. ReportsAndPolls (CountedCall does failures) contents asks m count-before
@@ -227,7 +240,7 @@ module _ {L B H W : Type 0} (below : B → L) (does : L → Call → L → Type 
             (subst (λ d. ReportsAndPolls (CountedCall does failures) contents asks now count-before
             here.next
             (bay_view held-before.device) turn d here.process process-after begun told-to answer)
-            is-s
+            (is-s ∙ ap (λ (h : ServerData). h.device) held-is)
             (subst (λ p. ReportsAndPolls (CountedCall does failures) contents asks now count-before
             here.next
             (bay_view held-before.device) turn s p process-after begun told-to answer) process-is
@@ -239,7 +252,9 @@ module _ {L B H W : Type 0} (below : B → L) (does : L → Call → L → Type 
             count-before next b
             turn s process-chosen process-after begun told-to answer) is-before reports))));
         count = subst (λ m. count-after ≡ count_after m turn count-before) is-now counted;
+        took = writes.took;
         end = end;
+        written = writes.writes;
         ended = subst (λ m. LogsAll contents asks told-to (record_log m end) new) is-now ended;
       }
 
@@ -432,6 +447,7 @@ module _ {L H W : Type 0} (step : L → Call → L → Type 0) (acts : H → Hos
     lines = goes.lines;
     turn = goes.turn;
     right = goes.right;
+    unwritten = goes.unwritten;
     serves = goes.serves;
     reported = goes.reported;
     reports =
@@ -441,7 +457,9 @@ module _ {L H W : Type 0} (step : L → Call → L → Type 0) (acts : H → Hos
         (chosen_input goes.clocks before).process after.process goes.begun goes.reported one other
         goes.reports;
     count = goes.count;
+    took = goes.took;
     end = goes.end;
+    written = goes.written;
     ended = goes.ended;
   }
 

@@ -23,6 +23,7 @@ pub use Rattle.bay_report.specs.Lines
 pub use Rattle.bay_report.specs.Report
 pub use Rattle.bay_report.specs.TextLines
 pub use Rattle.bay_server_turn.specs.Calls
+pub use Rattle.bay_server_turn.specs.Recorded
 pub use Rattle.bay_server_turn.specs.Served
 pub use Rattle.bay_server_turn.specs.Turns
 -- Its own definitions.

@@ -21,8 +21,9 @@ use Rattle.bay_process_port.specs.Ports.{PortData, has_line, shown_line, port_re
 use Rattle.bay_process_port.specs.ProcessOutput.{reported_turn}
 use Rattle.bay_process_port.specs.declared.connection_event.ConnectionEvent.{ConnectionEvent}
 use Rattle.bay_server_turn.specs.Calls.{Call}
+use Rattle.bay_server_turn.specs.Recorded.{Recording, WritesRecording}
 use Rattle.bay_server_turn.specs.Served.{TurnInput, Serves, turn_input_of_line, report_of_event, report_in, turn_refusal}
-use Rattle.bay_server_turn.specs.Turns.{ServerData, moment_at}
+use Rattle.bay_server_turn.specs.Turns.{ServerData, moment_at, with_recording}
 use Rattle.bay_server_turn.specs.declared.fault.ServeFault.{ServeFault}
 use Rattle.bay_server_turn.specs.declared.record.RecordEnd.{RecordEnd}
 use Rattle.bay_server_turn.specs.declared.turn_report.Turn.{Turn}
@@ -290,8 +291,9 @@ module _ {L H W : Type 0} (step : L → Call → L → Type 0) (acts : H → Hos
         (chosen_input clocks before).next.shown begun new answer
 
   -- The clock was read, the input of the turn was chosen, the turn was done, its report was
-  -- printed, and the process was attended to; or it could not be printed. Then the record was
-  -- written: if it has ended, that was logged.
+  -- printed, and the process was attended to; or it could not be printed. The turn's events were
+  -- recorded, an event of the process with the line of the input; then what was recorded was
+  -- written, of which the file took a front. If the record has ended, that was logged.
   pub record TurnServed (before : ServiceState L H) (old : WriterState W) (after : ServiceState L H)
       (new : WriterState W) (answer : Result ℕ WriteFault) : Type 0 where
     pub clocks : Clocks
@@ -303,14 +305,19 @@ module _ {L H W : Type 0} (step : L → Call → L → Type 0) (acts : H → Hos
     pub right : turn_refusal (moment_read clocks before.clock)
         (chosen_input clocks before).next.given
         before.held ≡ None
+    pub unwritten : Option Recording
     pub serves : Serves step before.link after.link (moment_of clocks before)
-        (report_in (chosen_input clocks before).next.given) before.held after.held turn
+        (report_in (chosen_input clocks before).next.given)
+        (chosen_input clocks before).next.shown before.held (with_recording unwritten after.held)
+        turn
     pub reported : WriterState W
     pub reports : ReportsAndPolls step contents asks (moment_of clocks before) before.count
         (chosen_input clocks before).next (bay_view before.held.device) turn after.held.device
         (chosen_input clocks before).process after.process begun reported answer
     pub count : after.count ≡ count_after (moment_of clocks before) turn before.count
+    pub took : List ℕ
     pub end : Option RecordEnd
+    pub written : WritesRecording took unwritten after.held.recording end
     pub ended : LogsAll contents asks reported (record_log (moment_of clocks before) end) new
 
   -- `turns` turns are served: all of them, which is logged; up to one that is refused; or up to one

@@ -25,6 +25,7 @@ use Rattle.bay_load.specs.Loads.{IsImageOf, LoadData, LoadsTo, parsed_bay}
 use Rattle.bay_load.proofs.LoadLemmas.{load-made}
 use Rattle.bay_load.specs.declared.load.Form.{Form}
 use Rattle.bay_server_turn.specs.Calls.{Call}
+use Rattle.bay_server_turn.specs.Recorded.{Recording}
 use Rattle.bay_server_turn.specs.Turns.{ServerData}
 use Rattle.bay_server_turn_laws.specs.Events.{turn_events}
 use Rattle.bay_server.specs.Host.{HostCall}
@@ -95,31 +96,32 @@ waits-so rule timing never first h scans past (t ∷ ts) obeys = (
 -- ---- a device that these octets load to
 
 module _ (f : Form) (both : FilesData) (device : State)
-    (loads : LoadsDevice both.bay f both.program device) (ts : List DoneTurn)
-    (are : AreTurns (new_server device) ts) (given : AreGiven ts) (file : IsFile f both.program)
+    (loads : LoadsDevice both.bay f both.program device) (recording : Option Recording)
+    (ts : List DoneTurn)
+    (are : AreTurns (new_server recording device) ts) (given : AreGiven ts) (file : IsFile f both.program)
     (rule : Rule) where
   plainly-obeys : OfOctets Plainly both.bay f both.program rule
-      → TurnsObey rule (new_server device) ts
+      → TurnsObey rule (new_server recording device) ts
   plainly-obeys own = record {
-    scans = λ plain. scans-obey f both device loads ts are given file rule plain own;
-    obey = λ never plain. orders-obey f both device loads ts are given file rule never own;
-    wait = λ timing never timed. waits-so rule timing never device (new_server device) [] [] ts
-        (orders-obey f both device loads ts are given file rule never own);
+    scans = λ plain. scans-obey f both device loads recording ts are given file rule plain own;
+    obey = λ never plain. orders-obey f both device loads recording ts are given file rule never own;
+    wait = λ timing never timed. waits-so rule timing never device (new_server recording device) [] [] ts
+        (orders-obey f both device loads recording ts are given file rule never own);
   }
 
   by-timer-obeys : (own : OfOctets ByTimer both.bay f both.program rule)
-      → (rule.timed ≡ None → ⊥) → TurnsObey rule (new_server device) ts
+      → (rule.timed ≡ None → ⊥) → TurnsObey rule (new_server recording device) ts
   by-timer-obeys own timed = record {
     scans = λ plain. absurd (timed plain);
     obey = λ never plain. absurd (timed plain);
-    wait = λ timing never time. orders-wait f both device loads ts are given file rule timing never
+    wait = λ timing never time. orders-wait f both device loads recording ts are given file rule timing never
         time own;
   }
 
   passed-obeys : (own : Bay) (image : Image) → parsed_bay both.bay ≡ Ok own
       → IsImageOf f both.program own image → rule.switch < length own.switches
       → (answer : RuleAnswer) → is_passed answer ≡ true
-      → IsRightAnswer (program_of own image) rule answer → TurnsObey rule (new_server device) ts
+      → IsRightAnswer (program_of own image) rule answer → TurnsObey rule (new_server recording device) ts
   passed-obeys own image read made there (Holds cases) passed right =
       plainly-obeys (record {
         own = own;
@@ -149,12 +151,12 @@ module _ (f : Form) (both : FilesData) (device : State)
 -- rules whose verdict is that each holds
 module _ (f : Form) (both : FilesData) (l : LoadData)
     (loads : LoadsTo both.bay f both.program (Ok l)) (text : List ℕ) (count : ℕ) where
-  read-obeys : (file : IsFile f both.program) (ts : List DoneTurn)
-      → AreTurns (new_server (device_of l)) ts → AreGiven ts
+  read-obeys : (file : IsFile f both.program) (recording : Option Recording)
+      (ts : List DoneTurn) → AreTurns (new_server recording (device_of l)) ts → AreGiven ts
       → (parsed : Result (List Rule) RuleFault) → TextRead l.bay text parsed
       → JudgesRead l parsed (judged.Hold count)
-      → ObeyRules both.bay text (new_server (device_of l)) ts
-  read-obeys file ts are given (Ok rules) parses judges =
+      → ObeyRules both.bay text (new_server recording (device_of l)) ts
+  read-obeys file recording ts are given (Ok rules) parses judges =
       let made = load-made both.bay f both.program l loads in
       record {
         own = l.bay;
@@ -164,29 +166,29 @@ module _ (f : Form) (both : FilesData) (l : LoadData)
         obeyed = λ place rule here.
             let p = passed-at (program_of l.bay l.image) rules judges.answers judges.right
             judges.judged.0 place rule here in
-            passed-obeys f both (device_of l) (l, loads, refl) ts are given file rule l.bay l.image
+            passed-obeys f both (device_of l) (l, loads, refl) recording ts are given file rule l.bay l.image
             made.read made.made (rule-there l.bay text rules parses place rule here) p.answer
             p.passed p.right;
       }
-  read-obeys file ts are given (Err fault) parses judges = absurd cc
+  read-obeys file recording ts are given (Err fault) parses judges = absurd cc
 
-  holds-obeys : (file : IsFile f both.program) (ts : List DoneTurn)
-      → AreTurns (new_server (device_of l)) ts → AreGiven ts
+  holds-obeys : (file : IsFile f both.program) (recording : Option Recording)
+      (ts : List DoneTurn) → AreTurns (new_server recording (device_of l)) ts → AreGiven ts
       → IsVerdictOn l text (judged.Hold count)
-      → ObeyRules both.bay text (new_server (device_of l)) ts
-  holds-obeys file ts are given (inl memory) = absurd cc
-  holds-obeys file ts are given (inr judges) =
-      read-obeys file ts are given judges.parsed judges.parses judges.judges
+      → ObeyRules both.bay text (new_server recording (device_of l)) ts
+  holds-obeys file recording ts are given (inl memory) = absurd cc
+  holds-obeys file recording ts are given (inr judges) =
+      read-obeys file recording ts are given judges.parsed judges.parses judges.judges
 
 -- a diagram in which each release is judged to hold
 module _ (f : Form) (both : FilesData) (l : LoadData)
     (loads : LoadsTo both.bay f both.program (Ok l)) (text : List ℕ) (count : ℕ)
-    (file : IsFile f both.program) (ts : List DoneTurn)
-    (are : AreTurns (new_server (device_of l)) ts)
+    (file : IsFile f both.program) (recording : Option Recording) (ts : List DoneTurn)
+    (are : AreTurns (new_server recording (device_of l)) ts)
     (given : AreGiven ts) where
   drawn-obeys : (parsed : Result Diagram DiagramFault) → diagram_of_file l.bay text ≡ parsed
       → JudgesDiagramRead l parsed (drawn.Hold count)
-      → ObeyDiagram both.bay text (new_server (device_of l)) ts
+      → ObeyDiagram both.bay text (new_server recording (device_of l)) ts
   drawn-obeys (Err fault) parses judges = absurd cc
   drawn-obeys (Ok d) parses judges =
       let made = load-made both.bay f both.program l loads in
@@ -196,14 +198,14 @@ module _ (f : Form) (both : FilesData) (l : LoadData)
         drawn = d;
         parses = parses;
         obeyed = λ k operation there.
-            orders-avoid f both (device_of l) (l, loads, refl) ts are given file l.bay l.image
+            orders-avoid f both (device_of l) (l, loads, refl) recording ts are given file l.bay l.image
             made.read made.made (is_hazard_of d.network k operation) k operation there
             (all-harmless (program_of l.bay l.image) d.network (length l.bay.switches)
             judges.releases judges.right judges.judged.0 judges.all k operation there);
       }
 
   diagram-obeys : IsDiagramVerdictOn l text (drawn.Hold count)
-      → ObeyDiagram both.bay text (new_server (device_of l)) ts
+      → ObeyDiagram both.bay text (new_server recording (device_of l)) ts
   diagram-obeys (inl memory) = absurd cc
   diagram-obeys (inr judges) = drawn-obeys (diagram_of_file l.bay text) refl judges
 
@@ -228,13 +230,13 @@ module _ {F L H W : Type 0} (step : L → Call → L → Type 0) (acts : H → H
   guarded-obey files task before after old new answer serves name is =
       files-is step acts contents asks reads guards files task
       (ObeyFile reads ObeyRules files name (form_of task.program))
-      (λ loaded loads rules diagram ts are given file.
+      (λ loaded loads rules diagram recording ts are given file.
       let read = read-text reads files task.options.rules name is loaded.rules loads.3 in
       let hold = subst (RulesHold loaded.load) read.2 rules in (
         read.0,
         read.1,
         holds-obeys (form_of task.program) (data_of loaded) loaded.load loads.6 read.0 hold.0 file
-            ts are given
+            recording ts are given
             hold.1,
       )) before after old new answer serves.loaded serves.loads serves.continuation
 
@@ -242,12 +244,12 @@ module _ {F L H W : Type 0} (step : L → Call → L → Type 0) (acts : H → H
   guarded-harmless files task before after old new answer serves name is =
       files-is step acts contents asks reads guards files task
       (ObeyFile reads ObeyDiagram files name (form_of task.program))
-      (λ loaded loads rules diagram ts are given file.
+      (λ loaded loads rules diagram recording ts are given file.
       let read = read-text reads files task.options.diagram name is loaded.diagram loads.4 in
       let hold = subst (DiagramHolds loaded.load) read.2 diagram in (
         read.0,
         read.1,
         diagram-obeys (form_of task.program) (data_of loaded) loaded.load loads.6 read.0 hold.0 file
-            ts are
+            recording ts are
             given hold.1,
       )) before after old new answer serves.loaded serves.loads serves.continuation

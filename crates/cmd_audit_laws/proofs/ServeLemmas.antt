@@ -2,6 +2,7 @@
 use Rattle.std.proofs.Common.{◌≡◌, ◌∙◌, ◌<◌, ℕ, zero, suc, Bool, List, [], length, Option, Some, None, Result, Ok, Err, inl, inr, ap, sym, subst, refl}
 use Rattle.std.specs.Prelude.{MatchResult, slice_get}
 use Rattle.bay_audit.specs.Rules.{program_of}
+use Rattle.bay_cli.specs.declared.task.ServeOptions.{ServeOptions}
 use Rattle.bay_cli.specs.declared.task.ServeTask.{ServeTask}
 use Rattle.bay_device.specs.Device.{State}
 use Rattle.bay_files.specs.Files.{ProtectedReads, FileReads, FilesData}
@@ -13,6 +14,7 @@ use Rattle.bay_process_port.specs.Supervised.{SupervisionSettings}
 use Rattle.bay_device.specs.Load.{LoadsDevice}
 use Rattle.bay_load.specs.declared.load.Form.{Form}
 use Rattle.bay_server_turn.specs.Calls.{Call}
+use Rattle.bay_server_turn.specs.Recorded.{Recording}
 use Rattle.bay_server_turn.specs.Turns.{ServerData}
 use Rattle.bay_server.specs.Host.{HostCall}
 use Rattle.bay_server.specs.Clock.{jump_of}
@@ -26,7 +28,7 @@ use Rattle.cmd_audit.specs.declared.judging.RulesVerdict.TheVariants as judged
 use Rattle.cmd_audit.specs.declared.judging_diagram.DiagramVerdict.{DiagramVerdict}
 use Rattle.cmd_audit.specs.declared.judging_diagram.DiagramVerdict.TheVariants as drawn
 use Rattle.cmd_serve.specs.Permits.{AfterPermit, WritesOnDiagram, WritesOnRules, permit_of, releases_held, rules_held}
-use Rattle.cmd_serve.specs.Serve.{BindsPorts, BindsProcess, EndsUnserved, IsBound, LoadsFiles, ServesBound, ServesLoaded, ServesPorts, ServesRules, data_of, form_of, is_recorded, name_of, new_server, served_of, state_of}
+use Rattle.cmd_serve.specs.Serve.{BindsPorts, BindsProcess, EndsUnserved, IsBound, LoadsFiles, ServesBound, ServesLoaded, ServesPorts, ServesRules, data_of, form_of, name_of, new_server, recording_of, served_of, state_of}
 use Rattle.cmd_serve.specs.Service.{AreTurns, DoneTurn, later_turns, past_of, turns_in}
 use Rattle.cmd_serve.proofs.HistoryLemmas.{stands-first}
 use Rattle.cmd_serve.proofs.TurnLemmas.{stands-turns}
@@ -83,13 +85,18 @@ module _ {L H W : Type 0} (step : L → Call → L → Type 0) (acts : H → Hos
 -- ---- the server that is bound
 
 module _ {L H : Type 0} (acts : H → HostCall L → H → Type 0) where
-  is-made : (records : Bool) (s : State) (link : L) (process : Option (ProcessData L))
-      (ports : BoundServer L) → IsBound records s link process (Ok ports)
-      → ports.server ≡ new_server s
-  is-made records s link process ports (inl is) =
-      let same : ports ≡ record { server = new_server s; link = link; process = process } = cc in
+  is-made : (options : ServeOptions (List ℕ)) (s : State) (link : L)
+      (process : Option (ProcessData L))
+      (ports : BoundServer L) → IsBound options s link process (Ok ports)
+      → ports.server ≡ new_server (recording_of options) s
+  is-made options s link process ports (inl is) =
+      let same : ports ≡ record {
+        server = new_server (recording_of options) s;
+        link = link;
+        process = process;
+      } = cc in
       ap (λ (b : BoundServer L). b.server) same
-  is-made records s link process ports (inr is) =
+  is-made options s link process ports (inr is) =
       let no : (let r : Result (BoundServer L) ServeStartFault = Ok ports in r) ≡ Err is.0 = is.1 in
       absurd cc
 
@@ -98,21 +105,21 @@ module _ {L H : Type 0} (acts : H → HostCall L → H → Type 0) where
       (port : Option ℕ)
       (before after : H) (ports : BoundServer L)
       → BindsProcess acts task settings s link port before after (Ok ports)
-      → ports.server ≡ new_server s
+      → ports.server ≡ new_server (recording_of task.options) s
   process-made task settings s link None before after ports binds =
-      is-made (is_recorded task.options) s link None ports binds.1
+      is-made task.options s link None ports binds.1
   process-made task settings s link (Some port) before after ports binds =
       by-had binds.0 binds.2
     where
       by-had : (had : Result L BindFault)
           → MatchResult had
-          (λ other. IsBound (is_recorded task.options) s link
+          (λ other. IsBound task.options s link
           (Some (record { link = other; port = initial_port task.sends_releases settings; skips_left = 0 }))
           (Ok ports)) (λ fault. (let r : Result (BoundServer L) ServeStartFault = Ok ports in r)
           ≡ Err (unserved.Unbound port fault))
-          → ports.server ≡ new_server s
+          → ports.server ≡ new_server (recording_of task.options) s
       by-had (Ok other) is =
-          is-made (is_recorded task.options) s link
+          is-made task.options s link
           (Some (record { link = other; port = initial_port task.sends_releases settings; skips_left = 0 }))
           ports
           is
@@ -121,7 +128,7 @@ module _ {L H : Type 0} (acts : H → HostCall L → H → Type 0) where
   pub ports-made : (task : ServeTask (List ℕ)) (settings : Option SupervisionSettings) (s : State)
       (before after : H)
       (ports : BoundServer L) → BindsPorts acts task settings s before after (Ok ports)
-      → ports.server ≡ new_server s
+      → ports.server ≡ new_server (recording_of task.options) s
   ports-made task settings s before after ports (inr memory) = absurd (let e = memory.1 in cc)
   ports-made task settings s before after ports (inl binds) = by-had binds.0 binds.3
     where
@@ -132,7 +139,7 @@ module _ {L H : Type 0} (acts : H → HostCall L → H → Type 0) where
           (λ fault. (after ≡ binds.1)
           × ((let r : Result (BoundServer L) ServeStartFault = Ok ports in r)
           ≡ Err (unserved.Unbound task.port fault)))
-          → ports.server ≡ new_server s
+          → ports.server ≡ new_server (recording_of task.options) s
       by-had (Ok link) is =
           process-made task settings s link task.options.process binds.1 after ports is
       by-had (Err fault) is = absurd (let e = is.1 in cc)
@@ -141,25 +148,26 @@ module _ {L H : Type 0} (acts : H → HostCall L → H → Type 0) where
 
 -- a server of a device that these octets load to, in its turns
 module _ (f : Form) (both : FilesData) (device : State)
-    (loads : LoadsDevice both.bay f both.program device) (ts : List DoneTurn)
-    (are : AreTurns (new_server device) ts) (given : AreGiven ts) (file : IsFile f both.program)
+    (loads : LoadsDevice both.bay f both.program device) (recording : Option Recording)
+    (ts : List DoneTurn)
+    (are : AreTurns (new_server recording device) ts) (given : AreGiven ts) (file : IsFile f both.program)
   where
     -- avoids a set in which a release of the program is refused
     pub orders-avoid : (own : Bay) (image : Image) → parsed_bay both.bay ≡ Ok own
         → IsImageOf f both.program own image
         → (set : Process → Bool) (k : ℕ) (operation : Operation)
         → k < length own.switches → IsRefusedWhere (program_of own image) set k operation
-        → OrdersAvoid set k operation device (new_server device) [] ts
+        → OrdersAvoid set k operation device (new_server recording device) [] ts
     orders-avoid own image read made set k operation there refused =
         let b = begins both.bay f both.program device loads file own image read made in
         turns-avoid own image b.sound set k operation there refused device
-        (ap (λ (s : State). s.switches) b.is) ts (new_server device) [] are given
+        (ap (λ (s : State). s.switches) b.is) ts (new_server recording device) [] are given
         (subst (Good own image b.sound) (sym b.is) (good-first own image b.sound b.steady))
 
     -- and obeys rules that are answered to hold
     module _ (rule : Rule) where
       pub orders-obey : rule.kind ≡ Never → OfOctets Plainly both.bay f both.program rule
-          → OrdersObey rule device (new_server device) [] ts
+          → OrdersObey rule device (new_server recording device) [] ts
       orders-obey never own =
           orders-avoid own.own own.image own.read own.made (holds rule.when) rule.switch
           rule.operation own.there
@@ -168,7 +176,7 @@ module _ (f : Form) (both : FilesData) (device : State)
 
       pub orders-wait : (timing : Timing) → rule.kind ≡ Never → rule.timed ≡ Some timing
           → OfOctets ByTimer both.bay f both.program rule
-          → OrdersWait rule timing device (new_server device) [] [] ts
+          → OrdersWait rule timing device (new_server recording device) [] [] ts
       orders-wait timing never timed own =
           let b = begins both.bay f both.program device loads file own.own own.image own.read
           own.made
@@ -177,41 +185,43 @@ module _ (f : Form) (both : FilesData) (device : State)
           own.how own.right in
           turns-wait own.own own.image rule timing borne.timer b.sound own.there borne.bears device
           ts
-          (new_server device) [] [] are given
+          (new_server recording device) [] [] are given
           (subst (Ready own.own own.image rule timing borne.timer b.sound own.there borne.bears [])
           (sym b.is)
           (ready-first own.own own.image rule timing borne.timer b.sound own.there borne.bears
           b.steady))
 
       pub scans-obey : rule.timed ≡ None → OfOctets Plainly both.bay f both.program rule
-          → EachPast (ScanObeysAt rule) device (past_of ts (new_server device) [])
+          → EachPast (ScanObeysAt rule) device (past_of ts (new_server recording device) [])
       scans-obey plain own =
           let b = begins both.bay f both.program device loads file own.own own.image own.read
           own.made
           in
           let stands =
-          stands-turns device ts (new_server device) []
+          stands-turns device ts (new_server recording device) []
           (stands-first device (own.own, own.image, b.is)) in
           past-scans own.own own.image b.sound rule own.there
           (plain-rule (program_of own.own own.image) rule own.answer plain own.how own.right) device
-          (past_of ts (new_server device) []) stands.steps
-          (turns-typed device ts (new_server device) [] are given tt)
+          (past_of ts (new_server recording device) []) stands.steps
+          (turns-typed device ts (new_server recording device) [] are given tt)
           (subst (Good own.own own.image b.sound) (sym b.is)
           (good-first own.own own.image b.sound b.steady))
 
 loaded-obeys : (f : Form) (both : FilesData) (device : State)
-    → LoadsDevice both.bay f both.program device → (ts : List DoneTurn)
-    → AreTurns (new_server device) ts → AreGiven ts → ObeyAuditsOf f both (new_server device) ts
-loaded-obeys f both device loads ts are given file = record {
-  obey = λ rules rule never is. orders-obey f both device loads ts are given file rule never
-      (audited both.bay f both.program Plainly rule rules is);
-  wait = λ rules rule timing never timed is. orders-wait f both device loads ts are given file
-      rule timing never timed (audited both.bay f both.program ByTimer rule rules is);
-  scans = λ rules rule plain is. scans-obey f both device loads ts are given file rule plain
-      (audited both.bay f both.program Plainly rule rules is);
+    → LoadsDevice both.bay f both.program device → (recording : Option Recording)
+    → (ts : List DoneTurn)
+    → AreTurns (new_server recording device) ts → AreGiven ts
+    → ObeyAuditsOf f both (new_server recording device) ts
+loaded-obeys f both device loads recording ts are given file = record {
+  obey = λ rules rule never is. orders-obey f both device loads recording ts are given file rule
+      never (audited both.bay f both.program Plainly rule rules is);
+  wait = λ rules rule timing never timed is. orders-wait f both device loads recording ts are given
+      file rule timing never timed (audited both.bay f both.program ByTimer rule rules is);
+  scans = λ rules rule plain is. scans-obey f both device loads recording ts are given file rule
+      plain (audited both.bay f both.program Plainly rule rules is);
   harmless = λ diagram net k operation is.
       let o = held both.bay f both.program net k operation diagram is in
-      orders-avoid f both device loads ts are given file o.own o.image o.read o.made
+      orders-avoid f both device loads recording ts are given file o.own o.image o.read o.made
       (is_hazard_of net k operation) k operation o.there o.harmless;
 }
 
@@ -289,8 +299,9 @@ module _ {L H W : Type 0} (step : L → Call → L → Type 0) (acts : H → Hos
 
   -- what is so of all turns of a server of this device
   module _ (Is : ServerData → List DoneTurn → Type 0) (loaded : LoadedFiles)
-      (each : (ts : List DoneTurn) → AreTurns (new_server (state_of loaded)) ts → AreGiven ts
-      → Is (new_server (state_of loaded)) ts) (task : ServeTask (List ℕ)) where
+      (each : (recording : Option Recording) (ts : List DoneTurn)
+      → AreTurns (new_server recording (state_of loaded)) ts → AreGiven ts
+      → Is (new_server recording (state_of loaded)) ts) (task : ServeTask (List ℕ)) where
     bound-is : (served : ServedFiles) (settings : Option SupervisionSettings)
         (before host after : H) (old new : WriterState W) (answer : Result ℕ WriteFault)
         (bound : Result (BoundServer L) ServeStartFault)
@@ -304,13 +315,14 @@ module _ {L H W : Type 0} (step : L → Call → L → Type 0) (acts : H → Hos
         answer bound goes
     bound-is served settings before host after old new answer (Ok ports) binds goes =
         let run = goes.5 in
-        let made : ports.server ≡ new_server (state_of loaded) =
+        let made : ports.server ≡ new_server (recording_of task.options) (state_of loaded) =
         ports-made acts task settings (state_of loaded) before host ports binds in
         let given : AreGiven run.done =
         subst AreGiven (sym run.are)
         (turns-given step acts contents asks task.turns _ _ after new answer run.serves) in
         subst (λ (h : ServerData). Is h run.done) (sym made)
-        (each run.done (subst (λ (h : ServerData). AreTurns h run.done) made run.run.are) given)
+        (each (recording_of task.options) run.done
+        (subst (λ (h : ServerData). AreTurns h run.done) made run.run.are) given)
     bound-is served settings before host after old new answer (Err why) binds goes = tt
 
     pub ports-is : (held : HeldCounts) (before after : H) (old new : WriterState W)
@@ -335,8 +347,9 @@ module _ {L H W : Type 0} (step : L → Call → L → Type 0) (acts : H → Hos
   -- what is so of all turns of a server of what was loaded, if its rules and its diagram hold
   module _ (Is : ServerData → List DoneTurn → Type 0) (loaded : LoadedFiles)
       (each : RulesHold loaded.load loaded.rules → DiagramHolds loaded.load loaded.diagram
-      → (ts : List DoneTurn) → AreTurns (new_server (state_of loaded)) ts → AreGiven ts
-      → Is (new_server (state_of loaded)) ts) (task : ServeTask (List ℕ)) where
+      → (recording : Option Recording) (ts : List DoneTurn)
+      → AreTurns (new_server recording (state_of loaded)) ts → AreGiven ts
+      → Is (new_server recording (state_of loaded)) ts) (task : ServeTask (List ℕ)) where
     rules-is : (before after : H) (old new : WriterState W) (answer : Result ℕ WriteFault)
         (serves : ServesRules step acts contents asks task loaded before after old new answer)
         → HoldsWithRules step acts contents asks Is task loaded before after old new answer
@@ -358,8 +371,9 @@ module _ {L H W : Type 0} (step : L → Call → L → Type 0) (acts : H → Hos
       → LoadsFiles reads guards files (form_of task.program) (name_of task.program) task
       (Ok loaded)
       → RulesHold loaded.load loaded.rules → DiagramHolds loaded.load loaded.diagram
-      → (ts : List DoneTurn) → AreTurns (new_server (state_of loaded)) ts → AreGiven ts
-      → Is (data_of loaded) (new_server (state_of loaded)) ts) where
+      → (recording : Option Recording) (ts : List DoneTurn)
+      → AreTurns (new_server recording (state_of loaded)) ts → AreGiven ts
+      → Is (data_of loaded) (new_server recording (state_of loaded)) ts) where
     pub files-is : (before after : H)
         (old new : WriterState W) (answer : Result ℕ WriteFault)
         (loaded : Result LoadedFiles ServeStartFault)

@@ -69,6 +69,7 @@ abbrev pub server_with_client : State → ServerData
 server_with_client s = record {
   device = record s { moment = 0; connections = Some (initial_connection 1) ∷ replicate 7 None };
   queues = replicate 8 [];
+  recording = None;
 }
 
 -- a server on which no association is open
@@ -95,9 +96,14 @@ turn_with reading reported = record {
   now = 0;
   given = record { is_lost = false; event = None; skips_reads = false };
   script = record {
+    source = [];
     accepted = None;
     readings = reading ∷ replicate 7 no_octets;
     offers = replicate 8 (record { takes = []; fails = false });
   };
   reported = reported;
+  line = [];
+  took = [];
+  end = None;
+  recording = None;
 }

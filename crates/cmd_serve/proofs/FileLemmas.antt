@@ -30,6 +30,7 @@ use Rattle.cmd_serve.specs.declared.serve.LoadedFiles.{LoadedFiles}
 use Rattle.cmd_serve.specs.Service.{DoneTurn, IsBegun, turns_in}
 use Rattle.cmd_serve.proofs.BeginLemmas.{ordered-from}
 use Rattle.cmd_serve.proofs.LiveLemmas.{commands-live}
+use Rattle.cmd_serve.proofs.RecordLemmas.{record-kept}
 use Rattle.cmd_serve.proofs.TextLemmas.{printed-from}
 use Rattle.cmd_serve.proofs.TurnLemmas.{service-of, turned}
 
@@ -107,6 +108,7 @@ module _ {L H W : Type 0} (step : L → Call → L → Type 0) (acts : H → Hos
         live = λ settings supervised. commands-live step acts contents asks settings turns before
             old
             host new answer serves begun supervised;
+        recorded = record-kept step acts contents asks turns before old host new answer serves;
       }
 
   -- the line of a load could not be written

@@ -5,6 +5,7 @@ pub mod HistoryLemmas
 pub mod LiveLemmas
 pub mod OnceLemmas
 pub mod OrderLemmas
+pub mod RecordLemmas
 pub mod ScanLemmas
 pub mod SentLemmas
 pub mod TextLemmas

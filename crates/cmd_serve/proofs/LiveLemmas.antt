@@ -34,7 +34,7 @@ use Rattle.cmd_serve.proofs.BeginLemmas.{begun-tidy}
 use Rattle.cmd_serve.proofs.FrontLemmas.{not-told, same-events, turn-ends-lost}
 use Rattle.cmd_serve.proofs.HistoryLemmas.{Stands, stands-events, stands-first}
 use Rattle.cmd_serve.proofs.OrderLemmas.{ordered, stays-tidy}
-use Rattle.cmd_serve.proofs.TurnLemmas.{is-turn, paused-held}
+use Rattle.cmd_serve.proofs.TurnLemmas.{is-turn, paused-held, turned-to}
 
 -- ---- a turn with a command
 
@@ -377,7 +377,8 @@ module _ {L H W : Type 0} (step : L → Call → L → Type 0) (acts : H → Hos
         (ordered first before.held t past c.0 is tidy at c.1)),
     later-live _ _ did.2 did.4 _ (λ status ok rest.
         let held : rest.0.held ≡ server_after t before.held =
-        paused-held step acts contents asks did.0 rest.0 rest.1 ∙ did.3.serves.server in
+        paused-held step acts contents asks did.0 rest.0 rest.1
+        ∙ turned-to step acts contents asks before old did.0 did.1 did.2 did.3 in
         live-turns first turns rest.0 _ host new answer rest.2
         (past_after t.now events before.held.device past)
         (paused-keeps did.0 rest.0 rest.1

@@ -182,7 +182,8 @@ on-time false now rest s step is e = grind (arith, nat_tests)
 
 pub stays-tidy : (h : ServerData) (t : DoneTurn) → IsTurn h t → IsTidy h → IsTidy (server_after t h)
 stays-tidy h t is tidy =
-    (loses-nothing t.now t.given t.script h tidy is.in_time is.all_offered).tidy
+    let kept = (loses-nothing t.now t.given t.script h tidy is.in_time is.all_offered).tidy in
+    record { sized = kept.sized; empty = kept.empty }
 
 -- ---- a command
 

@@ -9,7 +9,7 @@ use Rattle.bay_io.specs.Watched.{WriterState}
 use Rattle.bay_io.specs.declared.outbox.WriteFault.{WriteFault}
 use Rattle.bay_server_turn.specs.Calls.{Call}
 use Rattle.bay_server_turn.specs.Served.{TurnInput, turn_refusal}
-use Rattle.bay_server_turn.specs.Turns.{ServerData, moment_at}
+use Rattle.bay_server_turn.specs.Turns.{ServerData, moment_at, with_recording}
 use Rattle.bay_server_turn.specs.declared.fault.ServeFault.TheVariants.{MomentTooLarge}
 use Rattle.bay_server_turn_laws.specs.Events.{turn_events}
 use Rattle.bay_server_turn_laws.specs.Flows.{IsInTime}
@@ -58,6 +58,16 @@ module _ {L H W : Type 0} (step : L → Call → L → Type 0) (acts : H → Hos
       → next.held ≡ after.held
   paused-held after next awaits = ap (λ (b : ServiceState L H). b.held) awaits.1
 
+  -- the server after it, of which the record was written
+  pub turned-to : (before : ServiceState L H) (old : WriterState W) (after : ServiceState L H)
+      (new : WriterState W)
+      (answer : Result ℕ WriteFault)
+      (goes : TurnServed step acts contents asks before old after new answer)
+      → after.held
+      ≡ server_after (turn_in step acts contents asks before old after new answer goes) before.held
+  turned-to before old after new answer goes =
+      ap (λ (h : ServerData). with_recording after.held.recording h) goes.serves.server
+
   pub is-turn : (before : ServiceState L H) (old : WriterState W) (after : ServiceState L H)
       (new : WriterState W)
       (answer : Result ℕ WriteFault)
@@ -84,7 +94,7 @@ module _ {L H W : Type 0} (step : L → Call → L → Type 0) (acts : H → Hos
     is-turn _ _ _ _ _ did.3,
     later-are _ _ _ did.2 did.4 _ (λ rest.
         subst (λ h. AreTurns h (turns_in step acts contents asks turns rest.0 did.1 host new answer
-        rest.2)) (paused-held did.0 rest.0 rest.1 ∙ did.3.serves.server)
+        rest.2)) (paused-held did.0 rest.0 rest.1 ∙ turned-to before old did.0 did.1 did.2 did.3)
         (turned turns rest.0 _ host new answer rest.2)),
   )
 

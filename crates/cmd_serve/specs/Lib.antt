@@ -10,7 +10,8 @@
 -- `Service`: the turns that were served, one after the other, and all events of the device in them
 -- since load, which are one run of it. `Requests`: the request, the answer and the scan of each
 -- command that a turn reports; `Texts`: the same for the lines that are printed. `Live`: a
--- supervised process was alive when a turn with a command began.
+-- supervised process was alive when a turn with a command began. `Records`: what the file of the
+-- record takes in all turns is a front of the lines of their events.
 
 -- What public clauses cite of the crates below.
 pub use Rattle.bay_cli.specs.JobView
@@ -35,13 +36,16 @@ pub use Rattle.bay_report.specs.TextLines
 pub use Rattle.bay_replay_laws.specs.Printed
 pub use Rattle.bay_replay_laws.specs.ReadBack
 pub use Rattle.bay_server_turn.specs.Calls
+pub use Rattle.bay_server_turn.specs.Recorded
 pub use Rattle.bay_server_turn.specs.Turns
 pub use Rattle.bay_server_turn_laws.specs.Events
+pub use Rattle.bay_server_turn_laws.specs.Records
 pub use Rattle.bay_server.specs.Host
 pub use Rattle.bay_server.specs.LogLines
 pub use Rattle.bay_server.specs.ServeReport
 -- Its own definitions.
 pub mod Live
+pub mod Records
 pub mod Requests
 pub mod Permits
 pub mod Serve

@@ -29,6 +29,7 @@ use Rattle.bay_report.specs.LogLines.{IsLoggedOutput, PrintsLogs, RefusalReport,
 use Rattle.bay_report.specs.Report.{IsOutput, Prints, report_text}
 use Rattle.bay_report.specs.TextLines.{lines_of}
 use Rattle.bay_server_turn.specs.Calls.{Call}
+use Rattle.bay_server_turn.specs.Recorded.{Recording, new_recording}
 use Rattle.bay_server_turn.specs.Turns.{ServerData}
 use Rattle.bay_server.specs.Clock.{initial_clock}
 use Rattle.bay_server.specs.ConnectionLines.{no_lines}
@@ -41,6 +42,7 @@ use Rattle.bay_server.specs.declared.clock.Clocks.{Clocks}
 use Rattle.bay_server.specs.declared.host.BindFault.{BindFault}
 use Rattle.cmd_audit.specs.Auditing.{ReadsOptional}
 use Rattle.cmd_serve.specs.Live.{CommandsLive, IsSupervised}
+use Rattle.cmd_serve.specs.Records.{KeepsRecord}
 use Rattle.cmd_serve.specs.Requests.{AreRequested}
 use Rattle.cmd_serve.specs.Permits.{AfterPermit, WritesOnDiagram, WritesOnRules}
 use Rattle.cmd_serve.specs.Service.{DoneTurn, IsService, turns_in}
@@ -71,6 +73,10 @@ is_recorded options = is_some options.record_file
 abbrev pub record_room : ServeOptions (List ℕ) → Option ℕ
 record_room options =
     option_map (λ name. unwrap_or options.record_most 16000000) options.record_file
+
+-- the record of a session, if it is recorded, before its first event
+abbrev pub recording_of : ServeOptions (List ℕ) → Option Recording
+recording_of options = option_map new_recording (record_room options)
 
 -- a file without a key: the log line, the text and the status
 abbrev pub KeylessReport : List ℕ → KeyFault → Option (List ℕ) → List ℕ → ℕ → Type 0
@@ -178,9 +184,11 @@ key_of key = unwrap_or key (codes "-")
 abbrev pub settings_of : Option ℕ → List ℕ → Option SupervisionSettings
 settings_of limit key = option_map (λ ms. record { limit = ms; key = key }) limit
 
--- a server as it is created of a device: its queues are empty
-abbrev pub new_server : State → ServerData
-new_server s = record { device = s; queues = replicate associations [] }
+-- a server as it is created of a device, with the record of its session, if there is one: its
+-- queues are empty
+abbrev pub new_server : Option Recording → State → ServerData
+new_server recording s =
+    record { device = s; queues = replicate associations []; recording = recording }
 
 -- the record could not be started, if there is to be one
 abbrev pub IsRecordFault : Bool → ServeStartFault → Type 0
@@ -191,25 +199,29 @@ IsRecordFault records (unserved.KeyFileFault none) = ⊥
 IsRecordFault records (unserved.Refused fault) = ⊥
 IsRecordFault records (unserved.Unbound port fault) = ⊥
 
--- a server of a device is created, with the link of its clients and the process; or memory runs
--- out, or the record can't be started
-abbrev pub IsBound : {L : Type 0} → Bool → State → L → Option (ProcessData L)
+-- a server of a device is created and its record is started, if the session is recorded, with the
+-- link of its clients and the process; or memory runs out, or the record can't be started
+abbrev pub IsBound : {L : Type 0} → ServeOptions (List ℕ) → State → L → Option (ProcessData L)
     → Result (BoundServer L) ServeStartFault
     → Type 0
-IsBound records s link process bound =
-    (bound ≡ Ok (record { server = new_server s; link = link; process = process }))
-    ⊎ ((why : ServeStartFault) × (bound ≡ Err why) × IsRecordFault records why)
+IsBound options s link process bound =
+    (bound ≡ Ok (record {
+      server = new_server (recording_of options) s;
+      link = link;
+      process = process;
+    }))
+    ⊎ ((why : ServeStartFault) × (bound ≡ Err why) × IsRecordFault (is_recorded options) why)
 
 module _ {L H : Type 0} (acts : H → HostCall L → H → Type 0) where
   -- the port of the process is opened, if there is one
   abbrev pub BindsProcess : ServeTask (List ℕ) → Option SupervisionSettings → State → L → Option ℕ
       → H → H → Result (BoundServer L) ServeStartFault → Type 0
   BindsProcess task settings s link None before after bound =
-      (after ≡ before) × IsBound (is_recorded task.options) s link None bound
+      (after ≡ before) × IsBound task.options s link None bound
   BindsProcess task settings s link (Some port) before after bound =
       (had : Result L BindFault) × acts before (Binds port None had) after
       × MatchResult had
-      (λ other. IsBound (is_recorded task.options) s link
+      (λ other. IsBound task.options s link
       (Some (record { link = other; port = initial_port task.sends_releases settings; skips_left = 0 })) bound)
       (λ fault. bound ≡ Err (unserved.Unbound port fault))
 
@@ -249,7 +261,8 @@ module _ {L H W : Type 0} (step : L → Call → L → Type 0) (acts : H → Hos
   -- that one of them reports come a client's octets that request it, the success that is sent to
   -- this client, and the last scan of an earlier turn, which released it; and so before each line
   -- that is printed, or sent to the process, and reads as one. If the process is supervised, it is
-  -- live in each turn that reports a command.
+  -- live in each turn that reports a command. If the session is recorded, the record is what
+  -- happened in the turns, up to its end.
   pub record ServesRun (turns : ℕ) (before : ServiceState L H) (old new : WriterState W) (host : H)
       (answer : Result ℕ WriteFault) : Type 0 where
     pub serves : ServesTurns step acts contents asks turns before old host new answer
@@ -260,6 +273,7 @@ module _ {L H W : Type 0} (step : L → Call → L → Type 0) (acts : H → Hos
     pub printed : ArePrinted before.held.device before.held [] done
     pub live : (settings : SupervisionSettings) → IsSupervised settings before
         → CommandsLive step acts contents asks settings turns before old host new answer serves
+    pub recorded : KeepsRecord before.held done
 
   -- the server's clock is started, the ports, the record's room and the sums of the files are
   -- logged, and turns are served

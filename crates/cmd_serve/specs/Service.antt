@@ -10,8 +10,10 @@ use Rattle.bay_io.specs.declared.outbox.WriteFault.{WriteFault}
 use Rattle.cmd_replay.specs.Runs.{IsGuardedRun}
 use Rattle.bay_server_turn.specs.Calls.{Call}
 use Rattle.bay_server_turn.specs.Served.{reading_count, report_in}
-use Rattle.bay_server_turn.specs.Turns.{ServerData, Script, after_turn}
+use Rattle.bay_server_turn.specs.Recorded.{Recording}
+use Rattle.bay_server_turn.specs.Turns.{ServerData, Script, after_turn, with_recording}
 use Rattle.bay_server_turn.specs.declared.process_input.ProcessReport.{ProcessReport}
+use Rattle.bay_server_turn.specs.declared.record.RecordEnd.{RecordEnd}
 use Rattle.bay_server_turn.specs.declared.turn_report.Turn.{Turn}
 use Rattle.bay_server_turn_laws.specs.Events.{ChosenEvent, turn_events}
 use Rattle.bay_server_turn_laws.specs.Flows.{IsInTime}
@@ -20,7 +22,8 @@ use Rattle.bay_server.specs.ServeReport.{AfterTurn, ServiceState, ServesTurns, T
 
 -- ---- a new server
 
--- The device is as it was loaded, and the queues of the eight associations are empty.
+-- The device is as it was loaded, and the queues of the eight associations are empty. The session
+-- is recorded or not.
 pub record IsBegun (h : ServerData) : Type 0 where
   pub loaded : IsHistory [] h.device
   pub empty : h.queues ≡ replicate associations []
@@ -28,16 +31,21 @@ pub record IsBegun (h : ServerData) : Type 0 where
 -- ---- turns
 
 -- a turn that was done: its moment, the report of the process to it, what the link and the memory
--- decided, and its own report
+-- decided, and its own report; the line of its input, what the file of the record took, the end of
+-- the record that was logged, and the record after that
 pub record DoneTurn : Type 0 where
   pub now : ℕ
   pub given : ProcessReport
   pub script : Script
   pub reported : Turn
+  pub line : List ℕ
+  pub took : List ℕ
+  pub end : Option RecordEnd
+  pub recording : Option Recording
 
--- the server after a turn
+-- the server after a turn, and after what it recorded was written
 abbrev pub server_after : DoneTurn → ServerData → ServerData
-server_after t h = (after_turn t.now t.given t.script h).server
+server_after t h = with_recording t.recording (after_turn t.now t.given t.script h).server
 
 -- the server after all of them
 abbrev pub server_after_all : List DoneTurn → ServerData → ServerData
@@ -76,6 +84,10 @@ module _ {L H W : Type 0} (step : L → Call → L → Type 0) (acts : H → Hos
     given = report_in (chosen_input goes.clocks before).next.given;
     script = goes.serves.script;
     reported = goes.turn;
+    line = (chosen_input goes.clocks before).next.shown;
+    took = goes.took;
+    end = goes.end;
+    recording = after.held.recording;
   }
 
   -- each turn that was done, in their order

@@ -1,5 +1,5 @@
 // Laws of a service. Each function does nothing, and its contract is the law.
-ghost use Rattle.std.specs.Prelude.{ℕ, List, [], Result, replicate};
+ghost use Rattle.std.specs.Prelude.{ℕ, List, [], Option, Result, replicate};
 ghost use Rattle.bay_device.specs.Device.{State};
 ghost use Rattle.bay_device.specs.Fresh.{IsHistory};
 ghost use Rattle.bay_io.specs.Watched.{WriterState};
@@ -12,10 +12,12 @@ ghost use Rattle.bay_load.specs.declared.load.Form.{Form};
 ghost use Rattle.bay_load.specs.declared.load.Form.TheVariants.{Logic};
 ghost use Rattle.bay_replay_laws.specs.ReadBack.{HaveIds};
 ghost use Rattle.bay_server_turn.specs.Calls.{CountedCall};
+ghost use Rattle.bay_server_turn.specs.Recorded.{Recording};
 ghost use Rattle.bay_server_turn.specs.Turns.{ServerData};
 ghost use Rattle.bay_server.specs.ServeReport.{ServiceState, ServesTurns};
 ghost use Rattle.bay_process_port.specs.Supervised.{SupervisionSettings};
 ghost use Rattle.cmd_serve.specs.Live.{CommandsLive, IsSupervised};
+ghost use Rattle.cmd_serve.specs.Records.{KeepsRecord};
 ghost use Rattle.cmd_serve.specs.Requests.{AreRequested};
 ghost use Rattle.cmd_serve.specs.Texts.{ArePrinted};
 ghost use Rattle.cmd_serve.specs.Service.{AreTurns, DoneTurn, IsBegun, IsService, turns_in};
@@ -39,10 +41,15 @@ pub fn all_turns_are_one_run<L: Link, H: Host<L>, W: Sink>(_link: &L, _host: &H,
         → IsService before.held
         (turns_in (CountedCall L.does L.failures) H.does W.contents W.does turns
         before old host new answer serves) }
-    // A new server of a device that was just loaded meets `IsBegun`.
+    // A new server of a device that was just loaded meets `IsBegun`, whether its session is
+    // recorded or not.
     ensures begins { (bay : List ℕ) (form : Form) (program : List ℕ) (device : State)
-        → LoadsDevice bay form program device
-        → IsBegun (record { device = device; queues = replicate associations [] }) }
+        (recording : Option Recording) → LoadsDevice bay form program device
+        → IsBegun (record {
+          device = device;
+          queues = replicate associations [];
+          recording = recording;
+        }) }
     // A device that was loaded from a program's text runs it.
     ensures runs { (bay program : List ℕ) (device : State) → LoadsDevice bay Logic program device
         → (loaded : IsLoaded (parsed_bay bay) (IsCompiled (parsed_program program)) device)
@@ -117,4 +124,22 @@ pub fn commands_need_a_live_process<L: Link, H: Host<L>, W: Sink>(_link: &L, _ho
         → CommandsLive (CountedCall L.does L.failures) H.does W.contents W.does settings turns
         before old
         host new answer serves }
+{}
+
+/// The record of a session is what happened in it. The file takes, for each turn in order, the lines
+/// of all events of the turn, in their order and at the turn's moment, an event of the process with
+/// the words of the line that it was read from. Or the record ends: that is logged in this turn, the
+/// file takes a front of these lines, and nothing from then on.
+///
+/// So what the file takes in all turns is a front of the lines of all their events: all of these if
+/// no end is logged, and never more octets than the record may have. If a session isn't recorded,
+/// nothing is taken, and no end is logged.
+pub fn a_record_is_what_happened<L: Link, H: Host<L>, W: Sink>(_link: &L, _host: &H, _sink: &W)
+    ensures { (turns : ℕ) (before : ServiceState L H) (old new : WriterState W) (host : H)
+        (answer : Result ℕ WriteFault)
+        (serves : ServesTurns (CountedCall L.does L.failures) H.does W.contents W.does turns before
+        old
+        host new answer) → KeepsRecord before.held
+        (turns_in (CountedCall L.does L.failures) H.does W.contents W.does turns
+        before old host new answer serves) }
 {}

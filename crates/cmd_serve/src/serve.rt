@@ -1,14 +1,15 @@
 // Reads, loads and serves files.
-ghost use Rattle.std.specs.Prelude.{◌≡◌, None, Some, Ok, Err, false, replicate, IfErr, IfOk, ◌≤◌, length, option_map};
+ghost use Rattle.std.specs.Prelude.{◌≡◌, None, Some, Ok, Err, false, replicate, IfErr, IfOk, OnOk, ◌≤◌, length, option_map};
 ghost use Rattle.bay_cli.specs.JobView.{options_view, program_view, serve_view};
 ghost use Rattle.bay_device.specs.Load.{device_of};
 ghost use Rattle.bay_device.specs.Outcomes.{associations};
 ghost use Rattle.bay_report.specs.LogLines.{PrintsLogs};
-ghost use Rattle.cmd_serve.specs.Serve.{BindsPorts, BindsProcess, EndsUnserved, IsBound, IsRecordFault, KeylessReport, LoadsFiles, ServesBound, ServesFiles, ServesLoaded, ServesPorts, Unrecorded, UnservedReport, is_recorded, key_of, name_of, new_server, settings_of, state_of};
+ghost use Rattle.cmd_serve.specs.Serve.{BindsPorts, BindsProcess, EndsUnserved, IsBound, IsRecordFault, KeylessReport, LoadsFiles, ServesBound, ServesFiles, ServesLoaded, ServesPorts, Unrecorded, UnservedReport, is_recorded, key_of, name_of, new_server, recording_of, settings_of, state_of};
 ghost use Rattle.cmd_serve.specs.Serve as spec;
 ghost use Rattle.cmd_serve.specs.declared.serve.ServeStartFault.TheVariants as unserved;
 ghost use Rattle.bay_replay_laws.specs.ReadBack.{HaveIds};
 ghost use Rattle.bay_server_turn.specs.Calls.{CountedCall};
+ghost use Rattle.bay_server_turn.specs.Turns.{with_recording};
 ghost use Rattle.cmd_serve.specs.Service.{IsBegun};
 
 use crate::permit::{Permit, prove_diagram, prove_rules};
@@ -209,7 +210,9 @@ fn read_and_load<'a, F: FileSystem>(
         (serve_view task.entry) (Ok loaded)) }
     ensures err { IfErr result (λ why. LoadsFiles F.reads F.guards files.now form program.now
         (serve_view task.entry) (Err why)) }
-    ensures begun { IfOk result (λ loaded. IsBegun (new_server (state_of loaded))) }
+    ensures begun { IfOk result
+        (λ loaded. IsBegun (new_server (recording_of (serve_view task.entry).options)
+        (state_of loaded))) }
     ensures named { IfOk result (λ loaded. HaveIds loaded.load.bay.switches) }
     ensures short { IfOk result
         (λ loaded. length (key_of (option_map (λ digits. digits.items) loaded.key)) ≤ 64) }
@@ -262,14 +265,17 @@ fn record_room(options: ServeOptions<&str>) -> Option<u32>
     }
 }
 
-// Starts a server's record in a new file, if the session is recorded.
+// Starts a server's record in a new file, if the session is recorded, with the room that the
+// options give it.
 fn start_record<'a, F: FileSystem>(
     alloc: Global,
     options: ServeOptions<&'a str>,
     files: &mut F,
     server: &mut Server,
 ) -> Result<(), ServeStartFault<'a>>
-    ensures server { server.new ≡ server.old }
+    requires unrecorded { server.old.recording ≡ None }
+    ensures server { OnOk result
+        (server.new ≡ with_recording (recording_of (options_view options.entry)) server.old) }
     ensures files { is_recorded (options_view options.entry) ≡ false → files.new ≡ files.old }
     ensures fault { IfErr result
         (λ why. IsRecordFault (is_recorded (options_view options.entry)) why) }
@@ -304,8 +310,9 @@ fn make_bound_server<'a, F: FileSystem, L: Drop>(
     files: &mut F,
 ) -> Result<BoundServer<L>, ServeStartFault<'a>>
     requires closed { device.connections ≡ replicate associations None }
-    ensures bound { IsBound (is_recorded (options_view options.entry)) device link process result }
-    ensures server { IfOk result (λ bound. bound.server ≡ new_server device) }
+    ensures bound { IsBound (options_view options.entry) device link process result }
+    ensures server { IfOk result (λ bound. bound.server
+        ≡ new_server (recording_of (options_view options.entry)) device) }
     ensures files { is_recorded (options_view options.entry) ≡ false → files.new ≡ files.old }
 {
     let mut server = match Server::new(alloc, device) {
@@ -335,7 +342,8 @@ fn bind_process<'a, F: FileSystem, L: Link + Drop, H: Host<L>>(
     requires closed { device.connections ≡ replicate associations None }
     ensures binds { BindsProcess H.does (serve_view task.entry) settings device link
         (serve_view task.entry).options.process host.old host.new result }
-    ensures server { IfOk result (λ bound. bound.server ≡ new_server device) }
+    ensures server { IfOk result (λ bound. bound.server
+        ≡ new_server (recording_of (serve_view task.entry).options) device) }
     ensures files { is_recorded (serve_view task.entry).options ≡ false → files.new ≡ files.old }
 {
     let Some(port) = task.options.process else {
@@ -363,7 +371,8 @@ fn bind_ports<'a, F: FileSystem, L: Link + Drop, H: Host<L>>(
 ) -> Result<BoundServer<L>, ServeStartFault<'a>>
     ensures binds { BindsPorts H.does (serve_view task.entry) settings (device_of load) host.old
         host.new result }
-    ensures server { IfOk result (λ bound. bound.server ≡ new_server (device_of load)) }
+    ensures server { IfOk result (λ bound. bound.server
+        ≡ new_server (recording_of (serve_view task.entry).options) (device_of load)) }
     ensures files { is_recorded (serve_view task.entry).options ≡ false → files.new ≡ files.old }
 {
     let device = Device::new(alloc, load)?;
@@ -416,7 +425,8 @@ fn serve_ports<F: FileSystem, L: Link + Drop, H: Host<L>, W: Sink>(
     task: ServeTask<&str>,
     writer: &mut WatchedWriter<W>,
 ) -> Result<u8, WriteFault>
-    requires begun { IsBegun (new_server (state_of loaded)) }
+    requires begun { IsBegun (new_server (recording_of (serve_view task.entry).options)
+        (state_of loaded)) }
     requires named { HaveIds loaded.load.bay.switches }
     requires short { length (key_of (option_map (λ digits. digits.items) loaded.key)) ≤ 64 }
     ensures serves { ServesPorts (CountedCall L.does L.failures) H.does W.contents W.does
@@ -457,7 +467,8 @@ fn serve_loaded<F: FileSystem, L: Link + Drop, H: Host<L>, W: Sink>(
     task: ServeTask<&str>,
     writer: &mut WatchedWriter<W>,
 ) -> Result<u8, WriteFault>
-    requires begun { IsBegun (new_server (state_of loaded)) }
+    requires begun { IsBegun (new_server (recording_of (serve_view task.entry).options)
+        (state_of loaded)) }
     requires named { HaveIds loaded.load.bay.switches }
     requires short { length (key_of (option_map (λ digits. digits.items) loaded.key)) ≤ 64 }
     ensures serves { ServesLoaded (CountedCall L.does L.failures) H.does W.contents W.does
@@ -499,6 +510,10 @@ fn serve_loaded<F: FileSystem, L: Link + Drop, H: Host<L>, W: Sink>(
 /// scan. If the process is supervised, it is connected in this turn, it has introduced itself as
 /// the process of this bay, and its last line counts from a moment at most the milliseconds of the
 /// supervision before the moment of this turn.
+///
+/// If the session is recorded, the file of the record takes the lines of all events of all turns, in
+/// their order, up to the end of the record, which is logged; they are at most as many octets as the
+/// options say.
 pub fn serve<F: FileSystem, L: Link + Drop, H: Host<L>, W: Sink>(
     alloc: Global,
     task: ServeTask<&str>,

@@ -1,11 +1,11 @@
-use Rattle.std.proofs.Common.{◌≡◌, ◌∙◌, max, ap, subst, sym}
+use Rattle.std.proofs.Common.{◌≡◌, ◌∙◌, max, ap, subst}
 use Rattle.bay_device.specs.Device.{State}
 use Rattle.bay_server.specs.ChangeLines.{bay_view}
 use Rattle.bay_server.specs.Clock.{ClockData, moment_read, shift_of}
 use Rattle.bay_server.specs.Serving.{with_host}
 use Rattle.bay_server.proofs.ServeLemmas.{failed-cut, reports-seen, tried-cut, turn-fails, turn-goes}
 use Rattle.bay_server_turn.specs.Calls.{CountedCall}
-use Rattle.bay_server_turn.specs.Turns.{ServerData, moment_at}
+use Rattle.bay_server_turn.specs.Turns.{moment_at}
 use Rattle.bay_server.proofs.serving.try_turn.Goals as goal
 
 pub returns-in_err-reported-in-Ok : goal.returns-in_err-reported-in-Ok
@@ -22,15 +22,15 @@ returns-in_err-reported-in-Ok g c =
     (turn-goes (λ busy. busy.link) g.L.Link.does g.L.Link.failures g.H.Host.does
     g.W.Sink.contents
     g.W.Sink.does
-    _ _ _ _ _ _ _ _ _ _ _ _ _ _ _ _ _ _ _ _ _ _ _ _ _ _ _ _ _ _ _
+    _ _ _ _ _ _ _ _ _ _ _ _ _ _ _ _ _ _ _ _ _ _ _ _ _ _ _ _ _ _ _ _ _
     c.read-reading.ensures.clock c.read-reading.ensures.moment now c.read-reading.ensures.shift
     c.device-2.ensures c.read-reading.ensures.jump c.next_input-next.ensures.next
     c.next_input-next.ensures.process
     c.next_input-next.ensures.lines
-    (c.device-in-Ok.ensures ∙ ap (λ (h : ServerData). h.device) (sym c.write_record.ensures))
+    c.device-in-Ok.ensures c.as_slice-source_line.ensures c.write_record.ensures
     c.clocks.ensures c.log_shift.ensures
     c.in-Ok.ensures.right
-    (rw (sym c.write_record.ensures) at c.in-Ok.ensures.ok)
+    c.in-Ok.ensures.ok
     (ap bay_view c.device-3.ensures)
     (reports-seen {H = Unit {0}} (CountedCall g.L.Link.does g.L.Link.failures) (λ _ _ _. Unit {0})
     g.W.Sink.contents g.W.Sink.does _ _ _ _ _ _ _ _ _ _ _ _ c.view_for_log-before.ensures
@@ -52,14 +52,14 @@ returns-in_ok-reported-in-Ok g c =
       )
           (turn-goes (λ busy. busy.link) g.L.Link.does g.L.Link.failures g.H.Host.does
           g.W.Sink.contents g.W.Sink.does
-          _ _ _ _ _ _ _ _ _ _ _ _ _ _ _ _ _ _ _ _ _ _ _ _ _ _ _ _ _ _ _
+          _ _ _ _ _ _ _ _ _ _ _ _ _ _ _ _ _ _ _ _ _ _ _ _ _ _ _ _ _ _ _ _ _
           c.read-reading.ensures.clock c.read-reading.ensures.moment now
           c.read-reading.ensures.shift c.device-2.ensures c.read-reading.ensures.jump
           c.next_input-next.ensures.next
           c.next_input-next.ensures.process c.next_input-next.ensures.lines
-          (c.device-in-Ok.ensures ∙ ap (λ (h : ServerData). h.device) (sym c.write_record.ensures))
+          c.device-in-Ok.ensures c.as_slice-source_line.ensures c.write_record.ensures
           c.clocks.ensures c.log_shift.ensures c.in-Ok.ensures.right
-          (rw (sym c.write_record.ensures) at c.in-Ok.ensures.ok)
+          c.in-Ok.ensures.ok
           (ap bay_view c.device-3.ensures)
           (reports-seen {H = Unit {0}} (CountedCall g.L.Link.does g.L.Link.failures)
           (λ _ _ _. Unit {0})

@@ -112,7 +112,7 @@ returns-clause-ok g c =
 
 pub returns-clause-begun : goal.returns-clause-begun
 returns-clause-begun g c =
-    begun-of _ _ _ (device_of c.in_ok-load.load) (c.in_ok-load.load, c.in_ok-load.ensures.ok, refl)
+    begun-of _ _ _ (device_of c.in_ok-load.load) _ (c.in_ok-load.load, c.in_ok-load.ensures.ok, refl)
 
 pub returns-clause-named : goal.returns-clause-named
 returns-clause-named g c = loaded-named _ _ _ _ c.in_ok-load.ensures.ok
