@@ -293,7 +293,7 @@ module _ {L H W : Type 0} (step : L → Call → L → Type 0) (acts : H → Hos
   -- The clock was read, the input of the turn was chosen, the turn was done, its report was
   -- printed, and the process was attended to; or it could not be printed. The turn's events were
   -- recorded, an event of the process with the line of the input; then what was recorded was
-  -- written, of which the file took a front. If the record has ended, that was logged.
+  -- written, of which the file took a prefix. If the record has ended, that was logged.
   pub record TurnServed (before : ServiceState L H) (old : WriterState W) (after : ServiceState L H)
       (new : WriterState W) (answer : Result ℕ WriteFault) : Type 0 where
     pub clocks : Clocks

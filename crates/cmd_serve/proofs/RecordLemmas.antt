@@ -1,4 +1,4 @@
--- What the file of a record takes in all turns is a front of the lines of their events.
+-- What the file of a record takes in all turns is a prefix of the lines of their events.
 use Rattle.std.proofs.Common.{◌≡◌, ◌+◌, ◌⊎◌, ℕ, zero, suc, true, false, List, [], ◌∷◌, ◌++◌, length, Option, Result, Ok, Err, is_some, All, inl, inr, refl, ap, sym, subst, ◌∙◌, append_assoc, append-nil, length-append, arith}
 use Rattle.std.proofs.lemmas.List.Elements.{All-cons, All-head, All-nil, All-tail}
 use Rattle.bay_io.specs.Calls.{WriteCall}
@@ -9,7 +9,7 @@ use Rattle.bay_server_turn.specs.Recorded.{WritesRecording}
 use Rattle.bay_server_turn.specs.Turns.{ServerData, after_turn}
 use Rattle.bay_server_turn.specs.declared.record.RecordEnd.{RecordEnd}
 use Rattle.bay_server_turn_laws.specs.Events.{turn_events}
-use Rattle.bay_server_turn_laws.specs.Records.{IsWritten, RecordsTurn, WritesAll, WritesFront, WritesNothing, is_recording, recorded_all, room_left}
+use Rattle.bay_server_turn_laws.specs.Records.{IsWritten, RecordsTurn, WritesAll, WritesPrefix, WritesNothing, is_recording, recorded_all, room_left}
 use Rattle.bay_server_turn_laws.proofs.RecordFlows.{turn-records}
 use Rattle.bay_server_turn_laws.proofs.RecordLemmas.{records-turn}
 use Rattle.bay_server.specs.Host.{HostCall}
@@ -61,7 +61,7 @@ all-recorded : (ts : List DoneTurn) (h : ServerData) → IsWritten h.recording
     → IsRecordOf (room_left h.recording) h ts
 all-recorded [] h written begun are = record {
   each = tt;
-  front = ([], refl);
+  prefix = ([], refl);
   whole = λ endless. refl;
   within = omega arith;
 }
@@ -77,7 +77,7 @@ all-recorded (t ∷ ts) h written begun are =
     next = server_after t h
 
     by-turn : WritesAll (turn_lines t h) t.took h.recording t.recording t.end
-        ⊎ WritesFront (turn_lines t h) t.took h.recording t.recording t.end
+        ⊎ WritesPrefix (turn_lines t h) t.took h.recording t.recording t.end
         → IsWritten t.recording
         → (IsWritten t.recording → is_recording t.recording ≡ true
         → IsRecordOf (room_left t.recording) next ts)
@@ -89,10 +89,10 @@ all-recorded (t ∷ ts) h written begun are =
         length-append t.took (all_taken ts) in
         record {
           each = inl (w.all, w.no_end, more.each);
-          front = (
-            more.front.0,
-            append_assoc t.took (all_taken ts) more.front.0
-                ∙ ap (λ l. t.took ++ l) more.front.1
+          prefix = (
+            more.prefix.0,
+            append_assoc t.took (all_taken ts) more.prefix.0
+                ∙ ap (λ l. t.took ++ l) more.prefix.1
                 ∙ ap (λ l. l ++ all_lines ts next) w.all,
           );
           whole = λ endless.
@@ -108,7 +108,7 @@ all-recorded (t ∷ ts) h written begun are =
         let ended : is_some t.end ≡ true = ap (λ (o : Option RecordEnd). is_some o) w.reported in
         record {
           each = inr ((w.rest, w.is), ended, none);
-          front = (
+          prefix = (
             w.rest ++ all_lines ts next,
             ap (λ l. l ++ (w.rest ++ all_lines ts next)) taken
                 ∙ sym (append_assoc t.took w.rest (all_lines ts next))

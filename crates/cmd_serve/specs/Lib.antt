@@ -11,7 +11,7 @@
 -- since load, which are one run of it. `Requests`: the request, the answer and the scan of each
 -- command that a turn reports; `Texts`: the same for the lines that are printed. `Live`: a
 -- supervised process was alive when a turn with a command began. `Records`: what the file of the
--- record takes in all turns is a front of the lines of their events.
+-- record takes in all turns is a prefix of the lines of their events.
 
 -- What public clauses cite of the crates below.
 pub use Rattle.bay_cli.specs.JobView

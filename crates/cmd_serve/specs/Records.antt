@@ -32,24 +32,24 @@ IsEndless t = t.end ≡ None
 abbrev pub IsUnrecorded : DoneTurn → Type 0
 IsUnrecorded t = (t.took ≡ []) × IsEndless t
 
--- octets are a front of others
-abbrev pub IsFrontOf : List ℕ → List ℕ → Type 0
-IsFrontOf front all = (rest : List ℕ) × (front ++ rest ≡ all)
+-- octets are a prefix of others
+abbrev pub IsPrefixOf : List ℕ → List ℕ → Type 0
+IsPrefixOf taken all = (rest : List ℕ) × (taken ++ rest ≡ all)
 
 -- Each turn in order is recorded: the file takes the lines of all its events, and no end of the
--- record is logged; or it takes a front of these lines, and an end is logged. After that the file
+-- record is logged; or it takes a prefix of these lines, and an end is logged. After that the file
 -- takes nothing, and no end is logged again.
 abbrev pub AreRecorded : ServerData → List DoneTurn → Type 0
 AreRecorded h [] = Unit {0}
 AreRecorded h (t ∷ ts) =
     ((t.took ≡ turn_lines t h) × IsEndless t × AreRecorded (server_after t h) ts)
-    ⊎ (IsFrontOf t.took (turn_lines t h) × (is_some t.end ≡ true) × All IsUnrecorded ts)
+    ⊎ (IsPrefixOf t.took (turn_lines t h) × (is_some t.end ≡ true) × All IsUnrecorded ts)
 
 -- Turns are recorded by a record that may have so many octets: what its file takes in all of them is
--- a front of the lines of all their events, and all of these if no end of the record is logged.
+-- a prefix of the lines of all their events, and all of these if no end of the record is logged.
 pub record IsRecordOf (most : ℕ) (h : ServerData) (turns : List DoneTurn) : Type 0 where
   pub each : AreRecorded h turns
-  pub front : IsFrontOf (all_taken turns) (all_lines turns h)
+  pub prefix : IsPrefixOf (all_taken turns) (all_lines turns h)
   pub whole : All IsEndless turns → all_taken turns ≡ all_lines turns h
   pub within : length (all_taken turns) ≤ most
 

@@ -129,9 +129,9 @@ pub fn commands_need_a_live_process<L: Link, H: Host<L>, W: Sink>(_link: &L, _ho
 /// The record of a session is what happened in it. The file takes, for each turn in order, the lines
 /// of all events of the turn, in their order and at the turn's moment, an event of the process with
 /// the words of the line that it was read from. Or the record ends: that is logged in this turn, the
-/// file takes a front of these lines, and nothing from then on.
+/// file takes a prefix of these lines, and nothing from then on.
 ///
-/// So what the file takes in all turns is a front of the lines of all their events: all of these if
+/// So what the file takes in all turns is a prefix of the lines of all their events: all of these if
 /// no end is logged, and never more octets than the record may have. If a session isn't recorded,
 /// nothing is taken, and no end is logged.
 pub fn a_record_is_what_happened<L: Link, H: Host<L>, W: Sink>(_link: &L, _host: &H, _sink: &W)
