@@ -1,6 +1,7 @@
 pub mod ByNamesLemmas
 pub mod InstructionLemmas
 pub mod IntegerLemmas
+pub mod LineEndLemmas
 pub mod MeaningLemmas
 pub mod NumberLemmas
 pub mod RightTextLemmas

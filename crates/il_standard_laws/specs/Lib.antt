@@ -6,6 +6,8 @@
 -- the types of the other instructions, and of numbers. `Instructions`: which instructions are
 -- valid, each by itself; `RightText`: one after the other. `Integers`: the results of operators on
 -- integers and on values. `TypedText`: the types of a checked program, compared with its text.
+--
+-- `LineEnds`: CR LF in place of LF.
 
 -- What public clauses cite of the crates below.
 pub use Rattle.il_check.specs.Checking
@@ -17,10 +19,13 @@ pub use Rattle.il_compile.specs.Meaning
 pub use Rattle.il_compile.specs.OperatorClasses
 pub use Rattle.il_image.specs.Arithmetic
 pub use Rattle.il_text.specs.Listing
+pub use Rattle.il_text.specs.Respelling
+pub use Rattle.il_text.specs.Texts
 -- Its own definitions.
 pub mod ByNames
 pub mod Instructions
 pub mod Integers
+pub mod LineEnds
 pub mod RightText
 pub mod Table
 pub mod TypedText

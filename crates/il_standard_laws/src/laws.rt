@@ -29,6 +29,7 @@ ghost use Rattle.il_standard_laws.specs.ByNames.{AccessesByName};
 ghost use Rattle.il_standard_laws.specs.Instructions.{IsLiteralOf};
 ghost use Rattle.il_standard_laws.specs.Integers.{IsApplied, IsConverted, IsInverted, IsOutcome};
 ghost use Rattle.il_standard_laws.specs.RightText.{IsRightText};
+ghost use Rattle.il_standard_laws.specs.LineEnds.{CommentsMayHaveCrLf, FilesMayHaveCrLf};
 ghost use Rattle.il_check.specs.Operators.{result_type};
 ghost use Rattle.il_standard_laws.specs.TypedText.{HasTypes};
 
@@ -104,4 +105,12 @@ pub fn a_right_program_has_the_languages_types()
     ensures { (points : List Point) (program : text.PlainProgram) (c : Checked)
         → checked_of points program ≡ Ok c → list_all is_outer program.items ≡ true
         → HasTypes program c }
+{}
+
+/// Lines may end in CR LF instead of LF. Within a comment, CR LF in place of an LF never changes how
+/// a text is read. A text without CR is read in the same way, as the same program or with the same
+/// fault, if each of its line ends is CR LF, within comments and outside (IEC 61131-3:2003, 2.1.5).
+pub fn line_ends_may_be_cr_lf()
+    ensures comments { CommentsMayHaveCrLf }
+    ensures files { FilesMayHaveCrLf }
 {}

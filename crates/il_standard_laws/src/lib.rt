@@ -2,7 +2,8 @@
 // with the language's tables.
 //
 // - `laws`: a program reads and writes by name; the checks use the language's tables, operators
-//   mean the arithmetic of the integers, and a valid program has the language's types.
+//   mean the arithmetic of the integers, and a valid program has the language's types; lines may end
+//   in CR LF.
 #![tactic(auto)]
 
 pub mod laws;
