@@ -7,3 +7,4 @@ pub mod NumberLemmas
 pub mod RightTextLemmas
 pub mod TableLemmas
 pub mod TypedTextLemmas
+pub mod VersionLemmas

@@ -7,7 +7,8 @@
 -- valid, each by itself; `RightText`: one after the other. `Integers`: the results of operators on
 -- integers and on values. `TypedText`: the types of a checked program, compared with its text.
 --
--- `LineEnds`: CR LF in place of LF.
+-- `LineEnds`: CR LF in place of LF. `VersionOne`: version 1 of the format of images. No code cites
+-- these either.
 
 -- What public clauses cite of the crates below.
 pub use Rattle.il_check.specs.Checking
@@ -18,6 +19,8 @@ pub use Rattle.il_check.specs.Rules
 pub use Rattle.il_compile.specs.Meaning
 pub use Rattle.il_compile.specs.OperatorClasses
 pub use Rattle.il_image.specs.Arithmetic
+pub use Rattle.il_image.specs.Decoding
+pub use Rattle.il_image.specs.Images
 pub use Rattle.il_text.specs.Listing
 pub use Rattle.il_text.specs.Respelling
 pub use Rattle.il_text.specs.Texts
@@ -29,3 +32,4 @@ pub mod LineEnds
 pub mod RightText
 pub mod Table
 pub mod TypedText
+pub mod VersionOne

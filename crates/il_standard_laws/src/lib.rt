@@ -3,7 +3,7 @@
 //
 // - `laws`: a program reads and writes by name; the checks use the language's tables, operators
 //   mean the arithmetic of the integers, and a valid program has the language's types; lines may end
-//   in CR LF.
+//   in CR LF, and version 1 of an image is read.
 #![tactic(auto)]
 
 pub mod laws;
