@@ -1,4 +1,5 @@
 pub mod BackingLemmas
+pub mod ChainLemmas
 pub mod CommandLemmas
 pub mod FreshLemmas
 pub mod KeyLemmas

@@ -1,4 +1,4 @@
-// Laws of small runs. Each function does nothing; its contract is the law.
+// Laws of runs. Each function does nothing; its contract is the law.
 ghost use Rattle.std.specs.Prelude.{◌≡◌, ◌≢◌, ◌+◌, ℕ, ℤ, Bool, true, false, List, [], ◌∷◌, Ok, Err, Some, None, codes};
 ghost use Rattle.std.specs.Borrow.{Bor};
 ghost use Rattle.bay_base.specs.declared.point.MeterField.{MeterField};
@@ -19,6 +19,7 @@ ghost use Rattle.bay_device.specs.declared.event.Event.{Event};
 ghost use Rattle.bay_device.specs.declared.event.Event.TheVariants.{BadMeasure, Close, Contact, Input, Lost, Measure, Open, Recv, Scan};
 ghost use Rattle.bay_device.specs.declared.event.Step.{Step};
 ghost use Rattle.bay_device.specs.declared.fault.StepFault.{StepFault};
+ghost use Rattle.bay_device_example_laws.specs.Chains.{AnswersFixStates, OneChain, OneChainOf, OneEnd};
 ghost use Rattle.bay_device_example_laws.specs.Commands.{HasOnlyCommand, close_command, interlocked_state, keyed_state, open_command, operating_state, released_state};
 ghost use Rattle.bay_device_example_laws.specs.Keys.{input_past, open_switch, refused_input, two_switches};
 ghost use Rattle.bay_device_example_laws.specs.Operates.{IsAccepted, IsOther, IsRefused, step_with_commands};
@@ -327,4 +328,15 @@ pub fn a_program_of_nothing_changes_nothing()
     ensures rows { (s : State) (step : Step) (rows : List Row) → rows ≢ s.rows
         → MeansAt empty_program 0 Scan (halting_device s) (Ok step)
         (record (halting_device s) { rows = rows }) → ⊥ }
+{}
+
+/// The clauses of `run` speak of one chain of devices. An event, its answer and the device before
+/// it determine the device after it, even if an allocation failed. So the same events with the same
+/// answers lead from a device to one device. If each clause of a run is true along some chain, one
+/// to another device for each event, then all of them are true along one chain.
+pub fn clauses_speak_of_one_chain()
+    ensures fixed { AnswersFixStates }
+    ensures ends { OneEnd }
+    ensures one { OneChain }
+    ensures means { OneChainOf }
 {}

@@ -2,7 +2,7 @@
 // is a run that it accepts, and the same run with one thing changed, which it does not accept.
 //
 // - `laws`: for `IsBacked`, `CommandedAt`, `AreOperates`, `AllOperate`, `HasScan`, `HaltsAt` and
-// `MeansAt`.
+// `MeansAt`; and that the clauses of a run speak of one chain of devices.
 #![tactic(auto)]
 
 pub mod laws;
