@@ -110,11 +110,18 @@ def short_answer(told: Refusal) -> dict[str, str]:
     return {name: it for name, it in dataclasses.asdict(told).items() if it or name != 'caveat'}
 
 
+def is_lost(name: str, told: Refusal) -> bool:
+    """Whether an answer names a function that is gone, or its edit is gone."""
+    crate, _, edit = name.partition('/')
+    is_there = any(CRATES.glob(f'{crate}/*/{edit}.edit'))
+    return not is_there or bool(told.call) and all(it.title != told.call for it in calls_of(crate))
+
+
 def write_table(table: dict[str, Refusal]) -> None:
-    """Writes the answers of edits that are there. The new table takes the place of the old one at
-    once, so a run that is ended leaves one or the other."""
-    there = {f'{it.parent.parent.name}/{it.stem}' for it in CRATES.glob('*/*/*.edit')}
-    rows = {name: short_answer(table[name]) for name in sorted(table) if name in there}
+    """Writes the answers of edits that are there, of functions that are there. The new table takes
+    the place of the old one at once, so a run that is ended leaves one or the other."""
+    rows = {name: short_answer(table[name]) for name in sorted(table)
+            if not is_lost(name, table[name])}
     new = TABLE.with_suffix('.new')
     new.write_text(json.dumps(rows, indent=1, ensure_ascii=False) + '\n', encoding='utf-8')
     os.replace(new, TABLE)
