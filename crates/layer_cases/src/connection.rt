@@ -90,6 +90,18 @@ pub fn stream(alloc: Global, number: &str, octets: &[u8]) -> Result<String> {
     Ok(whole)
 }
 
+/// Feeds pieces of octets, each once, and returns what can be read after each of them.
+pub fn shown_after(alloc: Global, pieces: &str) -> Result<String> {
+    let mut transport = Transport::new(alloc, 1);
+    let mut text = String::new(alloc);
+    for word in pieces.split(" ") {
+        let piece = octets_of(alloc, word)?;
+        transport.feed(piece.as_slice())?;
+        write!(text, "|{} ", hex::encode(alloc, transport.shown())?)?;
+    }
+    Ok(text)
+}
+
 /// Returns the frames of a TSDU after a request.
 pub fn wrap_tsdu(alloc: Global, tsdu: &str, request: &[u8]) -> Result<String> {
     let tsdu = octets_of(alloc, tsdu)?;

@@ -10,8 +10,9 @@
 //   the octets after it, and its content. `int`, `bool` and `bits` have what the content encodes in
 //   place of the tag.
 // - `transport`: `stream OCTETS ASSOCIATION` is the results of the octets of a connection, in
-//   pieces of 1, 3, 100 and 65,536 octets, and of one octet after them; `wrap OCTETS TSDU` is a
-//   TSDU in frames after a request.
+//   pieces of 1, 3, 100 and 65,536 octets, and of one octet after them; `shown PIECE ..` is what
+//   can be read of a connection after each of these pieces; `wrap OCTETS TSDU` is a TSDU in frames
+//   after a request.
 // - `association`: `tsdus OCTETS ..` is the results of TSDUs, one after the other.
 // - `requests`: `request OCTETS` is the request, after its invoke id. `operate OCTETS` and `cancel
 //   OCTETS` are the first value of a write, as an operate or a cancel of a control.
@@ -75,6 +76,7 @@ enum Section<'a> {
 fn answer(alloc: Global, kind: &str, words: &str) -> Result<String> {
     match kind {
         "tsdus" => return connection::association(alloc, words),
+        "shown" => return connection::shown_after(alloc, words),
         "text" | "body" | "local" | "external" | "reads" => {
             return texts::reading(alloc, kind, words);
         }

@@ -12,25 +12,17 @@ from .promises import Promise, borne_by, promises
 
 PLACES = ('crates/layer_cases/stdin', 'crates/bayctl_cases/stdin', 'crates/bayctl_tests/src/*.rt',
           'crates/bay_diagram_tests/src/*.rt',
-          'dev/devtools/check/*.py', 'bench/speed/allocations', 'bench/trials/faults')
+          'dev/devtools/check/*.py', 'examples/*/run', 'bench/speed/allocations',
+          'bench/trials/faults')
 SHOWS = re.compile(r'^(?:#|//|== note) Shows (P-\d{3}(?:, P-\d{3})*)\.$')
 TITLE = re.compile(r'^(?:# (?!Shows )|== note (?!Shows )|== (?=report|eight|hostile|bay'
                    r'|tree|controls)|def |fn )(.*)$')
-ONE_LINE = 'no case can: each lack of memory of a load is told by the same line'
 OWN_RUNS = 'it speaks of definitions, on runs of its own'
 NONE = {
-    'P-014': 'no program of cases keeps what led to its controls',
     'P-037': 'no case can: nothing else makes a typed program',
-    'P-053': ONE_LINE,
     'P-054': 'no case can: the verifier lets no such program pass',
-    'P-058': ONE_LINE,
-    'P-071': 'no case can: it speaks of every run',
-    'P-082': 'no case looks at what is lent behind a later piece',
     'P-140': OWN_RUNS,
-    'P-141': OWN_RUNS,
-    'P-147': 'no case can: it speaks of every run',
-    'P-155': 'no case can: it speaks of every run',
-    'P-156': 'no case can: it speaks of every run'}
+    'P-141': OWN_RUNS}
 
 
 @dataclasses.dataclass(frozen=True)
@@ -59,7 +51,8 @@ def places_in(path: pathlib.Path) -> list[tuple[str, Place]]:
         shows = SHOWS.match(line)
         if shows:
             told = title_of(lines, number, is_case)
-            name = f'{crate or path.stem}: {told}'
+            where = crate or (path.parent.name if path.name == 'run' else path.stem)
+            name = f'{where}: {told}'
             found += [(it, Place(name, path, number + 1)) for it in shows[1].split(', ')]
     return found
 
