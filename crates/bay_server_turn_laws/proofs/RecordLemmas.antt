@@ -3,7 +3,6 @@ use Rattle.std.proofs.Common.{Bool, List, None, Option, Some, [], ap, append-nil
 use Rattle.std.proofs.lemmas.Bool.{leb-true}
 use Rattle.std.specs.Option.{option_or}
 use Rattle.bay_device.specs.declared.event.Event.{Event}
-use Rattle.bay_lines.specs.Puts.{fits_in}
 use Rattle.bay_server_turn.specs.Recorded.{Recording, WritesRecording, after_write, end_after_write, finished, has_line, recorded_line, with_event_line, with_line}
 use Rattle.bay_server_turn.specs.declared.record.RecordEnd.{RecordEnd}
 use Rattle.bay_server_turn.specs.declared.record.RecordEnd.TheVariants.{Full, Overlong, Failed}
@@ -32,9 +31,7 @@ ends-now lines reason r = record {
 
 module _ (r : Recording) (goes_on : r.is_over ≡ false) (no_end : r.end ≡ None) where
   line-takes : (line : List ℕ) → Takes line r (with_line line r)
-  line-takes line =
-      by-room (fits_in 73728 [] line) (leb (length line) r.left) (fits_in 73728 r.waiting line)
-      refl
+  line-takes line = by-room _ (leb (length line) r.left) _ refl
     where
       by-room : (a b c : Bool) → leb (length line) r.left ≡ b
           → Takes line r (cond a (cond b (cond c
