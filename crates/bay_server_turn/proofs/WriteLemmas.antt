@@ -85,7 +85,7 @@ module _ {W : Type 0} (contents : W → Option (List ℕ)) (old new : W) (r : Re
     answered = answered;
   }
 
-  -- the writer took a front
+  -- the writer took a prefix
   pub writes-some : n < length lines → answer ≡ Some Failed
       → Writes contents (record { writer = old; recording = r })
       (record {

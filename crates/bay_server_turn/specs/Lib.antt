@@ -16,7 +16,7 @@
 -- that will be offered once more; which of these accept replies.
 --
 -- `Recorded`: the record of a session. An event adds its line as a whole, or ends the record; a write
--- hands what waits to the file, which takes a front of it.
+-- hands what waits to the file, which takes a prefix of it.
 --
 -- `Served`: why a turn is refused, and what a turn promises that is not: there is a script such
 -- that the calls, the server after the turn and its report are the script's. `Supervised`: the

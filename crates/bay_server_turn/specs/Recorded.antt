@@ -17,7 +17,7 @@ pub record Recording : Type 0 where
   pub is_over : Bool
   pub end : Option RecordEnd
 
--- a record of at most so many octets, before its first event
+-- a record of at most `most` octets, before its first event
 abbrev pub new_recording : ℕ → Recording
 new_recording most = record { waiting = []; left = most; is_over = false; end = None }
 
@@ -44,8 +44,8 @@ has_line source Scan = true
 abbrev pub recorded_line : ℕ → List ℕ → Event → List ℕ
 recorded_line now source event = event_line now source event ++ codes "\n"
 
--- A line is recorded as a whole, if the record may have so many octets more and 73,728 octets have
--- room for what waits and for it; otherwise the record ends.
+-- A line is recorded as a whole, if what is left of the size of the record has room for it, and
+-- 73,728 octets have room for what waits and for it; otherwise the record ends.
 abbrev pub with_line : List ℕ → Recording → Recording
 with_line line r =
     if fits_in 73728 [] line
@@ -96,7 +96,7 @@ pub record RecordState (W : Type 0) : Type 0 where
   pub writer : W
   pub recording : Recording
 
--- What waits is written: the writer took a front of it, and all of it unless the write failed, with
+-- What waits is written: the writer took a prefix of it, and all of it unless the write failed, with
 -- which the record ends. The answer is why the record has ended, if that was not reported before.
 pub record Writes {W : Type 0} (contents : W → Option (List ℕ)) (old new : RecordState W)
     (answer : Option RecordEnd) : Type 0 where

@@ -148,9 +148,10 @@ module _ {L : Type 0} (step : L → Call → L → Type 0) where
 
   -- ---- a turn
 
-  -- There is a script, of the results of an accept, eight reads (none, if the turn skips reads) and
-  -- eight offers and of where memory ran out, such that the calls on the link, the server after them and the report of the
-  -- turn are those of the script.
+  -- There is a script, of the line that the event of the process was read from, of the results of an
+  -- accept, eight reads (none, if the turn skips reads) and eight offers, and of where memory ran
+  -- out, such that the calls on the link, the server after them and the report of the turn are those
+  -- of the script.
   pub record Serves (old new : L) (now : ℕ) (given : ProcessReport) (source : List ℕ)
       (before after : ServerData) (turn : Turn) : Type 0 where
     pub script : Script

@@ -67,7 +67,7 @@ fn has_line(event: Event<'_>, source_line: &[u8]) -> bool
 
 // Writes octets until the writer took all, or takes none, or a write fails. A write that a signal
 // interrupts is made again. Returns how many octets the writer took.
-fn write_front<W: Write>(writer: &mut W, octets: &[u8]) -> usize
+fn write_prefix<W: Write>(writer: &mut W, octets: &[u8]) -> usize
     ensures within { result ≤ length octets.now }
     ensures bytes { Appends (W.contents writer.old) (W.contents writer.new)
         (take result octets.now) }
@@ -151,7 +151,7 @@ impl<W: Write> Record<W> {
         ensures { Writes W.contents self.old self.new result }
     {
         let lines = self.lines.as_slice();
-        if write_front(&mut self.writer, lines) < lines.len() {
+        if write_prefix(&mut self.writer, lines) < lines.len() {
             self.lines.clear();
             self.is_over = true;
             self.end = None;

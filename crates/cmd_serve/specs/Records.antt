@@ -45,7 +45,7 @@ AreRecorded h (t ∷ ts) =
     ((t.took ≡ turn_lines t h) × IsEndless t × AreRecorded (server_after t h) ts)
     ⊎ (IsPrefixOf t.took (turn_lines t h) × (is_some t.end ≡ true) × All IsUnrecorded ts)
 
--- Turns are recorded by a record that may have so many octets: what its file takes in all of them is
+-- Turns are recorded by a record of at most `most` octets: what its file takes in all of them is
 -- a prefix of the lines of all their events, and all of these if no end of the record is logged.
 pub record IsRecordOf (most : ℕ) (h : ServerData) (turns : List DoneTurn) : Type 0 where
   pub each : AreRecorded h turns

@@ -4,8 +4,8 @@ use Rattle.bay_server_turn.specs.declared.record.RecordEnd.TheVariants.{Failed}
 use Rattle.bay_server_turn.proofs.WriteLemmas.{writes-all, writes-some}
 use Rattle.bay_server_turn.proofs.record.Record.write.Goals as goal
 
-pub returns-then-write_front-lines : goal.returns-then-write_front-lines
-returns-then-write_front-lines g c =
+pub returns-then-write_prefix-lines : goal.returns-then-write_prefix-lines
+returns-then-write_prefix-lines g c =
     let r : Recording = record {
       waiting = c.self.inside.lines;
       left = c.self.inside.left;
@@ -13,7 +13,7 @@ returns-then-write_front-lines g c =
       end = c.self.inside.end;
     } in
     let left : RecordState g.row.W.Denot = record {
-      writer = c.write_front.new.writer;
+      writer = c.write_prefix.new.writer;
       recording = record {
         waiting = c.clear.new.self;
         left = c.self.inside.left;
@@ -23,10 +23,10 @@ returns-then-write_front-lines g c =
     } in
     subst (λ (o : RecordState g.row.W.Denot). Writes g.W.Write.contents o left (Some Failed))
     c.self.view_is
-    (writes-some g.W.Write.contents c.self.inside.writer c.write_front.new.writer r
-    c.write_front.result c.as_slice-lines.result.now c.clear.new.self None (Some Failed)
-    c.as_slice-lines.ensures.value c.write_front.ensures.bytes c.clear.ensures refl
-    c.if-write_front-lines.true refl)
+    (writes-some g.W.Write.contents c.self.inside.writer c.write_prefix.new.writer r
+    c.write_prefix.result c.as_slice-lines.result.now c.clear.new.self None (Some Failed)
+    c.as_slice-lines.ensures.value c.write_prefix.ensures.bytes c.clear.ensures refl
+    c.if-write_prefix-lines.true refl)
 
 pub returns : goal.returns
 returns g c =
@@ -37,7 +37,7 @@ returns g c =
       end = c.self.inside.end;
     } in
     let left : RecordState g.row.W.Denot = record {
-      writer = c.write_front.new.writer;
+      writer = c.write_prefix.new.writer;
       recording = record {
         waiting = c.clear-2.new.self;
         left = c.self.inside.left;
@@ -47,7 +47,7 @@ returns g c =
     } in
     subst (λ (o : RecordState g.row.W.Denot). Writes g.W.Write.contents o left c.take.result)
     c.self.view_is
-    (writes-all g.W.Write.contents c.self.inside.writer c.write_front.new.writer r
-    c.write_front.result c.as_slice-lines.result.now c.clear-2.new.self c.take.new.self
-    c.take.result c.as_slice-lines.ensures.value c.write_front.ensures.bytes c.clear-2.ensures
-    c.take.ensures.after c.if-write_front-lines.false c.take.ensures.value)
+    (writes-all g.W.Write.contents c.self.inside.writer c.write_prefix.new.writer r
+    c.write_prefix.result c.as_slice-lines.result.now c.clear-2.new.self c.take.new.self
+    c.take.result c.as_slice-lines.ensures.value c.write_prefix.ensures.bytes c.clear-2.ensures
+    c.take.ensures.after c.if-write_prefix-lines.false c.take.ensures.value)

@@ -1,8 +1,8 @@
 use Rattle.std.proofs.Common.{◌-◌, length, drop, arith, length-drop, length-take}
 use Rattle.std.proofs.lemmas.List.{take_rest}
 use Rattle.bay_server_turn.proofs.WriteLemmas.{took-more, took-none}
-use Rattle.bay_server_turn.proofs.record.write_front.Goals as goal
-use Rattle.bay_server_turn.proofs.record.write_front.Goals.{in-Ok, in-Err+else-ne}
+use Rattle.bay_server_turn.proofs.record.write_prefix.Goals as goal
+use Rattle.bay_server_turn.proofs.record.write_prefix.Goals.{in-Ok, in-Err+else-ne}
 
 pub loop-preserved : goal.loop-preserved
 loop-preserved g c =
