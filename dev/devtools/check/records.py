@@ -157,7 +157,7 @@ def sent_by(tap: Tap) -> bytes:
     return b''.join(octets for _, side, _, octets in tap.seen if side == 1)
 
 
-# Shows P-097.
+# Shows P-097, P-158.
 def session(checks) -> None:
     """A record is replayed as the session was, and a record that lacks lines is not."""
     path = checks.folder / 'record'
@@ -203,6 +203,7 @@ def lines(checks) -> None:
                  found in (wanted, [*wanted, 'lost']), str(found))
 
 
+# Shows P-158.
 def full(checks) -> None:
     """A record ends with the last line that fits, and a name that is taken ends the server."""
     record = checks.folder / 'full'
@@ -226,6 +227,7 @@ def full(checks) -> None:
                  and record.read_text() == held, str(ran))
 
 
+# Shows P-158.
 def check_failing_record(checks) -> None:
     """A record whose file can't be written any more ends, and the server does not."""
     limited = checks.file('limited', f'''#!/bin/sh
