@@ -93,7 +93,7 @@ const CLIENT_ROWS: [ClientRow; 4] = [
     },
 ];
 
-// Shows P-122, P-125, P-126, P-129.
+// Shows P-122, P-123, P-125, P-126, P-129, P-130.
 #[test]
 fn clients_are_answered_and_closed(rt: HostRuntime) -> Result<(), Fail> {
     let whole = octets_of(rt.alloc(), &[CONFIRM, CONNECTED, IDENTITY])?;
