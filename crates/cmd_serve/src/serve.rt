@@ -425,7 +425,7 @@ fn serve_ports<F: FileSystem, L: Link + Drop, H: Host<L>, W: Sink>(
     task: ServeTask<&str>,
     writer: &mut WatchedWriter<W>,
 ) -> Result<u8, WriteFault>
-    requires begun { IsBegun (new_server (recording_of (serve_view task.entry).options)
+    requires begun { IsBegun (new_server (recording_of (serve_view task).options)
         (state_of loaded)) }
     requires named { HaveIds loaded.load.bay.switches }
     requires short { length (key_of (option_map (λ digits. digits.items) loaded.key)) ≤ 64 }
@@ -467,7 +467,7 @@ fn serve_loaded<F: FileSystem, L: Link + Drop, H: Host<L>, W: Sink>(
     task: ServeTask<&str>,
     writer: &mut WatchedWriter<W>,
 ) -> Result<u8, WriteFault>
-    requires begun { IsBegun (new_server (recording_of (serve_view task.entry).options)
+    requires begun { IsBegun (new_server (recording_of (serve_view task).options)
         (state_of loaded)) }
     requires named { HaveIds loaded.load.bay.switches }
     requires short { length (key_of (option_map (λ digits. digits.items) loaded.key)) ≤ 64 }
