@@ -14,7 +14,7 @@ use Rattle.bay_server_turn_laws.proofs.RecordFlows.{turn-records}
 use Rattle.bay_server_turn_laws.proofs.RecordLemmas.{records-turn}
 use Rattle.bay_server.specs.Host.{HostCall}
 use Rattle.bay_server.specs.ServeReport.{AfterTurn, ServiceState, ServesTurns, TurnServed}
-use Rattle.cmd_serve.specs.Records.{IsEndless, IsRecordOf, IsUnrecorded, KeepsRecord, all_lines, all_taken, turn_lines}
+use Rattle.cmd_serve.specs.SessionRecord.{IsEndless, IsRecordOf, IsUnrecorded, KeepsRecord, all_lines, all_taken, turn_lines}
 use Rattle.cmd_serve.specs.Service.{DoneTurn, later_turns, server_after, turn_in, turns_in}
 use Rattle.cmd_serve.proofs.TurnLemmas.{paused-held, turned-to}
 

@@ -10,8 +10,8 @@
 -- `Service`: the turns that were served, one after the other, and all events of the device in them
 -- since load, which are one run of it. `Requests`: the request, the answer and the scan of each
 -- command that a turn reports; `Texts`: the same for the lines that are printed. `Live`: a
--- supervised process was alive when a turn with a command began. `Records`: what the file of the
--- record takes in all turns is a prefix of the lines of their events.
+-- supervised process was alive when a turn with a command began. `SessionRecord`: what the file of
+-- the record takes in all turns is a prefix of the lines of their events.
 
 -- What public clauses cite of the crates below.
 pub use Rattle.bay_cli.specs.JobView
@@ -45,7 +45,7 @@ pub use Rattle.bay_server.specs.LogLines
 pub use Rattle.bay_server.specs.ServeReport
 -- Its own definitions.
 pub mod Live
-pub mod Records
+pub mod SessionRecord
 pub mod Requests
 pub mod Permits
 pub mod Serve

@@ -42,7 +42,7 @@ use Rattle.bay_server.specs.declared.clock.Clocks.{Clocks}
 use Rattle.bay_server.specs.declared.host.BindFault.{BindFault}
 use Rattle.cmd_audit.specs.Auditing.{ReadsOptional}
 use Rattle.cmd_serve.specs.Live.{CommandsLive, IsSupervised}
-use Rattle.cmd_serve.specs.Records.{KeepsRecord}
+use Rattle.cmd_serve.specs.SessionRecord.{KeepsRecord}
 use Rattle.cmd_serve.specs.Requests.{AreRequested}
 use Rattle.cmd_serve.specs.Permits.{AfterPermit, WritesOnDiagram, WritesOnRules}
 use Rattle.cmd_serve.specs.Service.{DoneTurn, IsService, turns_in}

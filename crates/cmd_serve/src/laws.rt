@@ -17,7 +17,7 @@ ghost use Rattle.bay_server_turn.specs.Turns.{ServerData};
 ghost use Rattle.bay_server.specs.ServeReport.{ServiceState, ServesTurns};
 ghost use Rattle.bay_process_port.specs.Supervised.{SupervisionSettings};
 ghost use Rattle.cmd_serve.specs.Live.{CommandsLive, IsSupervised};
-ghost use Rattle.cmd_serve.specs.Records.{KeepsRecord};
+ghost use Rattle.cmd_serve.specs.SessionRecord.{KeepsRecord};
 ghost use Rattle.cmd_serve.specs.Requests.{AreRequested};
 ghost use Rattle.cmd_serve.specs.Texts.{ArePrinted};
 ghost use Rattle.cmd_serve.specs.Service.{AreTurns, DoneTurn, IsBegun, IsService, turns_in};
