@@ -98,14 +98,17 @@ waits-so rule timing never first h scans past (t ∷ ts) obeys = (
 module _ (f : Form) (both : FilesData) (device : State)
     (loads : LoadsDevice both.bay f both.program device) (recording : Option Recording)
     (ts : List DoneTurn)
-    (are : AreTurns (new_server recording device) ts) (given : AreGiven ts) (file : IsFile f both.program)
+    (are : AreTurns (new_server recording device) ts) (given : AreGiven ts)
+    (file : IsFile f both.program)
     (rule : Rule) where
   plainly-obeys : OfOctets Plainly both.bay f both.program rule
       → TurnsObey rule (new_server recording device) ts
   plainly-obeys own = record {
     scans = λ plain. scans-obey f both device loads recording ts are given file rule plain own;
-    obey = λ never plain. orders-obey f both device loads recording ts are given file rule never own;
-    wait = λ timing never timed. waits-so rule timing never device (new_server recording device) [] [] ts
+    obey = λ never plain. orders-obey f both device loads recording ts are given file rule never
+        own;
+    wait = λ timing never timed. waits-so rule timing never device (new_server recording device) []
+        [] ts
         (orders-obey f both device loads recording ts are given file rule never own);
   }
 
@@ -114,14 +117,16 @@ module _ (f : Form) (both : FilesData) (device : State)
   by-timer-obeys own timed = record {
     scans = λ plain. absurd (timed plain);
     obey = λ never plain. absurd (timed plain);
-    wait = λ timing never time. orders-wait f both device loads recording ts are given file rule timing never
+    wait = λ timing never time. orders-wait f both device loads recording ts are given file rule
+        timing never
         time own;
   }
 
   passed-obeys : (own : Bay) (image : Image) → parsed_bay both.bay ≡ Ok own
       → IsImageOf f both.program own image → rule.switch < length own.switches
       → (answer : RuleAnswer) → is_passed answer ≡ true
-      → IsRightAnswer (program_of own image) rule answer → TurnsObey rule (new_server recording device) ts
+      → IsRightAnswer (program_of own image) rule answer
+      → TurnsObey rule (new_server recording device) ts
   passed-obeys own image read made there (Holds cases) passed right =
       plainly-obeys (record {
         own = own;
@@ -166,7 +171,8 @@ module _ (f : Form) (both : FilesData) (l : LoadData)
         obeyed = λ place rule here.
             let p = passed-at (program_of l.bay l.image) rules judges.answers judges.right
             judges.judged.0 place rule here in
-            passed-obeys f both (device_of l) (l, loads, refl) recording ts are given file rule l.bay l.image
+            passed-obeys f both (device_of l) (l, loads, refl) recording ts are given file rule
+            l.bay l.image
             made.read made.made (rule-there l.bay text rules parses place rule here) p.answer
             p.passed p.right;
       }
@@ -198,7 +204,8 @@ module _ (f : Form) (both : FilesData) (l : LoadData)
         drawn = d;
         parses = parses;
         obeyed = λ k operation there.
-            orders-avoid f both (device_of l) (l, loads, refl) recording ts are given file l.bay l.image
+            orders-avoid f both (device_of l) (l, loads, refl) recording ts are given file l.bay
+            l.image
             made.read made.made (is_hazard_of d.network k operation) k operation there
             (all-harmless (program_of l.bay l.image) d.network (length l.bay.switches)
             judges.releases judges.right judges.judged.0 judges.all k operation there);

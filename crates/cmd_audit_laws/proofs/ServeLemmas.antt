@@ -150,7 +150,8 @@ module _ {L H : Type 0} (acts : H → HostCall L → H → Type 0) where
 module _ (f : Form) (both : FilesData) (device : State)
     (loads : LoadsDevice both.bay f both.program device) (recording : Option Recording)
     (ts : List DoneTurn)
-    (are : AreTurns (new_server recording device) ts) (given : AreGiven ts) (file : IsFile f both.program)
+    (are : AreTurns (new_server recording device) ts) (given : AreGiven ts)
+    (file : IsFile f both.program)
   where
     -- avoids a set in which a release of the program is refused
     pub orders-avoid : (own : Bay) (image : Image) → parsed_bay both.bay ≡ Ok own
