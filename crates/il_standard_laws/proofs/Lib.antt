@@ -4,6 +4,7 @@ pub mod IntegerLemmas
 pub mod LineEndLemmas
 pub mod MeaningLemmas
 pub mod NumberLemmas
+pub mod OldImageLemmas
 pub mod RightTextLemmas
 pub mod TableLemmas
 pub mod TypedTextLemmas

@@ -1,7 +1,7 @@
 -- The octets of version 1 of the format of images are read as the image.
-use Rattle.std.proofs.Common.{◌≡◌, ◌≢◌, ℕ, zero, suc, ◌<◌, ◌≤◌, ◌^◌, ℤ, pos, negsuc, FitsSigned, Bool, true, false, cond, eqb, ltb, List, [], ◌∷◌, ◌++◌, length, take, drop, Option, Some, None, refl, sym, ap, ◌∙◌, arith}
-use Rattle.std.specs.Prelude.{Ok, Err, Result, IsSome}
-use Rattle.std.specs.Int.{w8, w16, w32, cast_signed, cast_unsigned, from_be_bytes, to_be_bytes}
+use Rattle.std.proofs.Common.{◌≡◌, ◌≢◌, ℕ, ◌<◌, ◌≤◌, ◌^◌, ℤ, pos, negsuc, FitsSigned, Bool, true, false, cond, eqb, ltb, List, [], ◌∷◌, ◌++◌, length, None, refl, sym, ap, ◌∙◌, arith}
+use Rattle.std.specs.Prelude.{Ok}
+use Rattle.std.specs.Int.{w8, w16, w32, cast_signed, cast_unsigned, to_be_bytes}
 use Rattle.std.specs.List.{flat_map, list_all}
 use Rattle.std.proofs.lemmas.Bool.{ne_eqb, le-ltb, eq-eqb}
 use Rattle.std.proofs.lemmas.Int.{to_z-of_z, to_z_pos}
@@ -11,14 +11,14 @@ use Rattle.std.proofs.Math.Seq.{take-append_seam, drop-append_seam, take-length}
 use Rattle.bay_base.specs.declared.types.ElementaryType.{ElementaryType}
 use Rattle.bay_base.specs.declared.types.ElementaryType.TheVariants as elementary
 use Rattle.bay_base.specs.declared.types.TimerKind.{TimerKind}
-use Rattle.bay_base.specs.declared.types.TimerKind.TheVariants.{OnDelay, OffDelay}
+use Rattle.bay_base.specs.declared.types.TimerKind.TheVariants.{OnDelay}
 use Rattle.il_image.specs.Decoding.{code_at, code_fault, counted_at, decoded_image, items_at, name_at, name_of_length, point_at, timer_at, type_at, variable_at}
-use Rattle.il_image.specs.Images.{Each, HasName, Image, IsName, IsValue, is_name_octet}
+use Rattle.il_image.specs.Images.{Each, HasName, IsName, IsValue, is_name_octet}
 use Rattle.il_image.specs.Octets.{bits_of_size, size_of}
 use Rattle.il_image.specs.Opcodes.{opcode_of}
-use Rattle.il_image.specs.Reading.{Read, instr_from, number_at, signed_at, value_at}
+use Rattle.il_image.specs.Reading.{Read, instr_from, signed_at}
 use Rattle.il_image.specs.Spelling.{IsInstr}
-use Rattle.il_image.specs.Values.{number_of, type_of, value_of}
+use Rattle.il_image.specs.Values.{number_of, type_of}
 use Rattle.il_image.specs.declared.arithmetic.ArithmeticOperation.TheVariants.{Add, Sub, Mul, Div, Mod}
 use Rattle.il_image.specs.declared.arithmetic.Comparison.TheVariants.{Gt, Ge, Eq, Ne, Le, Lt}
 use Rattle.il_image.specs.declared.arithmetic.Width.TheVariants as width
@@ -37,7 +37,7 @@ use Rattle.il_image.specs.declared.write.Size.TheVariants as size
 use Rattle.il_image.proofs.CodeLemmas.{fault-step}
 use Rattle.il_image.proofs.ReadLemmas.{back-number}
 use Rattle.il_image.proofs.ValueLemmas.{value-back, value_is}
-use Rattle.il_standard_laws.specs.VersionOne.{HasNoLint, IsOfVersionOne, VersionOneIsRead, four_octets, image_of_one, instr_of_one, point_of_one, two_octets, type_number, variable_of_one}
+use Rattle.il_standard_laws.specs.VersionOne.{HasNoLint, VersionOneIsRead, four_octets, instr_of_one, point_of_one, two_octets, type_number, variable_of_one}
 
 -- ---- numbers
 

@@ -7,7 +7,8 @@ use Rattle.bay_base.specs.declared.types.ElementaryType.{ElementaryType}
 use Rattle.bay_base.specs.declared.types.ElementaryType.TheVariants.{Bool, Int, Dint, Lint, Time}
 use Rattle.bay_base.specs.declared.types.TimerKind.TheVariants.{OnDelay}
 use Rattle.il_image.specs.Decoding.{decoded_image}
-use Rattle.il_image.specs.Images.{Each, HasName, Image, IsValue}
+use Rattle.il_image.specs.Images.{Each, HasName, Image, IsValue, all_spelled}
+use Rattle.il_image.specs.Octets.{AreOctets}
 use Rattle.il_image.specs.Spelling.{IsInstr}
 use Rattle.il_image.specs.Values.{number_of, type_of}
 use Rattle.il_image.specs.declared.arithmetic.ArithmeticOperation.{ArithmeticOperation}
@@ -151,3 +152,26 @@ abbrev pub VersionOneIsRead : Type 0
 VersionOneIsRead =
     (i : Image) (code : List Instr) → IsOfVersionOne i code
     → decoded_image (image_of_one i) ≡ Ok i
+
+-- ---- what is never read of version 1
+
+-- The code consists of instructions without LINT.
+pub record IsCodeWithoutLint (code : List ℕ) : Type 0 where
+  pub instrs : List Instr
+  pub are : Each IsInstr instrs
+  pub short : Each HasNoLint instrs
+  pub spelled : code ≡ all_spelled instrs
+
+-- The image has no LINT, and no timer but TON.
+pub record HasNothingNewer (i : Image) : Type 0 where
+  pub types : Each (λ (p : ImagePoint). p.elementary ≢ Lint) i.points
+  pub kinds : Each (λ (v : Value). type_of v ≢ Lint) i.variables
+  pub delays : Each (λ k. k ≡ OnDelay) i.timers
+  pub code : IsCodeWithoutLint i.code
+
+-- What octets of version 1 are read as has no LINT, and no timer but TON.
+abbrev pub VersionOneHasNothingNewer : Type 0
+VersionOneHasNothingNewer =
+    (rest : List ℕ) (i : Image) → AreOctets rest
+    → decoded_image (0x49 ∷ 0x4C ∷ 0x42 ∷ 0x43 ∷ 0x01 ∷ rest) ≡ Ok i
+    → HasNothingNewer i

@@ -32,7 +32,7 @@ ghost use Rattle.il_standard_laws.specs.RightText.{IsRightText};
 ghost use Rattle.il_standard_laws.specs.LineEnds.{CommentsMayHaveCrLf, FilesMayHaveCrLf};
 ghost use Rattle.il_check.specs.Operators.{result_type};
 ghost use Rattle.il_standard_laws.specs.TypedText.{HasTypes};
-ghost use Rattle.il_standard_laws.specs.VersionOne.{VersionOneIsRead};
+ghost use Rattle.il_standard_laws.specs.VersionOne.{VersionOneHasNothingNewer, VersionOneIsRead};
 
 /// A program reads and writes by name. Take a memory in which each external, variable and timer has
 /// the value that a map from names has for its name. What an instruction reads under a name is then
@@ -118,7 +118,9 @@ pub fn line_ends_may_be_cr_lf()
 
 /// An image of version 1 is read as what it represents: its points, its variables with initial
 /// values of 4 octets, its timers, which are all TON and have no octet, and its code. This is true
-/// of each image without LINT and TOF, and the octets are written out by a table of their own.
+/// of each image without LINT and TOF, and the octets are written out by a table of their own. Only
+/// such images are read from octets of version 1.
 pub fn version_1_is_read()
-    ensures { VersionOneIsRead }
+    ensures read { VersionOneIsRead }
+    ensures only { VersionOneHasNothingNewer }
 {}
