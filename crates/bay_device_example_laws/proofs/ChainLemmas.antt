@@ -1,18 +1,18 @@
 -- The chains of two clauses of a run are one.
-use Rattle.std.proofs.Common.{◌≡◌, ◌≢◌, ℕ, zero, suc, ◌<◌, ◌≤◌, cond, ltb, Bool, true, false, List, [], ◌∷◌, ◌++◌, length, map, Option, Some, None, Result, Ok, Err, refl, sym, ap, ◌∙◌, subst, arith, length-append}
-use Rattle.bay_connection.specs.ConnectionStates.{Indication, ConnectionState, Terms, answers, delivers, releases, ends, fails, indications, connection_after, octets_to_send}
+use Rattle.std.proofs.Common.{◌≡◌, ◌≢◌, ℕ, zero, suc, ◌<◌, ◌≤◌, ltb, Bool, true, false, List, [], ◌∷◌, length, map, Option, Some, None, Result, Ok, Err, refl, sym, ap, ◌∙◌, subst, arith, length-append}
+use Rattle.bay_connection.specs.ConnectionStates.{Indication, ConnectionState, answers, delivers, releases, ends, fails, indications, connection_after, octets_to_send}
 use Rattle.bay_mms_services.specs.Answers.{pdu_answer}
 use Rattle.bay_mms_services.proofs.ReleaseLemmas.{answer-sent}
 use Rattle.bay_device.specs.Device.{State, bay_of, device_at, expiry_report}
 use Rattle.bay_device.specs.Receiving.{StepState, ReceiveResult, after_indications, after_pdu, client_at, on_indication, sent_on, with_sent}
-use Rattle.bay_device.specs.Outcomes.{Outcome, closed_by, connection_at, event_outcome, last_moment, octets_outcome, outcome, recv_after, recv_done, recv_outcome, refusal_outcome, slot_of, step_start}
+use Rattle.bay_device.specs.Outcomes.{Outcome, closed_by, connection_at, event_outcome, last_moment, outcome, recv_after, recv_done, recv_outcome, slot_of, step_start}
 use Rattle.bay_device.specs.Steps.{EachStep, Steps}
 use Rattle.bay_device.specs.declared.event.Event.{Event}
 use Rattle.bay_device.specs.declared.event.Event.TheVariants.{Open, Recv, Close, Contact, Input, Measure, BadMeasure, Lost, Scan}
 use Rattle.bay_device.specs.declared.event.Sent.{Sent}
 use Rattle.bay_device.specs.declared.event.Step.{Step}
 use Rattle.bay_device.specs.declared.event.Why.{Why}
-use Rattle.bay_device.specs.declared.event.Why.TheVariants.{Ended, Fault, Memory}
+use Rattle.bay_device.specs.declared.event.Why.TheVariants.{Memory}
 use Rattle.bay_device.specs.declared.fault.StepFault.{StepFault}
 
 -- ---- octets

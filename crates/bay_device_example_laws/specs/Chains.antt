@@ -1,4 +1,4 @@
--- The chain of devices that a run leads through, one for each event, and what its clauses say of it.
+-- The chain of devices of a run, one after each event, and what the clauses of the run say of it.
 use Rattle.std.specs.Prelude.{ℕ, ◌≡◌, List, Result}
 use Rattle.il_check.specs.Program.{Checked}
 use Rattle.bay_device.specs.Commands.{CommandsReleased}

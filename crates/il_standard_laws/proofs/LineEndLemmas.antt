@@ -108,7 +108,8 @@ cr-left false (x ∷ y ∷ xs) h =
         ≡ false
     go true f g = cr-more 32 (without_comments true xs) refl f
     go false f g =
-        cr-before x (without_comments false (y ∷ xs)) (unfold without_comments in some-left false y xs) g
+        cr-before x (without_comments false (y ∷ xs))
+        (unfold without_comments in some-left false y xs) g
 
 -- ---- a line end within a comment
 

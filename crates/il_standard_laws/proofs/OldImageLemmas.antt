@@ -183,7 +183,8 @@ code-old octets code fits e =
     sized a.0.0 a.0.1 a.2
   where
     sized : (n : ℕ) (xs : List ℕ) → code_of_length One n xs ≡ Ok code → IsCodeWithoutLint code
-    sized n xs h = go (code_fault One (length (take n xs)) (take n xs)) (eqb (length xs) n) refl refl h
+    sized n xs h =
+        go (code_fault One (length (take n xs)) (take n xs)) (eqb (length xs) n) refl refl h
       where
         go : (f : Option ImageFault) (b : Bool)
             → code_fault One (length (take n xs)) (take n xs) ≡ f → eqb (length xs) n ≡ b

@@ -108,9 +108,10 @@ pub fn a_right_program_has_the_languages_types()
         → HasTypes program c }
 {}
 
-/// Lines may end in CR LF instead of LF. Within a comment, CR LF in place of an LF never changes how
-/// a text is read. A text without CR is read in the same way, as the same program or with the same
-/// fault, if each of its line ends is CR LF, within comments and outside (IEC 61131-3:2003, 2.1.5).
+/// Lines may end in CR LF instead of LF. Within a comment, CR LF in place of an LF never changes
+/// how a text is read. A text without CR is read in the same way, as the same program or with the
+/// same fault, if each of its line ends is CR LF, within comments and outside (IEC 61131-3:2003,
+/// 2.1.5).
 pub fn line_ends_may_be_cr_lf()
     ensures comments { CommentsMayHaveCrLf }
     ensures files { FilesMayHaveCrLf }

@@ -2,8 +2,8 @@
 // with the language's tables.
 //
 // - `laws`: a program reads and writes by name; the checks use the language's tables, operators
-//   mean the arithmetic of the integers, and a valid program has the language's types; lines may end
-//   in CR LF, and version 1 of an image is read.
+//   mean the arithmetic of the integers, and a valid program has the language's types. Lines may
+//   end in CR LF, and images of version 1 are read.
 #![tactic(auto)]
 
 pub mod laws;
