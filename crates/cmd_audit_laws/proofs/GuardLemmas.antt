@@ -51,12 +51,12 @@ use Rattle.cmd_audit_laws.proofs.ServeLemmas.{DiagramHolds, RulesHold, files-is,
 -- ---- the answers to rules, each of which holds
 
 -- a rule has an answer that it holds, and this is right
-record Passed (g : BoundProgram) (rule : Rule) : Type 0 where
+pub record Passed (g : BoundProgram) (rule : Rule) : Type 0 where
   pub answer : RuleAnswer
   pub passed : is_passed answer ≡ true
   pub right : IsRightAnswer g rule answer
 
-passed-at : (g : BoundProgram) (rules : List Rule) (answers : List RuleAnswer)
+pub passed-at : (g : BoundProgram) (rules : List Rule) (answers : List RuleAnswer)
     → AreRightAnswers g rules answers → list_all is_passed answers ≡ true
     → (place : ℕ) (rule : Rule) → slice_get rules place ≡ Some rule → Passed g rule
 passed-at g [] answers right all place rule here = absurd cc
@@ -219,7 +219,7 @@ module _ (f : Form) (both : FilesData) (l : LoadData)
 -- ---- the turns of a service
 
 -- a file that was named was read
-read-text : {F : Type 0} (reads : FileReads F) (files : F) (named : Option (List ℕ)) (name : List ℕ)
+pub read-text : {F : Type 0} (reads : FileReads F) (files : F) (named : Option (List ℕ)) (name : List ℕ)
     → named ≡ Some name → (octets : Option (List ℕ)) → ReadsOptional reads files named (Ok octets)
     → (text : List ℕ) × ReadsFile reads files name (Ok text) × (octets ≡ Some text)
 read-text reads files named name is octets read =

@@ -8,9 +8,11 @@ pub mod ObeyLemmas
 pub mod OptionLemmas
 pub mod OrderLemmas
 pub mod ReleaseLemmas
+pub mod ReleaseWaitLemmas
 pub mod ReplayLemmas
 pub mod RestLemmas
 pub mod RuleLemmas
+pub mod ScanWaitLemmas
 pub mod ServeLemmas
 pub mod SoundLemmas
 pub mod TypeLemmas

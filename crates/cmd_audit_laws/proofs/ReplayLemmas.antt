@@ -44,7 +44,7 @@ use Rattle.cmd_audit_laws.proofs.ObeyLemmas.{AreTypedPast, Good, good-first, pas
 use Rattle.cmd_audit_laws.proofs.TypeLemmas.{LineFits, line-fits, placed-fits}
 use Rattle.cmd_audit_laws.proofs.WaitLemmas.{Ready, past-waits, ready-first}
 
-lines-typed : (first : State) (past : List PastEvent) (lines : List (List ℕ))
+pub lines-typed : (first : State) (past : List PastEvent) (lines : List (List ℕ))
     → AreLineEvents first past lines
     → EachPast (λ now event old answer new. IsOfType event) first past
 lines-typed first [] lines are = tt

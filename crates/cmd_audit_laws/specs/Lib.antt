@@ -6,12 +6,14 @@
 -- with a diagram is a hazard in it; `Replayed`: the events of each replay obey an audit. `Audited`:
 -- how an audit answers a rule and judges a release; `PrintedHolds`: the line of an audit for a rule
 -- that holds.
--- `Waits`: what a rule with a time implies. `Orders`: small runs that `IsReleasedBy`, `IsHeard`,
--- `IsOrdered` and what obeys a rule distinguish.
+-- `Waits`: what a rule with a time implies for commands; `ScanWaits`: what it implies for scans.
+-- `Orders`: small runs that
+-- `IsReleasedBy`, `IsHeard`, `IsOrdered` and what obeys a rule distinguish.
 pub mod Audited
 pub mod Guarded
 pub mod Orders
 pub mod Replayed
 pub mod Served
 pub mod PrintedHolds
+pub mod ScanWaits
 pub mod Waits

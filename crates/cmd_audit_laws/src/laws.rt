@@ -17,6 +17,7 @@ ghost use Rattle.cmd_replay.specs.History.{EachPast};
 ghost use Rattle.cmd_audit_laws.specs.Replayed.{ReplayedCommandsObey};
 ghost use Rattle.cmd_audit_laws.specs.Served.{ServedCommandsObey};
 ghost use Rattle.cmd_audit_laws.specs.PrintedHolds.{HoldsAreAudited};
+ghost use Rattle.cmd_audit_laws.specs.ScanWaits.{GuardedScansWait, ReplayedScansWait, ServedScansWait};
 ghost use Rattle.bay_server_turn.specs.Calls.{CountedCall};
 ghost use Rattle.bay_server_turn.specs.Turns.{ServerData};
 ghost use Rattle.bay_server_turn.specs.declared.turn_report.Turn.{Turn};
@@ -91,6 +92,31 @@ pub fn guarded_commands_obey<F: FileSystem, L: Link, H: Host<L>, W: Sink>(
 /// what the process had last reported; and so for each line that names the switch.
 pub fn replayed_commands_obey()
     ensures { ReplayedCommandsObey }
+{}
+
+/// Each scan waits for a rule with `until`, that a switch is never released in a direction until a
+/// condition has held for a time. An accepted scan that leaves the switch released so, in a state
+/// that the rule covers, comes only after the condition was TRUE at this scan, and at each scan
+/// before it back to one at least the time ago: for what the process had reported by then.
+///
+/// This holds of each service and of each replay, if an audit of the same bay file and program
+/// answers `holds` for the rule; and of each service that was started with the rule in its file,
+/// with no premise on an audit.
+///
+/// An image may come from anyone: it must only be a list of octets. The text of a program may be
+/// any.
+pub fn each_release_waits<F: FileSystem, L: Link, H: Host<L>, W: Sink>(
+    _files: &F,
+    _link: &L,
+    _host: &H,
+    _sink: &W,
+)
+    ensures served { ServedScansWait (CountedCall L.does L.failures) H.does W.contents W.does
+        F.reads
+        F.guards }
+    ensures guarded { GuardedScansWait (CountedCall L.does L.failures) H.does W.contents W.does
+        F.reads F.guards }
+    ensures replayed { ReplayedScansWait }
 {}
 
 /// Each line `rule LINE ID OPERATION holds ..` of the text of an audit, with a diagram or without,

@@ -1,4 +1,4 @@
-// Laws of audited rules: the commands of a service and of a replay obey them.
+// Laws of audited rules: the commands and scans of a service and of a replay obey them.
 //
 // - `laws`: the laws.
 #![tactic(auto)]
