@@ -4,9 +4,12 @@ pub mod GuardLemmas
 pub mod HarmlessLemmas
 pub mod HoldLemmas
 pub mod IdLemmas
+pub mod NamesKeptLemmas
 pub mod ObeyLemmas
 pub mod OptionLemmas
 pub mod OrderLemmas
+pub mod PortTurnLemmas
+pub mod PortUseLemmas
 pub mod ReleaseLemmas
 pub mod ReleaseWaitLemmas
 pub mod ReplayLemmas

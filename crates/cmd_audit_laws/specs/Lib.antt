@@ -7,13 +7,14 @@
 -- how an audit answers a rule and judges a release; `PrintedHolds`: the line of an audit for a rule
 -- that holds.
 -- `Waits`: what a rule with a time implies for commands; `ScanWaits`: what it implies for scans.
--- `Orders`: small runs that
+-- `PortUses`: the turns of a service are uses of the port of its process. `Orders`: small runs that
 -- `IsReleasedBy`, `IsHeard`, `IsOrdered` and what obeys a rule distinguish.
 pub mod Audited
 pub mod Guarded
 pub mod Orders
 pub mod Replayed
 pub mod Served
+pub mod PortUses
 pub mod PrintedHolds
 pub mod ScanWaits
 pub mod Waits

@@ -1,6 +1,6 @@
 // Laws of audited rules and diagrams, and of small runs of commands. Each function does nothing,
 // and its contract is the law.
-ghost use Rattle.std.specs.Prelude.{◌≡◌, ◌+◌, ℕ, true, false, List, [], ◌∷◌, None};
+ghost use Rattle.std.specs.Prelude.{◌≡◌, ◌+◌, ℕ, true, false, List, [], ◌∷◌, None, Result};
 ghost use Rattle.std.specs.List.{Contains};
 ghost use Rattle.bay_audit_laws.specs.Examples.{at_all_times};
 ghost use Rattle.bay_audit_laws.specs.Laws.{HasWaited, IsAllowed, ScanObeysAt};
@@ -16,13 +16,19 @@ ghost use Rattle.cmd_audit_laws.specs.Orders.{five_milliseconds, octets_arrived,
 ghost use Rattle.cmd_replay.specs.History.{EachPast};
 ghost use Rattle.cmd_audit_laws.specs.Replayed.{ReplayedCommandsObey};
 ghost use Rattle.cmd_audit_laws.specs.Served.{ServedCommandsObey};
+ghost use Rattle.cmd_audit_laws.specs.PortUses.{TurnsUsePort};
 ghost use Rattle.cmd_audit_laws.specs.PrintedHolds.{HoldsAreAudited};
 ghost use Rattle.cmd_audit_laws.specs.ScanWaits.{GuardedScansWait, ReplayedScansWait, ServedScansWait};
 ghost use Rattle.bay_server_turn.specs.Calls.{CountedCall};
 ghost use Rattle.bay_server_turn.specs.Turns.{ServerData};
 ghost use Rattle.bay_server_turn.specs.declared.turn_report.Turn.{Turn};
+ghost use Rattle.bay_server.specs.ServeReport.{ServesTurns, ServiceState};
+ghost use Rattle.bay_io.specs.Watched.{WriterState};
+ghost use Rattle.bay_io.specs.declared.outbox.WriteFault.{WriteFault};
+ghost use Rattle.bay_process_port.specs.Supervised.{SupervisionSettings};
+ghost use Rattle.cmd_serve.specs.Live.{IsSupervised};
 ghost use Rattle.cmd_serve.specs.Requests.{AreRequested, ReceivesOctets, IsRequested, IsReleasedBy};
-ghost use Rattle.cmd_serve.specs.Service.{DoneTurn, IsTurn};
+ghost use Rattle.cmd_serve.specs.Service.{DoneTurn, IsBegun, IsTurn};
 
 use bay_files::files::FileSystem;
 use bay_io::calls::Sink;
@@ -117,6 +123,35 @@ pub fn each_release_waits<F: FileSystem, L: Link, H: Host<L>, W: Sink>(
     ensures guarded { GuardedScansWait (CountedCall L.does L.failures) H.does W.contents W.does
         F.reads F.guards }
     ensures replayed { ReplayedScansWait }
+{}
+
+/// A supervised process of a service is that of its bay. If no line of a trace comes before it,
+/// each turn that is given an event of the process, and each turn that reports a command, finds a
+/// process whose connection's first line has the domain and the revision of the served device, and
+/// the key.
+///
+/// That is so since the turns use the port of the process as the laws of the port require. If a
+/// process is connected, the port that a turn finds is that after the uses since the process was
+/// last absent: they begin with an empty port, and a process is connected after each of them. Each
+/// turn whose lines could be printed adds two uses, of which the link made the calls. It takes what
+/// the port has, at its moment and with the jump of the clocks; then, with its report and the
+/// device after it, the process is attended to. No turn changes the domain or the revision of the
+/// device.
+pub fn a_process_of_a_service_is_of_its_bay<L: Link, H: Host<L>, W: Sink>(
+    _link: &L,
+    _host: &H,
+    _sink: &W,
+)
+    ensures { (settings : SupervisionSettings) (turns : ℕ) (before : ServiceState L H)
+        (old : WriterState W)
+        (host : H)
+        (new : WriterState W) (answer : Result ℕ WriteFault)
+        (serves : ServesTurns (CountedCall L.does L.failures) H.does W.contents W.does turns before
+        old
+        host new answer) → IsBegun before.held → (supervised : IsSupervised settings before)
+        → TurnsUsePort (CountedCall L.does L.failures) H.does W.contents W.does supervised.sends
+        settings before.held.device.domain before.held.device.revision [] turns before old host new
+        answer serves }
 {}
 
 /// Each line `rule LINE ID OPERATION holds ..` of the text of an audit, with a diagram or without,
