@@ -113,13 +113,13 @@ class Kept(Tools):
         read_table.cache_clear()
         self.addCleanup(read_table.cache_clear)
 
-    def try_crates(self, script: str, *crates: str) -> tuple[int, str]:
+    def try_crates(self, script: str, *crates: str, jobs: int = 1) -> tuple[int, str]:
         """The exit status and the last line, with this script in the place of `rt`."""
         pathlib.Path(self.file('rt', f'#!/bin/sh\n{script}\n')).chmod(0o755)
         printed = io.StringIO()
         with contextlib.redirect_stdout(printed):
             wrong_bodies = load_command('wrong_bodies')
-            status = wrong_bodies.try_edits('must-fail', list(crates), self.folder, False)
+            status = wrong_bodies.try_edits('must-fail', list(crates), self.folder, False, jobs)
         return status, printed.getvalue().splitlines()[-1]
 
     def test_crate_after_crate(self) -> None:
@@ -133,6 +133,13 @@ class Kept(Tools):
         self.assertEqual(set(json.loads((self.folder / 'before').read_text())), {first.key})
         self.assertEqual({name: it.goal for name, it in read_table().items()},
                          {first.key: 'one', second.key: 'two'})
+
+    def test_two_crates_at_a_time(self) -> None:
+        """Each waits until the other has begun."""
+        script = ('touch $2; other=bay_control; [ $2 = bay_control ] && other=bay_device\n'
+                  'for n in 1 2 3 4 5 6 7 8 9; do [ -e $other ] && exit 0; sleep 1; done; exit 1')
+        self.assertEqual(self.try_crates(script, 'bay_control', 'bay_device', jobs=2),
+                         (0, '0 passed, 0 failed'))
 
     def test_a_status_of_any_crate_counts(self) -> None:
         self.assertEqual(self.try_crates('[ $2 = bay_device ]', 'bay_control', 'bay_device'),
