@@ -9,7 +9,10 @@ from tests.repository.image_rules import fault_number
 
 SOURCE = (TOP / 'crates' / 'bayctl_tests' / 'src' / 'device.rt').read_text(encoding='utf-8')
 IMAGE = re.search(r'const IMAGE: .*?\[\s*"(\w+)",\s*"(\w+)",\s*\];', SOURCE, re.S).groups()
-COUNTED = dict(re.findall(r'"(0[12])",\s*"(0=[\d= ]+)"', SOURCE))
+# The codes with their counts, of each part of the image, by version.
+COUNTED = {f'0{version}': re.findall(r'"([\d= ]+)"', texts) for version, texts in
+           re.findall(r'const VERSION_([12]): \[&str; 5\] = \[(.*?)\];', SOURCE, re.S)}
+PART = int(re.search(r'const PART: usize = (\d+);', SOURCE)[1])
 # The points of the bay of these tests whose names can occur: two positions and two releases of each
 # of its two switches.
 POINTS = {f'{switch}_{name}': ('BOOL', name.startswith('ENA_')) for switch in ('QA1', 'QB1')
@@ -21,12 +24,12 @@ def image(version: str) -> bytes:
     return bytes.fromhex(IMAGE[0] + version + IMAGE[1])
 
 
-def counts(octets: bytes) -> str:
-    """The numbers of the faults of the images with one bit changed, 0 for those that are loaded,
-    with how often each occurs."""
+def counts(octets: bytes, part: range) -> str:
+    """The numbers of the faults of the images in which one octet of a part has another value, 0 for
+    those that are loaded, with how often each occurs."""
     found = collections.Counter(
-        fault_number(octets[:at] + bytes([octet ^ 1 << bit]) + octets[at + 1:], POINTS)
-        for at, octet in enumerate(octets) for bit in range(8))
+        fault_number(octets[:at] + bytes([value]) + octets[at + 1:], POINTS)
+        for at in part for value in range(256) if value != octets[at])
     return ''.join(f'{number}={found[number]} ' for number in sorted(found))
 
 
@@ -39,8 +42,12 @@ class Images(unittest.TestCase):
 
     def test_changed_images(self) -> None:
         for version, counted in COUNTED.items():
-            with self.subTest(version):
-                self.assertEqual(counts(image(version)), counted)
+            octets = image(version)
+            self.assertEqual(len(octets), PART * len(counted))
+            for at, text in enumerate(counted):
+                with self.subTest(version, part=at):
+                    part = range(PART * at, PART * at + PART)
+                    self.assertEqual(counts(octets, part), text)
 
     def test_each_kind_of_fault(self) -> None:
         head = bytes.fromhex('494c424302' '0000' '0000' '0000')

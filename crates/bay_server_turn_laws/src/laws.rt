@@ -135,7 +135,7 @@ pub fn a_turn_records_its_events()
 
 /// In a turn the file takes the lines of all the turn's events, in order, or the turn reports why
 /// the record has ended, and the file took a prefix of them; after that it takes nothing.
-pub fn a_record_is_a_front()
+pub fn a_record_is_a_prefix()
     // A record that has not ended takes all the lines of events and goes on, or takes a prefix of
     // them and ends.
     ensures lines { (now : ℕ) (source : List ℕ) (events : List ChosenEvent) (r : Recording)

@@ -4,15 +4,13 @@ ghost use Rattle.std.specs.Prelude.{◌<◌, length};
 
 use crate::session::{self, CONFIRM, REQUEST, octets_of};
 use bay_base::position::Dbpos;
-use bay_config::bay::Bay;
-use bay_config::read::read_bay;
 use bay_device::device::Device;
 use bay_device::event::Event;
 use bay_device::fault::{LoadFault, StepFault};
 use bay_device::load::{load, load_image};
 use bay_io::outbox::WriteFault;
-use il_image::decode::decode;
-use il_verify::verify::verify;
+use bay_tree::leaf::Leaf;
+use bay_tree::tree::Tree;
 use std::alloc::{AllocError, Global};
 use std::process::Abort;
 use std::test::Fail;
@@ -129,7 +127,31 @@ fn check_run(rt: &impl Abort, alloc: Global, device: &mut Device) -> Result<(), 
     let confirm = octets_of(alloc, &[CONFIRM])?;
     assert!(rt; scanned.scan == Some(6) && sent.octets.as_slice() == confirm.as_slice());
     assert_eq!(rt; device.ena(1), Some((true, true)));
+    check_tree(rt, device.tree());
     Ok(())
+}
+
+// Returns the value of the row with a name; `None` if there is no such row, or it has no value.
+fn value_of<'a>(tree: &'a Tree, name: &str) -> Option<&'a Leaf> {
+    match tree.find(name) {
+        Ok(handle) => tree.get(handle),
+        Err(_) => None,
+    }
+}
+
+// Checks rows after these events: the reported position, one that nobody reported, and what the
+// scan releases.
+fn check_tree(rt: &impl Abort, tree: &Tree) {
+    let open = value_of(tree, "XCBR1$ST$Pos$stVal");
+    assert!(rt; matches!(open, Some(Leaf::Dbpos(Dbpos::Off))));
+    let unknown = value_of(tree, "XSWI1$ST$Pos$stVal");
+    assert!(rt; matches!(unknown, Some(Leaf::Dbpos(Dbpos::Intermediate))));
+    let released = value_of(tree, "CILO2$ST$EnaCls$stVal");
+    assert!(rt; matches!(released, Some(Leaf::Truth(true))));
+    let blocked = value_of(tree, "CILO1$ST$EnaCls$stVal");
+    assert!(rt; matches!(blocked, Some(Leaf::Truth(false))));
+    assert!(rt; value_of(tree, "CILO2$ST$EnaCls").is_none());
+    assert!(rt; value_of(tree, "CILO3$ST$EnaCls$stVal").is_none());
 }
 
 // Shows P-004, P-019, P-025.
@@ -153,65 +175,6 @@ fn a_device_of_an_image(rt: HostRuntime) -> Result<(), Fail> {
     match load_image(rt.alloc(), BAY, first.as_slice()) {
         Ok(device) => assert!(rt; device.image()?.as_slice() == second.as_slice()),
         Err(fault) => return Err(Fail::from(fault)),
-    }
-    Ok(())
-}
-
-// Returns whether an image is loaded, and its scan ends within its budget. Does not try an image
-// that can't be decoded, or is not verified for the points of the bay: `load_image` refuses it.
-fn is_loaded(alloc: Global, bay: &Bay, octets: &[u8]) -> bool {
-    let Ok(image) = decode(alloc, octets) else {
-        return false;
-    };
-    if verify(alloc, image, bay.points.as_slice()).is_err() {
-        return false;
-    }
-    let Ok(mut device) = load_image(alloc, session::BAY, octets) else {
-        return false;
-    };
-    let budget = device.report().budget;
-    match device.step(1000, Event::Scan) {
-        Ok(step) => step.scan.unwrap_or(u32::MAX) <= budget,
-        Err(_) => false,
-    }
-}
-
-// Loads an image with the octet at an index replaced by each other value, and returns how many are
-// loaded.
-fn loaded_of(alloc: Global, bay: &Bay, octets: &mut [u8], at: usize) -> usize
-    requires { at < length octets.old }
-{
-    let was = octets[at];
-    let mut loaded = 0usize;
-    for more in 1..=255u8 {
-        octets[at] = was.wrapping_add(more);
-        loaded = loaded.saturating_add(is_loaded(alloc, bay, octets) as usize);
-    }
-    octets[at] = was;
-    loaded
-}
-
-// Replaces each octet of an image in turn by each other value, and returns how many of these images
-// are loaded.
-fn loaded_in(alloc: Global, bay: &Bay, octets: &mut [u8]) -> usize {
-    let mut loaded = 0usize;
-    for at in 0..octets.len() {
-        loaded = loaded.saturating_add(loaded_of(alloc, bay, octets, at));
-    }
-    loaded
-}
-
-// The images that are still loaded: three with the name of another point, one of the other version,
-// and changes of the code: 14, and in version 2 one more, to a PUSHL. In version 1 also those with
-// 1 to 64 timers, since that version has no octets for each timer.
-// Shows P-018, P-061, P-138.
-#[test]
-fn changed_images(rt: HostRuntime) -> Result<(), Fail> {
-    let bay = read_bay(rt.alloc(), session::BAY)?;
-    for (version, wanted) in [("01", 82), ("02", 19)] {
-        let mut octets = octets_of(rt.alloc(), &[IMAGE[0], version, IMAGE[1]])?;
-        let loaded = loaded_in(rt.alloc(), &bay, octets.as_mut_slice());
-        assert_eq!(rt; loaded, wanted, "version {version}");
     }
     Ok(())
 }
@@ -241,13 +204,13 @@ fn load_code(alloc: Global, octets: &[u8]) -> u8 {
 // The number of images for each code, 0 to 100.
 type Counts = [u32; 101];
 
-// Loads an image with each bit of the octet at an index changed in turn, and counts the codes.
+// Loads an image with the octet at an index replaced by each other value, and counts the codes.
 fn count_at(alloc: Global, octets: &mut [u8], at: usize, counts: &mut Counts)
     requires { at < length octets.old }
 {
     let was = octets[at];
-    for bit in [1, 2, 4, 8, 16, 32, 64, 128] {
-        octets[at] = was ^ bit;
+    for more in 1..=255u8 {
+        octets[at] = was.wrapping_add(more);
         let code = usize::from(load_code(alloc, octets));
         if let Some(count) = counts.get_mut(code) {
             *count = count.saturating_add(1);
@@ -256,11 +219,17 @@ fn count_at(alloc: Global, octets: &mut [u8], at: usize, counts: &mut Counts)
     octets[at] = was;
 }
 
-// Does this with each octet, and returns the codes with their counts.
-fn counts_text(alloc: Global, octets: &mut [u8]) -> Result<String, AllocError> {
+// The octets of a part of the image, which has five: all its changed images take longer than a test
+// may.
+const PART: usize = 13;
+
+// Does this with each octet of a part, and returns the codes with their counts.
+fn counts_text(alloc: Global, octets: &mut [u8], part: usize) -> Result<String, AllocError> {
     let mut counts = [0; 101];
     for at in 0..octets.len() {
-        count_at(alloc, octets, at, &mut counts);
+        if at / PART == part {
+            count_at(alloc, octets, at, &mut counts);
+        }
     }
     let mut text = String::new(alloc);
     for (code, count) in counts.iter().enumerate() {
@@ -271,30 +240,100 @@ fn counts_text(alloc: Global, octets: &mut [u8]) -> Result<String, AllocError> {
     Ok(text)
 }
 
-// The codes of the images of each version that differ in one bit from one that is loaded, as
-// tests/repository/test_images.py counts them by the rules of docs/IMAGE.md.
-const CHANGED: [(&str, &str); 2] = [
-    (
-        "01",
-        "0=15 80=32 81=8 82=258 83=21 90=2 92=1 94=45 95=1 97=1 100=136 ",
-    ),
-    (
-        "02",
-        "0=8 80=32 81=8 82=271 83=21 90=2 92=1 94=45 95=1 97=1 100=130 ",
-    ),
+// The codes of the images of each version in which one octet of a part differs from an image that
+// is loaded, for each part, as tests/repository/test_images.py counts them by the rules of
+// docs/IMAGE.md. Loaded are three with the name of another point, one of the other version, and
+// changes of the code: 14, and in version 2 one more, to a PUSHL. In version 1 also those with 1 to
+// 64 timers, since that version has no octets for each timer.
+const VERSION_1: [&str; 5] = [
+    "0=2 80=1020 81=254 82=1928 100=111 ",
+    "0=1 82=2951 100=363 ",
+    "0=1 82=2951 100=363 ",
+    "0=64 82=2043 83=510 100=698 ",
+    "0=14 82=1682 83=23 90=26 92=4 94=1528 95=20 96=6 97=5 99=5 100=2 ",
 ];
 
-// Each image with one bit changed goes through `load_image`: it is loaded and scanned within its
-// budget, or refused with its fault.
+const VERSION_2: [&str; 5] = [
+    "0=2 80=1020 81=254 82=1927 100=112 ",
+    "0=1 82=2950 100=364 ",
+    "0=1 82=2950 100=364 ",
+    "82=2553 83=510 100=252 ",
+    "0=15 82=1674 83=26 90=26 92=7 94=1528 95=20 96=6 97=5 99=6 100=2 ",
+];
+
+// Checks the codes of a part of an image in a version. Each image goes through `load_image`: it is
+// loaded and scanned within its budget, or refused with its fault.
+fn check_part(
+    rt: &impl Abort,
+    alloc: Global,
+    version: &str,
+    part: usize,
+    wanted: &str,
+) -> Result<(), Fail> {
+    let mut octets = octets_of(alloc, &[IMAGE[0], version, IMAGE[1]])?;
+    let found = counts_text(alloc, octets.as_mut_slice(), part)?;
+    assert_eq!(rt; found.as_str(), wanted);
+    Ok(())
+}
+
 // Shows P-018, P-061, P-138.
 #[test]
-fn images_with_a_changed_bit(rt: HostRuntime) -> Result<(), Fail> {
-    for (version, wanted) in CHANGED {
-        let mut octets = octets_of(rt.alloc(), &[IMAGE[0], version, IMAGE[1]])?;
-        let found = counts_text(rt.alloc(), octets.as_mut_slice())?;
-        assert_eq!(rt; found.as_str(), wanted, "version {version}");
-    }
-    Ok(())
+fn part_0_of_version_1(rt: HostRuntime) -> Result<(), Fail> {
+    check_part(&rt, rt.alloc(), "01", 0, VERSION_1[0])
+}
+
+// Shows P-018, P-061, P-138.
+#[test]
+fn part_1_of_version_1(rt: HostRuntime) -> Result<(), Fail> {
+    check_part(&rt, rt.alloc(), "01", 1, VERSION_1[1])
+}
+
+// Shows P-018, P-061, P-138.
+#[test]
+fn part_2_of_version_1(rt: HostRuntime) -> Result<(), Fail> {
+    check_part(&rt, rt.alloc(), "01", 2, VERSION_1[2])
+}
+
+// Shows P-018, P-061, P-138.
+#[test]
+fn part_3_of_version_1(rt: HostRuntime) -> Result<(), Fail> {
+    check_part(&rt, rt.alloc(), "01", 3, VERSION_1[3])
+}
+
+// Shows P-018, P-061, P-138.
+#[test]
+fn part_4_of_version_1(rt: HostRuntime) -> Result<(), Fail> {
+    check_part(&rt, rt.alloc(), "01", 4, VERSION_1[4])
+}
+
+// Shows P-018, P-061, P-138.
+#[test]
+fn part_0_of_version_2(rt: HostRuntime) -> Result<(), Fail> {
+    check_part(&rt, rt.alloc(), "02", 0, VERSION_2[0])
+}
+
+// Shows P-018, P-061, P-138.
+#[test]
+fn part_1_of_version_2(rt: HostRuntime) -> Result<(), Fail> {
+    check_part(&rt, rt.alloc(), "02", 1, VERSION_2[1])
+}
+
+// Shows P-018, P-061, P-138.
+#[test]
+fn part_2_of_version_2(rt: HostRuntime) -> Result<(), Fail> {
+    check_part(&rt, rt.alloc(), "02", 2, VERSION_2[2])
+}
+
+// Shows P-018, P-061, P-138.
+#[test]
+fn part_3_of_version_2(rt: HostRuntime) -> Result<(), Fail> {
+    check_part(&rt, rt.alloc(), "02", 3, VERSION_2[3])
+}
+
+// Shows P-018, P-061, P-138.
+#[test]
+fn part_4_of_version_2(rt: HostRuntime) -> Result<(), Fail> {
+    check_part(&rt, rt.alloc(), "02", 4, VERSION_2[4])
 }
 
 // Shows P-139.

@@ -1,13 +1,10 @@
 -- The turns of a service use the port of a supervised process, which is of the bay.
-use Rattle.std.proofs.Common.{◌≡◌, ◌≢◌, ◌⊎◌, ◌∙◌, ℕ, zero, suc, Bool, true, false, List, [], ◌∷◌, Option, None, Some, Result, Ok, Err, inl, inr, refl, ap, sym, subst, arith}
-use Rattle.std.specs.List.{Contains}
+use Rattle.std.proofs.Common.{◌≡◌, ◌≢◌, ◌⊎◌, ◌∙◌, ℕ, zero, suc, Bool, true, false, List, [], Option, None, Some, Result, Ok, Err, inl, inr, refl, ap, sym, subst}
 use Rattle.bay_device.specs.Device.{State}
 use Rattle.bay_device.specs.Fresh.{PastEvent}
-use Rattle.bay_device.proofs.SameLemmas.{Parts}
 use Rattle.bay_io.specs.Calls.{WriteCall}
 use Rattle.bay_io.specs.Watched.{WriterState}
 use Rattle.bay_io.specs.declared.outbox.WriteFault.{WriteFault}
-use Rattle.bay_mms_services.specs.declared.answer.Command.{Command}
 use Rattle.bay_process_port.specs.Polling.{Script, poll_outcome}
 use Rattle.bay_process_port.specs.Ports.{PortData, PortReading, empty_port, lost_reading, port_reading, presence_reading}
 use Rattle.bay_process_port.specs.ProcessOutput.{ReportedTurn, reported_turn}
@@ -30,40 +27,16 @@ use Rattle.bay_server.specs.Host.{HostCall}
 use Rattle.bay_server.specs.ServeReport.{AfterTurn, AwaitsNext, ChosenInput, PollsProcess, ProcessData, ServiceState, ServesTurns, TurnServed, chosen_input, choose_input, input_from_port, moment_of, skips_after, skips_reads_of}
 use Rattle.bay_server.specs.declared.clock.Clocks.{Clocks}
 use Rattle.cmd_serve.specs.Live.{HoldsLater, IsSupervised}
-use Rattle.cmd_serve.specs.Requests.{IsRequested}
 use Rattle.cmd_serve.specs.Service.{DoneTurn, IsBegun, IsTurn, server_after, past_after, turn_in}
 use Rattle.cmd_serve.proofs.BeginLemmas.{begun-tidy}
-use Rattle.cmd_serve.proofs.FrontLemmas.{not-told, same-events, turn-ends-lost}
+use Rattle.cmd_serve.proofs.FrontLemmas.{turn-ends-lost}
 use Rattle.cmd_serve.proofs.HistoryLemmas.{Stands, stands-events, stands-first}
+use Rattle.cmd_serve.proofs.LiveLemmas.{Heeds, heeds, some-command}
 use Rattle.cmd_serve.proofs.OrderLemmas.{ordered, stays-tidy}
 use Rattle.cmd_serve.proofs.TurnLemmas.{is-turn, paused-held, turned-to}
 use Rattle.cmd_audit_laws.specs.PortUses.{TurnFinds, TurnUses, TurnsUsePort, uses_after, uses_if, uses_of_turn}
 use Rattle.cmd_audit_laws.proofs.NamesKeptLemmas.{SameNames, names-events}
 use Rattle.cmd_audit_laws.proofs.PortUseLemmas.{Follows, event-here, follows-first, follows-use, named-more, watch-in}
-
--- ---- a turn with a command
-
--- as such a turn begins the process is not lost, and the turn is not told that it is
-record Heeds (h : ServerData) (t : DoneTurn) : Type 0 where
-  heard : h.device.is_lost ≡ false
-  not_told : t.given.is_lost ≡ false
-
-heeds : (first : State) (h : ServerData) (t : DoneTurn) (past : List PastEvent) (command : Command)
-    → IsTurn h t → IsRequested first h t past command → Heeds h t
-heeds first h t past command is o = record {
-  heard =
-      sym (ap (λ (p : Parts). p.lost)
-      (same-events t.now o.heard.front h.device o.heard.first)) ∙ o.allowed.heard;
-  not_told =
-      not-told t.now t.given t.script h o.heard.front o.heard.choice o.heard.association
-      o.heard.octets o.heard.back (few-read t.given _ is.all_read) is.all_offered o.heard.is
-      o.heard.first;
-}
-
-some-command : (commands : List Command) → commands ≢ []
-    → (command : Command) × Contains commands command
-some-command [] some = absurd (some refl)
-some-command (command ∷ more) some = (command, (0, omega arith, refl))
 
 -- ---- what holds between turns
 

@@ -39,11 +39,11 @@ use Rattle.cmd_serve.proofs.TurnLemmas.{is-turn, paused-held, turned-to}
 -- ---- a turn with a command
 
 -- as such a turn begins the process is not lost, and the turn is not told that it is
-record Heeds (h : ServerData) (t : DoneTurn) : Type 0 where
-  heard : h.device.is_lost ≡ false
-  not_told : t.given.is_lost ≡ false
+pub record Heeds (h : ServerData) (t : DoneTurn) : Type 0 where
+  pub heard : h.device.is_lost ≡ false
+  pub not_told : t.given.is_lost ≡ false
 
-heeds : (first : State) (h : ServerData) (t : DoneTurn) (past : List PastEvent) (command : Command)
+pub heeds : (first : State) (h : ServerData) (t : DoneTurn) (past : List PastEvent) (command : Command)
     → IsTurn h t → IsRequested first h t past command → Heeds h t
 heeds first h t past command is o = record {
   heard =
@@ -51,10 +51,11 @@ heeds first h t past command is o = record {
       (same-events t.now o.heard.front h.device o.heard.first)) ∙ o.allowed.heard;
   not_told =
       not-told t.now t.given t.script h o.heard.front o.heard.choice o.heard.association
-      o.heard.octets o.heard.back (few-read t.given _ is.all_read) is.all_offered o.heard.is o.heard.first;
+      o.heard.octets o.heard.back (few-read t.given _ is.all_read) is.all_offered o.heard.is
+      o.heard.first;
 }
 
-some-command : (commands : List Command) → commands ≢ []
+pub some-command : (commands : List Command) → commands ≢ []
     → (command : Command) × Contains commands command
 some-command [] some = absurd (some refl)
 some-command (command ∷ more) some = (command, (0, omega arith, refl))

@@ -1,5 +1,7 @@
 -- What the file of a record takes in all turns is a prefix of the lines of their events.
-use Rattle.std.proofs.Common.{◌≡◌, ◌+◌, ◌⊎◌, ℕ, zero, suc, true, false, List, [], ◌∷◌, ◌++◌, length, Option, Result, Ok, Err, is_some, All, inl, inr, refl, ap, sym, subst, ◌∙◌, append_assoc, append-nil, length-append, arith}
+use Rattle.std.proofs.Common.{◌≡◌, ◌+◌, ◌⊎◌, ℕ, zero, suc, true, false, List, [], ◌∷◌, ◌++◌, length, drop, Option, Result, Ok, Err, is_some, All, inl, inr, refl, ap, sym, subst, ◌∙◌, append_assoc, append-nil, length-append, arith}
+use Rattle.std.proofs.KnownBytes.{starts_with_rest}
+use Rattle.std.proofs.Transfers.{starts_with_of_append}
 use Rattle.std.proofs.lemmas.List.Elements.{All-cons, All-head, All-nil, All-tail}
 use Rattle.bay_io.specs.Calls.{WriteCall}
 use Rattle.bay_io.specs.Watched.{WriterState}
@@ -61,7 +63,7 @@ all-recorded : (ts : List DoneTurn) (h : ServerData) → IsWritten h.recording
     → IsRecordOf (room_left h.recording) h ts
 all-recorded [] h written begun are = record {
   each = tt;
-  prefix = ([], refl);
+  prefix = refl;
   whole = λ endless. refl;
   within = omega arith;
 }
@@ -89,12 +91,13 @@ all-recorded (t ∷ ts) h written begun are =
         length-append t.took (all_taken ts) in
         record {
           each = inl (w.all, w.no_end, more.each);
-          prefix = (
-            more.prefix.0,
-            append_assoc t.took (all_taken ts) more.prefix.0
-                ∙ ap (λ l. t.took ++ l) more.prefix.1
-                ∙ ap (λ l. l ++ all_lines ts next) w.all,
-          );
+          prefix =
+              let rest = drop (length (all_taken ts)) (all_lines ts next) in
+              starts_with_of_append (turn_lines t h ++ all_lines ts next) (t.took ++ all_taken ts)
+              rest
+              (ap (λ l. l ++ all_lines ts next) (sym w.all)
+              ∙ ap (λ l. t.took ++ l) (starts_with_rest (all_lines ts next) (all_taken ts) more.prefix)
+              ∙ sym (append_assoc t.took (all_taken ts) rest));
           whole = λ endless.
               ap (λ l. t.took ++ l) (more.whole (All-tail IsEndless t ts endless))
               ∙ ap (λ l. l ++ all_lines ts next) w.all;
@@ -107,13 +110,13 @@ all-recorded (t ∷ ts) h written begun are =
         let same : length (t.took ++ all_taken ts) ≡ length t.took = ap (λ l. length l) taken in
         let ended : is_some t.end ≡ true = ap (λ (o : Option RecordEnd). is_some o) w.reported in
         record {
-          each = inr ((w.rest, w.is), ended, none);
-          prefix = (
-            w.rest ++ all_lines ts next,
-            ap (λ l. l ++ (w.rest ++ all_lines ts next)) taken
-                ∙ sym (append_assoc t.took w.rest (all_lines ts next))
-                ∙ ap (λ l. l ++ all_lines ts next) w.is,
-          );
+          each = inr (starts_with_of_append (turn_lines t h) t.took w.rest (sym w.is), ended, none);
+          prefix =
+              starts_with_of_append (turn_lines t h ++ all_lines ts next) (t.took ++ all_taken ts)
+              (w.rest ++ all_lines ts next)
+              (ap (λ l. l ++ all_lines ts next) (sym w.is)
+              ∙ append_assoc t.took w.rest (all_lines ts next)
+              ∙ ap (λ l. l ++ (w.rest ++ all_lines ts next)) (sym taken));
           whole = λ endless.
               let none : is_some t.end ≡ false =
               ap (λ (o : Option RecordEnd). is_some o) (All-head IsEndless t ts endless) in

@@ -1,5 +1,6 @@
 -- The record of a session over all its turns: what its file took of what happened.
 use Rattle.std.specs.Prelude.{ℕ, ◌≡◌, ◌≤◌, ◌⊎◌, true, All, List, [], ◌∷◌, ◌++◌, length, None, Some, is_some}
+use Rattle.std.specs.Io.{StartsWith}
 use Rattle.bay_server_turn.specs.Recorded.{new_recording}
 use Rattle.bay_server_turn.specs.Turns.{ServerData}
 use Rattle.bay_server_turn_laws.specs.Events.{turn_events}
@@ -32,10 +33,6 @@ IsEndless t = t.end ≡ None
 abbrev pub IsUnrecorded : DoneTurn → Type 0
 IsUnrecorded t = (t.took ≡ []) × IsEndless t
 
--- octets are a prefix of others
-abbrev pub IsPrefixOf : List ℕ → List ℕ → Type 0
-IsPrefixOf taken all = (rest : List ℕ) × (taken ++ rest ≡ all)
-
 -- Each turn in order is recorded: the file takes the lines of all its events, and no end of the
 -- record is logged; or it takes a prefix of these lines, and an end is logged. After that the file
 -- takes nothing, and no end is logged again.
@@ -43,13 +40,13 @@ abbrev pub AreRecorded : ServerData → List DoneTurn → Type 0
 AreRecorded h [] = Unit {0}
 AreRecorded h (t ∷ ts) =
     ((t.took ≡ turn_lines t h) × IsEndless t × AreRecorded (server_after t h) ts)
-    ⊎ (IsPrefixOf t.took (turn_lines t h) × (is_some t.end ≡ true) × All IsUnrecorded ts)
+    ⊎ (StartsWith (turn_lines t h) t.took × (is_some t.end ≡ true) × All IsUnrecorded ts)
 
 -- Turns are recorded by a record of at most `most` octets: what its file takes in all of them is
 -- a prefix of the lines of all their events, and all of these if no end of the record is logged.
 pub record IsRecordOf (most : ℕ) (h : ServerData) (turns : List DoneTurn) : Type 0 where
   pub each : AreRecorded h turns
-  pub prefix : IsPrefixOf (all_taken turns) (all_lines turns h)
+  pub prefix : StartsWith (all_lines turns h) (all_taken turns)
   pub whole : All IsEndless turns → all_taken turns ≡ all_lines turns h
   pub within : length (all_taken turns) ≤ most
 

@@ -1,5 +1,5 @@
 use Rattle.bay_server_turn_laws.proofs.RecordLemmas.{over-stays, records-turn, takes-lines}
-use Rattle.bay_server_turn_laws.proofs.laws.a_record_is_a_front.Goals as goal
+use Rattle.bay_server_turn_laws.proofs.laws.a_record_is_a_prefix.Goals as goal
 
 pub returns-clause-lines : goal.returns-clause-lines
 returns-clause-lines c = takes-lines
