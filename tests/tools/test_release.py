@@ -153,6 +153,22 @@ class Evidence(Tools):
         self.assertTrue(found.is_good)
         self.assertEqual((found.status, found.passed, found.failed), (0, 7, 0))
 
+    def test_what_measured_a_commit_leaves_it_clean(self):
+        def git(*words):
+            subprocess.run(('git', '-c', 'user.name=n', '-c', 'user.email=e', *words), check=True,
+                           cwd=self.folder, stdout=subprocess.DEVNULL)
+        for name in (*evidence.MEASURED, 'README.md'):
+            (self.folder / name).parent.mkdir(parents=True, exist_ok=True)
+            (self.folder / name).write_text('as it was')
+        git('init', '--quiet')
+        git('add', '.')
+        git('commit', '--quiet', '-m', 'first')
+        for name in evidence.MEASURED:
+            (self.folder / name).write_text('measured')
+        self.assertTrue(evidence.is_clean(self.folder))
+        (self.folder / 'README.md').write_text('changed')
+        self.assertFalse(evidence.is_clean(self.folder))
+
     def test_no_evidence(self):
         for words in ('exit 0', 'echo "7 passed, 1 failed"', 'echo "7 passed, 0 failed"; exit 1'):
             found = evidence.run(['sh', '-c', words], self.folder, self.folder / 'log')

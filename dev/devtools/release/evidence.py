@@ -16,6 +16,9 @@ from devtools.figures.stamps import machine, output_of
 
 PASSED = re.compile(r'^(?:\w+: )?(\d+) passed, (\d+) failed(?:, (\d+) not tried)?$', re.M)
 GATE, BODIES = 'gate.log', 'wrong_bodies.log'
+# What dev/gate_table and dev/wrong_bodies write of the commit that they try.
+MEASURED = ('bench/GATE.md', 'dev/devtools/data/gate_figures.json',
+            'dev/devtools/data/refusals.json')
 # A crate that a gate proved, and one whose proof it took from an earlier run on the machine.
 PROVED, TAKEN = re.compile(r'^rt: (\w+) proved$', re.M), re.compile(r'^rt: (\w+) is kept: ', re.M)
 
@@ -39,9 +42,11 @@ class Run:
         return self.status == 0 and self.passed > 0 and not self.failed
 
 
-def is_clean() -> bool:
-    """Whether no file of the repository differs from its commit."""
-    done = subprocess.run(('git', 'status', '--porcelain'), cwd=TOP, capture_output=True, text=True)
+def is_clean(top: pathlib.Path = TOP) -> bool:
+    """Whether no file of the repository differs from its commit, but for what measured it."""
+    but = (f':!{it}' for it in MEASURED)
+    done = subprocess.run(('git', 'status', '--porcelain', '--', '.', *but), cwd=top,
+                          capture_output=True, text=True)
     return done.returncode == 0 and not done.stdout
 
 
