@@ -43,6 +43,7 @@ pub record Heeds (h : ServerData) (t : DoneTurn) : Type 0 where
   pub heard : h.device.is_lost ≡ false
   pub not_told : t.given.is_lost ≡ false
 
+-- a turn with a command that a client requested is such a turn
 pub heeds : (first : State) (h : ServerData) (t : DoneTurn) (past : List PastEvent) (command : Command)
     → IsTurn h t → IsRequested first h t past command → Heeds h t
 heeds first h t past command is o = record {
