@@ -6,6 +6,7 @@ import json
 import os
 import pathlib
 import unittest
+from collections.abc import Callable
 from unittest import mock
 
 from baytools.common.paths import TOP
@@ -38,34 +39,30 @@ class Copy(Tools):
             path.write_text(name)
         self.room.mkdir()
 
-    def copied_files(self, names: list[str], with_gate: bool) -> set[str]:
-        """What stands in the copy of the crate."""
-        load_command('wrong_bodies').copy_of(self.crates, self.room, names, with_gate, {'rlib'})
-        top = self.room / 'crates' / 'low'
-        return {str(it.relative_to(top)) for it in top.rglob('*') if it.is_file()}
+    def copied_files(self, crate: str, with_gate: bool,
+                     is_wanted: Callable[[str], bool] = lambda name: True) -> set[str]:
+        """What stands in the copy for a crate, of the crate `low`."""
+        tool = load_command('wrong_bodies')
+        (self.crates / crate).mkdir(exist_ok=True)
+        edits = tool.wanted_edits(self.crates, crate, with_gate, is_wanted)
+        with tool.copy_of(self.crates, crate, edits, {'rlib'}) as room:
+            top = room / 'crates' / 'low'
+            return {str(it.relative_to(top)) for it in top.rglob('*') if it.is_file()}
 
     def test_a_wrong_body_stands_where_the_gates_edits_did(self) -> None:
-        self.assertEqual(self.copied_files(['low'], False),
+        self.assertEqual(self.copied_files('low', False),
                          {'src/lib.rt', 'out/rlib/stamp', 'must-fail/b.edit'})
 
     def test_with_those_of_the_gate(self) -> None:
-        self.assertEqual(self.copied_files(['low'], True),
+        self.assertEqual(self.copied_files('low', True),
                          {'src/lib.rt', 'out/rlib/stamp', 'must-fail/a.edit', 'must-fail/b.edit'})
 
-    def test_a_crate_that_is_not_named(self) -> None:
-        self.assertEqual(self.copied_files([], True), {'src/lib.rt', 'out/rlib/stamp'})
+    def test_those_of_another_crate_are_left_out(self) -> None:
+        self.assertEqual(self.copied_files('high', True), {'src/lib.rt', 'out/rlib/stamp'})
 
     def test_those_that_are_wanted(self) -> None:
-        found = load_command('wrong_bodies').copy_of(self.crates, self.room, ['low'], True, set(),
-                                                     lambda name: name == 'low/a')
-        self.assertEqual(found, ['low'])
-        self.assertEqual([it.name for it in (self.room / 'crates').glob('*/must-fail/*')],
-                         ['a.edit'])
-
-    def test_a_crate_without_one_that_is_wanted(self) -> None:
-        found = load_command('wrong_bodies').copy_of(self.crates, self.room, ['low'], True, set(),
-                                                     lambda name: False)
-        self.assertEqual(found, [])
+        self.assertEqual(self.copied_files('low', True, lambda name: name == 'low/a'),
+                         {'src/lib.rt', 'out/rlib/stamp', 'must-fail/a.edit'})
 
     def test_a_twin_stands_where_the_gates_edits_did(self) -> None:
         tool = load_command('wrong_bodies')
@@ -85,8 +82,8 @@ class Copy(Tools):
         self.assertEqual((crate / 'src' / 'lib.rt').read_text(), 'src/lib.rt')
 
     def test_the_sources_stay_as_they_are(self) -> None:
-        self.copied_files(['low'], True)
-        (self.room / 'crates' / 'low' / 'src' / 'lib.rt').write_text('changed')
+        with load_command('wrong_bodies').copy_of(self.crates, 'low', [], {'rlib'}) as room:
+            (room / 'crates' / 'low' / 'src' / 'lib.rt').write_text('changed')
         self.assertEqual((self.crates / 'low' / 'src' / 'lib.rt').read_text(), 'src/lib.rt')
 
 
@@ -119,7 +116,9 @@ class Kept(Tools):
         printed = io.StringIO()
         with contextlib.redirect_stdout(printed):
             wrong_bodies = load_command('wrong_bodies')
-            status = wrong_bodies.try_edits('must-fail', list(crates), self.folder, False, jobs)
+            status = wrong_bodies.try_edits(
+                'must-fail', list(crates), lambda crate: contextlib.nullcontext(self.folder), False,
+                jobs)
         return status, printed.getvalue().splitlines()[-1]
 
     def test_crate_after_crate(self) -> None:
