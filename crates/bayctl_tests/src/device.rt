@@ -2,7 +2,7 @@
 // and the messages of its refusals.
 ghost use Rattle.std.specs.Prelude.{◌<◌, length};
 
-use crate::session::{self, CONFIRM, REQUEST, octets_of};
+use crate::session::{self, CONFIRM, CONNECT, CONNECTED, REQUEST, octets_of};
 use bay_base::position::Dbpos;
 use bay_device::device::Device;
 use bay_device::event::Event;
@@ -164,6 +164,52 @@ fn a_device_of_a_text(rt: HostRuntime) -> Result<(), Fail> {
         }
         Err(fault) => Err(Fail::from(fault)),
     }
+}
+
+// A read that selects the first switch, with its answer, and a read of its stSeld.
+const SELECT: &str =
+    "0300003d02f080010001006130302e020103a029a027020108a422a120a01e301ca01aa1181a04424159311a10435357493124434f24506f732453424f";
+
+const SELECTED: &str =
+    "0300003402f0800100010061273025020103a020a11e020108a419a1178a15424159312f435357493124434f24506f732453424f";
+
+const READ: &str =
+    "0300004002f0800100010061333031020103a02ca02a020102a425a123a021301fa01da11b1a04424159311a13435357493124535424506f7324737453656c64";
+
+const TRUE: &str = "0300002002f0800100010061133011020103a00ca10a020102a405a1038301ff";
+
+// A client reads stSeld of a selected switch as TRUE; the tree itself has FALSE.
+// Shows P-025, P-027.
+#[test]
+fn a_tree_shows_no_selection(rt: HostRuntime) -> Result<(), Fail> {
+    let mut device = match load(rt.alloc(), session::BAY, session::LOGIC) {
+        Ok(device) => device,
+        Err(fault) => return Err(Fail::from(fault)),
+    };
+    device.step(1000, Event::Open { association: 1 })?;
+    for (message, answer) in [
+        (REQUEST, CONFIRM),
+        (CONNECT, CONNECTED),
+        (SELECT, SELECTED),
+        (READ, TRUE),
+    ] {
+        let octets = octets_of(rt.alloc(), &[message])?;
+        let step = device.step(
+            1000,
+            Event::Recv {
+                association: 1,
+                octets: octets.as_slice(),
+            },
+        )?;
+        let [sent] = step.sent.as_slice() else {
+            return Err(Fail::from("each message is answered"));
+        };
+        let wanted = octets_of(rt.alloc(), &[answer])?;
+        assert!(rt; sent.octets.as_slice() == wanted.as_slice());
+    }
+    let selected = value_of(device.tree(), "CSWI1$ST$Pos$stSeld");
+    assert!(rt; matches!(selected, Some(Leaf::Truth(false))));
+    Ok(())
 }
 
 // A device that is loaded from an image in version 1 returns its image in version 2.
