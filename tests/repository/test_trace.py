@@ -1,6 +1,7 @@
 """From a promise to its proof: each row of README, PROVED and SECURITY names calls that are there,
 with clauses whose definitions are found; has a law, an edit and a case, or a reason for none; and
 keeps its id."""
+import dataclasses
 import hashlib
 import html
 import json
@@ -212,6 +213,12 @@ class Promises(unittest.TestCase):
         self.check_reasons(lacking.NO_EDIT,
                            [it for it in promises() if it.id and not refused_of(it)])
 
+    def test_a_changed_definition_stands_in_the_place_of_an_edit(self):
+        """The row has no edit, and one of its laws refuses a change of a definition."""
+        for it in promises():
+            if it.id and lacking.no_edit(it) == lacking.CHANGED:
+                self.assertTrue(changed.refused_by(borne_by(it).laws), place_text(it))
+
     def test_each_edit_breaks_promises_that_there_are(self):
         edits = {it.key for crate in crates() for it in edits_of(crate)}
         self.assertEqual(set(broken()), edits)
@@ -271,6 +278,13 @@ class Changed(Tools):
                          'breaks a law, 1 breaks the code or a lemma, 1 breaks nothing that was '
                          'looked at (a_law).</p>')
         self.assertEqual(changed.tried_text('low.X.g'), '')
+
+    def test_what_a_law_refuses(self):
+        law = next(it for it in all_calls() if it.is_law and it.crate == 'bay_load')
+        named = dataclasses.replace(law, crate='low', name='a_law', owner='')
+        self.assertEqual([name for name, _ in changed.refused_by([named, law])],
+                         ['low.X.f.sign-1'])
+        self.assertIn('broken by a_law', changed.refused_text([named])[0])
 
     def test_what_breaks_no_law(self):
         found = changed.held_by_no_law()

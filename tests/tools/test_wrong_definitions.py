@@ -13,7 +13,8 @@ from devtools.trace.inner import all_below
 from devtools.wrong_definitions.anchors import read_table, keep, merge_tables, row
 from devtools.wrong_definitions.changes import (PRELUDE, Change, Changer, changes_of, lines_of,
                                                 text_of)
-from devtools.wrong_definitions.headline import citing, definitions_of_headline
+from devtools.wrong_definitions.headline import (citing, definitions_changed,
+                                                 definitions_of_headline)
 from devtools.wrong_definitions.laws import Room, answer_of, laws_on
 from devtools.wrong_definitions.trying import (BROKEN, PROVES, UNKNOWN, UNREAD, Answer, answer_in,
                                                title_of)
@@ -301,10 +302,19 @@ class Tool(Tools):
                          (3, f'wrong_definitions: {self.folder}/odd: it is no table of answers\n'))
 
     def test_the_table_is_of_changes_that_are_there(self):
-        there = lines_of(change for it in definitions_of_headline() for change in changes_of(it))
         for table in ('anchors.json', 'laws.json'):
-            self.assertEqual([name for name, it in read_table(DATA / table).items()
+            rows = read_table(DATA / table)
+            there = lines_of(change for it in definitions_changed(rows)
+                             for change in changes_of(it))
+            self.assertEqual([name for name, it in rows.items()
                               if there.get(name) != (it['before'], it['after'])], [])
+
+    def test_another_row(self):
+        found = self.call_tool('wrong_definitions', '--list', '--row', 'P-065', '--crate',
+                               'bay_audit_rules', '--only', 'after_item.sign')
+        self.assertIn('join_top (λ a b. a || b)', found.out)
+        found = self.call_tool('wrong_definitions', '--row', 'P-999')
+        self.assertEqual((found.status, found.error.count('\n')), (2, 1))
 
 
 if __name__ == '__main__':

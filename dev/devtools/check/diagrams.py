@@ -2,6 +2,7 @@
 examples keep them, and whatever mistake of one line breaks a rule by hand breaks one of the
 diagram's too."""
 import re
+import subprocess
 import sys
 from collections.abc import Iterator
 
@@ -19,6 +20,32 @@ BY_HAND, OF_DIAGRAM = 'rules', 'rules_of_diagram'
 JUDGED = 'judged'  # the file of an example with what bayctl prints of its diagram
 TOLD = ('instructions=', 'rule ', 'release ', 'lost ')  # the lines that an example keeps
 PART = re.compile(r'(AND|OR)N? \w+')
+# A text of the diagram of a single busbar and what takes its place, the number and the place of the
+# fault, and what the log says of it.
+FAULTS = (
+    ('[[between]]', '[[between]', '146',
+     'the text is not a TOML document, or is too long: mend it, or shorten it'),
+    ('kind = "cable"', 'kind = "cable"\nlive = 1', '147 node 2',
+     'a section or a key is unknown: leave it out, or write the one that is meant'),
+    ('name = "CABLE"\n', '', '148 node 2', 'a section or a key is missing: add it'),
+    ('kind = "cable"', 'kind = "cabel"', '149 node 2',
+     'a value has a wrong type, or is none of the words of its key: write one of them'),
+    ('name = "N2"', 'name = "n1"', '151 node 3', 'two tables have one name: give each its own'),
+    ('dead = "VT_DEAD"', 'dead = "VT_DED"', '152 node 2',
+     'a name is unknown: write that of a node, or of a switch or an input of the bay file'),
+    ('kind = "junction"', 'kind = "junction"\nsource = true', '153 node 3',
+     'only a busbar, a line, a cable or a transformer may be a source, and only a source may have '
+     'the keys `dead` and `system`: leave the keys out, or change the kind'),
+    ('switch = "QA1"', 'switch = "QA1"\nkind = "breaker"', '154 between 2',
+     'a switch of the bay has the keys `switch` and `nodes`, one of another bay `name`, `kind` and '
+     '`nodes`, and only a breaker of the bay `synchro` and `coupler`: leave the others out'),
+    ('["N1", "N2"]', '["N1", "N1"]', '154 between 2',
+     'a switch leads to two nodes, an earthing switch to a node and to an earth, and no other '
+     'switch to an earth: change its nodes or its kind'),
+    ('[[between]]\nswitch = "QC1"\nnodes = ["N1", "E"]\n', '', '155 switch 4',
+     'a switch of the bay, a switch at a node, or a source is missing: add it'))
+TOO_MANY = 'a section has more than 64 tables: leave out what no switch of the bay can reach'
+LONGEST, MOST = 262_144, 64  # octets of a diagram file; tables of a section
 
 
 def answers_file(name: str) -> str:
@@ -141,6 +168,56 @@ def hazards_are_judged(checks) -> None:
     checks.holds('hazards of planted faults', count >= 20, f'only {count}')
 
 
+def audit_of_diagram(checks, text: str) -> tuple[int, str, str]:
+    """The status, what is printed behind the line of the load, and the log of an audit of the
+    program of a single busbar, by a diagram."""
+    folder, path = DIAGRAMS / 'single', checks.file('diagram.toml', text)
+    done = subprocess.run([checks.bayctl, 'audit', '--log', '--bay', folder / 'bay.toml', '--logic',
+                           folder / 'logic.il', '--diagram', path], capture_output=True, text=True,
+                          timeout=60)
+    return done.returncode, done.stdout.partition('\n')[2], done.stderr
+
+
+# Shows P-151.
+def faults_are_named(checks) -> None:
+    """A fault of a diagram file is printed with its number and its place, and logged with its
+    words."""
+    text = text_of(DIAGRAMS / 'single' / 'diagram.toml')
+    for old, new, told, words in FAULTS:
+        found = audit_of_diagram(checks, text.replace(old, new, 1))
+        line = f'diagram refused {told}'
+        checks.holds(f'{line} is told otherwise',
+                     old in text and found == (1, f'{line}\n', f'bayctl: {line}: {words}\n'),
+                     str(found))
+
+
+# Shows P-151.
+def diagrams_at_the_limits(checks) -> None:
+    """The longest diagram file and one that is longer; as many tables as a section may have, and
+    one more."""
+    text = text_of(DIAGRAMS / 'single' / 'diagram.toml')
+    held = audit_of_diagram(checks, text)
+    full = text + '#' * (LONGEST - len(text.encode()))
+    node, switch = '[[node]]\nname = "M{}"\nkind = "busbar"\n', (
+        '[[between]]\nname = "D{}"\nkind = "disconnector"\nnodes = ["N1", "{}"]\n')
+    nodes, switches = text.count('[[node]]'), text.count('[[between]]')
+    parallel = ''.join(switch.format(at, 'N2') for at in range(MOST - switches))
+    joined = ''.join(node.format(at) for at in range(MOST - nodes)) + ''.join(
+        switch.format(at, f'M{at}') for at in range(MOST - switches))
+    many = (1, 'diagram refused 150\n', f'bayctl: diagram refused 150: {TOO_MANY}\n')
+    for name, more, wanted in (
+            ('the longest diagram file is refused', full, held),
+            ('a longer diagram file is read', f'{full}#', (1, 'diagram refused 146\n',
+             f'bayctl: diagram refused 146: {FAULTS[0][3]}\n')),
+            ('65 switches are read', f'{text}{parallel}{switch.format(MOST, "N2")}', many),
+            ('65 nodes are read', f'{text}{joined}{node.format(MOST)}', many)):
+        found = audit_of_diagram(checks, more)
+        checks.holds(name, found == wanted and held[0] == 0, str(found))
+    for name, more in (('64 switches are refused', parallel), ('64 nodes are refused', joined)):
+        found = audit_of_diagram(checks, text + more)
+        checks.holds(name, found[0] in (0, 4) and 'refused' not in found[1], str(found))
+
+
 def diagram_on_the_panel(checks) -> None:
     """The diagram of a served bay on a panel, with its positions and what is released."""
     bay = DIAGRAMS / 'line' / 'bay.toml'
@@ -163,4 +240,4 @@ def diagram_on_the_panel(checks) -> None:
 
 
 PARTS = (diagrams_are_kept, hands_follow, planted_faults_break, hazards_are_judged,
-         diagram_on_the_panel)
+         faults_are_named, diagrams_at_the_limits, diagram_on_the_panel)

@@ -19,6 +19,8 @@ IDENTIFY = stream.tpkt_frames(stream.data_tsdu(mms.request_octets(1, 0x82)))
 PAGE = stream.tpkt_frames(stream.data_tsdu(mms.names_request(1, 'E05')))
 PAUSE = 0.010  # the longest rest of an idle server, in seconds
 TRIES = 5
+ROOM = 262_144  # octets that wait for a client
+CONFIRMED = 22  # octets of the answer to a transport connection
 BUSY = 0.4  # of a processor: far more than an idle server takes
 
 
@@ -353,6 +355,43 @@ def fill(client, port: int, room: int = 4_096) -> int:
     return count
 
 
+def settled(port: int) -> int:
+    """How many octets of answers the system keeps between a server and its client, once that no
+    longer changes."""
+    found = [-1, under_way(port)]
+    while found[-1] != found[-2]:
+        time.sleep(0.5)
+        found.append(under_way(port))
+    return found[-1]
+
+
+# Shows P-131.
+def full_queues(checks) -> None:
+    """As many octets wait for a client that reads nothing as its queue has room for; with one answer
+    more it is closed. The next client, which has its number, gets its own answers alone."""
+    with Server(checks.bayctl, BAY, LOGIC) as server:
+        client, sizes = server.client(), []
+        for request in (PAGE, IDENTIFY):
+            client.socket.sendall(request)
+            sizes.append(len(client.socket.recv(65_536)))
+        asked = fill(client, server.port) * sizes[0]
+        while (count := (ROOM - asked + settled(server.port)) // sizes[1]) > 0:
+            client.socket.sendall(IDENTIFY * count)
+            asked += count * sizes[1]
+        is_open = ' closed ' not in server.printed()
+        client.socket.sendall(IDENTIFY)
+        is_closed = prints(server, ' closed 1 130\n')
+        checks.holds('a queue has more than its room, or less', is_open and is_closed,
+                     f'{asked} octets of {sizes}: {server.printed()!r}')
+        with connect(server.port) as other:
+            other.sendall(stream.connection_request())
+            octets, more = receive(other, 5), receive(other, 0.5)
+        checks.holds('what waited for a client goes to the next one',
+                     octets[8:10] == b'\0\1' and len(octets) == CONFIRMED and not more,
+                     f'{octets!r}, {more!r}, {server.printed()!r}')
+        client.socket.close()
+
+
 # Shows P-127.
 def unread(checks) -> None:
     """A client asks until the system takes no more answers, and then reads them all."""
@@ -375,6 +414,6 @@ def all_of(checks) -> None:
     silent = threading.Thread(target=checks.run_part, args=(silence,))
     silent.start()
     for part in (clients, closings, reasons, eight, moments, turns, cycles, pieces, wakes, rests,
-                 unread):
+                 full_queues, unread):
         checks.run_part(part)
     silent.join()

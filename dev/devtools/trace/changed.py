@@ -4,10 +4,12 @@ import collections
 import functools
 import html
 import json
+from collections.abc import Iterable
 
 from baytools.common.texts import quantity
 from devtools.paths import DATA
 
+from .calls import Call
 from .definitions import Named
 
 LAWS, CITING = DATA / 'laws.json', DATA / 'anchors.json'
@@ -29,13 +31,32 @@ def outcomes() -> dict[str, dict[str, tuple[str, dict]]]:
     return {name: of for name, of in found.items() if of}
 
 
+def law_of(answer: dict) -> str:
+    """The law that an answer names, or nothing."""
+    return answer['at'].partition('/')[0].partition(' ')[0]
+
+
+def refused_by(laws: Iterable[Call]) -> list[tuple[str, dict]]:
+    """The changes of definitions that one of these laws refuses, with the answers."""
+    named = {(it.crate, it.title) for it in laws}
+    return [(name, answer) for of in outcomes().values() for name, (kind, answer) in of.items()
+            if kind == LAW and (answer['crate'], law_of(answer)) in named]
+
+
+def refused_text(laws: Iterable[Call]) -> list[str]:
+    """The changes that these laws refuse, each with its lines."""
+    return [f'<details><summary>{html.escape(name)} <span class="quiet">(broken by '
+            f'{html.escape(law_of(answer))})</span></summary><pre>- {html.escape(answer["before"])}'
+            f'\n+ {html.escape(answer["after"])}</pre></details>'
+            for name, answer in refused_by(laws)]
+
+
 def tried_text(name: str) -> str:
     """What was tried on a definition, in a sentence, or nothing."""
     of = outcomes().get(name, {})
     if not of:
         return ''
-    laws = dict.fromkeys(answer['at'].partition('/')[0].partition(' ')[0]
-                         for kind, answer in of.values() if kind == LAW)
+    laws = dict.fromkeys(law_of(answer) for kind, answer in of.values() if kind == LAW)
     counts = collections.Counter(kind for kind, _ in of.values())
     parts = [f'{counts[kind]} {"break" if counts[kind] > 1 else "breaks"} {kind}'
              for kind in (LAW, CODE, NOTHING) if counts[kind]]
@@ -58,8 +79,8 @@ def held_by_no_law() -> str:
             if kind != LAW]
     count = sum(len(of) for of in outcomes().values())
     return (f'<h2 id="changed">Definitions that were changed</h2><p>{count} changes of definitions '
-            f'that the headline rests on were tried, one at a time; {count - len(rows)} break a '
-            'law. These break none:</p><table><tr><th>Change</th><th>Lines</th><th>It breaks</th>'
+            f'that the headline or another row rests on were tried, one at a time; '
+            f'{count - len(rows)} break a law. These break none:</p><table><tr><th>Change</th><th>Lines</th><th>It breaks</th>'
             f'</tr>{"".join(rows)}</table>')
 
 

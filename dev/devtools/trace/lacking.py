@@ -52,13 +52,13 @@ NO_LAW = {
     'il_verify verify': OWN_WORDS + 'the image that stands before a lack of memory'}
 
 DEFINITIONS = 'it is about definitions alone: `dev/wrong_definitions` changes these'
+CHANGED = 'it is about definitions alone: the changed definitions stand in the place of wrong bodies'
 NO_EDIT = {
-    'bay_device Device::step: sure': 'no body can choose without octets: the call has no allocator',
-    'bay_device_example_laws a_select_backs_its_own_operate': DEFINITIONS,
-    'bay_audit_rules conditions_have_truths': 'it is about conditions as they are read; the '
-        'edits of reading are at `read_rules`',
+    'bay_device_example_laws a_select_backs_its_own_operate': CHANGED,
+    'bay_audit_rules conditions_have_truths': CHANGED,
     'cmd_audit_laws the_last_scan_releases_a_command': DEFINITIONS,
-    'il_compile programs_have_a_meaning': DEFINITIONS}
+    'il_compile programs_have_a_meaning': CHANGED,
+    'il_image offsets_are_of_instructions': CHANGED}
 
 
 def key_of(borne: Borne) -> str:

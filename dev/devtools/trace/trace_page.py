@@ -68,6 +68,8 @@ stands the prover's answer: "the facts known there allow values at which this go
 most, "gave up" less. "Refused, only .." are the kit's own words for an answer that says little of
 the contract. An answer that ends with <code>..</code> was cut by the kit;
 <code>dev/wrong_bodies --whole</code> asks for the rest.</li>
+<li><b>Changed definitions.</b> Each is a definition that was changed in one place, with which a law
+of this row fails. A row that is about definitions alone has these, and no wrong body.</li>
 <li><b>Cases.</b> They are run in each gate.</li></ul>'''
 
 
@@ -165,6 +167,7 @@ class Sheet:
         borne = self.borne[it]
         laws = [self.contract(law, borne) for law in self.laws[it]]
         edits = [self.edit(edit) for edit in refused_of(it)]
+        changes = changed.refused_text(borne.laws)
         cases = ', '.join(f'{case.name} ({self.source(case.path, case.line)})'
                           for case in shown.cases_of(it))
         return ''.join((
@@ -176,6 +179,7 @@ class Sheet:
             self.part('Laws' if borne.laws else 'Laws about the same definitions', laws,
                       lacking.reason(lacking.NO_LAW, it)),
             self.part('Wrong bodies', edits, lacking.no_edit(it)),
+            self.part('Changed definitions', changes, '') if changes else '',
             self.part('Cases', [f'<p>{cases}</p>'] if cases else [], shown.no_cases(it)),
             '</div>'))
 

@@ -1,6 +1,6 @@
-"""Which definitions the headline reaches, and which crates cite one of them."""
+"""Which definitions the headline or another row reaches, and which crates cite one of them."""
 import functools
-from collections.abc import Iterator
+from collections.abc import Iterable, Iterator
 
 from devtools.paths import CRATES
 from devtools.trace.calls import calls_of, crates
@@ -14,11 +14,24 @@ HEADLINE = ('P-001', 'P-012')
 
 
 @functools.cache
-def definitions_of_headline() -> list[Definition]:
-    """The definitions that the headline's clauses cite, and those that these rest on."""
-    borne = [borne_by(it) for it in promises() if it.id in HEADLINE]
+def definitions_of_rows(ids: tuple[str, ...]) -> list[Definition]:
+    """The definitions that the clauses of these rows cite, and those that these rest on."""
+    borne = [borne_by(it) for it in promises() if it.id in ids]
     found = dict.fromkeys(it for of in borne for it in rests_on(of))
     return [it for it in found if isinstance(it, Definition)]
+
+
+def definitions_of_headline() -> list[Definition]:
+    """The definitions that the headline's clauses cite, and those that these rest on."""
+    return definitions_of_rows(HEADLINE)
+
+
+def definitions_changed(names: Iterable[str]) -> list[Definition]:
+    """The definitions of which these are the names of changes, as far as they are there."""
+    wanted = {it.rpartition('.')[0] for it in names}
+    crates_named = dict.fromkeys(it.partition('.')[0] for it in sorted(wanted))
+    return [it for crate in crates_named for it in definitions_of(crate)
+            if f'{it.crate}.{it.path.stem}.{it.name}' in wanted]
 
 
 @functools.cache
