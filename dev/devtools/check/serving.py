@@ -1,6 +1,7 @@
 """What only a served bay can show: clients that come, go and are silent, moments, and the pace of
 the turns. Each check has the name of the wrong behaviour that it refuses."""
 import contextlib
+import itertools
 import os
 import re
 import socket
@@ -11,7 +12,10 @@ import time
 
 from baytools.common.paths import TOP
 from baytools.wire import mms, stream
+from devtools import preloads
 from devtools.served import PATIENCE, Server, free_port, until, value
+
+from .supervision import STEPPING
 
 SERVED = TOP / 'examples' / '09_served'
 BAY, LOGIC, TRACE = SERVED / 'bay.toml', SERVED / 'logic.il', SERVED / 'trace'
@@ -20,6 +24,12 @@ PAGE = stream.tpkt_frames(stream.data_tsdu(mms.names_request(1, 'E05')))
 PAUSE = 0.010  # the longest rest of an idle server, in seconds
 TRIES = 5
 ROOM = 262_144  # octets that wait for a client
+LATE = '+4294967296'  # seconds after which no moment is one that a time stamp holds
+# The line of a turn, and whether a turn has it.
+GIVEN = (('', True), ('0 contact QA1 1\n', True), ('0 input SPRING 1\n', True),
+         ('0 measure M1 AA 5\n', True), ('0 measure M1 AA bad\n', True), ('0 lost\n', True),
+         ('0 contact NONE 1\n', True), ('0 scan\n', False), ('0 open 1\n', False),
+         ('0 lost now\n', False))
 CONFIRMED = 22  # octets of the answer to a transport connection
 BUSY = 0.4  # of a processor: far more than an idle server takes
 
@@ -392,6 +402,27 @@ def full_queues(checks) -> None:
         client.socket.close()
 
 
+# Shows P-123.
+def right_turns(checks) -> None:
+    """A turn without a line, or with one that the process may send, is done; with another line it is
+    refused for that, also past the last moment, at which every turn is refused."""
+    library, step = preloads.library(checks.folder, STEPPING), checks.file('step', LATE)
+    clocks = [('a turn', None, (0, ''))]
+    if library is None:
+        checks.left_out('neither the kit nor cc is installed', 'turns past the last moment')
+    else:
+        late = {**os.environ, 'LD_PRELOAD': library, 'CLOCK_STEP': str(step)}
+        clocks.append(('a late turn', late, (3, 'fault 114\n')))
+    words = [checks.bayctl, 'serve', '--bay', BAY, '--logic', LOGIC, '--turns', '1', '--trace']
+    for (line, is_right), (name, env, right) in itertools.product(GIVEN, clocks):
+        done = subprocess.run([*words, checks.file('trace', line), '--port', str(free_port())],
+                              env=env, text=True, capture_output=True, timeout=60)
+        printed = re.sub(r'(?m)^(instructions=.*|\d+ refused 113)\n', '', done.stdout)
+        wanted = right if is_right else (3, 'fault 120 line 1\n')
+        checks.holds(f'{name} is done or refused otherwise',
+                     (done.returncode, printed) == wanted, f'{line!r}: {done}')
+
+
 # Shows P-127.
 def unread(checks) -> None:
     """A client asks until the system takes no more answers, and then reads them all."""
@@ -414,6 +445,6 @@ def all_of(checks) -> None:
     silent = threading.Thread(target=checks.run_part, args=(silence,))
     silent.start()
     for part in (clients, closings, reasons, eight, moments, turns, cycles, pieces, wakes, rests,
-                 full_queues, unread):
+                 full_queues, right_turns, unread):
         checks.run_part(part)
     silent.join()
