@@ -377,7 +377,7 @@ def settled(port: int) -> int:
 
 # Shows P-131.
 def full_queues(checks) -> None:
-    """As many octets wait for a client that reads nothing as its queue has room for; with one answer
+    """As many octets wait for a client that reads nothing as its queue has room for; with an answer
     more it is closed. The next client, which has its number, gets its own answers alone."""
     with Server(checks.bayctl, BAY, LOGIC) as server:
         client, sizes = server.client(), []
