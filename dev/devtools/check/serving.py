@@ -404,8 +404,8 @@ def full_queues(checks) -> None:
 
 # Shows P-123.
 def right_turns(checks) -> None:
-    """A turn without a line, or with one that the process may send, is done; with another line it is
-    refused for that, also past the last moment, at which every turn is refused."""
+    """A turn without a line, or with one that the process may send, is done; with another line it
+    is refused for that, also past the last moment, at which every turn is refused."""
     library, step = preloads.library(checks.folder, STEPPING), checks.file('step', LATE)
     clocks = [('a turn', None, (0, ''))]
     if library is None:
