@@ -79,9 +79,9 @@ def held_by_no_law() -> str:
             if kind != LAW]
     count = sum(len(of) for of in outcomes().values())
     return (f'<h2 id="changed">Definitions that were changed</h2><p>{count} changes of definitions '
-            f'that the headline or another row rests on were tried, one at a time; '
-            f'{count - len(rows)} break a law. These break none:</p><table><tr><th>Change</th><th>Lines</th><th>It breaks</th>'
-            f'</tr>{"".join(rows)}</table>')
+            'that the headline or another row rests on were tried, one at a time; '
+            f'{count - len(rows)} break a law. These break none:</p><table><tr><th>Change</th>'
+            f'<th>Lines</th><th>It breaks</th></tr>{"".join(rows)}</table>')
 
 
 def broken_text(kind: str, answer: dict) -> str:
