@@ -52,7 +52,7 @@ NO_LAW = {
     'il_verify verify': OWN_WORDS + 'the image that stands before a lack of memory'}
 
 DEFINITIONS = 'it is about definitions alone: `dev/wrong_definitions` changes these'
-CHANGED = 'it is about definitions alone: those that were changed stand in the place of wrong bodies'
+CHANGED = 'it is about definitions alone: those that were changed stand in place of wrong bodies'
 NO_EDIT = {
     'bay_device_example_laws a_select_backs_its_own_operate': CHANGED,
     'bay_audit_rules conditions_have_truths': CHANGED,
