@@ -11,6 +11,9 @@ from devtools.crate_copy import texts_after_edit
 
 MOST = 12  # edits of one check
 BAD = 'BAD EDIT: '
+CALLED = 'it calls what is not proved'
+# Said of a function that calls one which is not proved, so nothing is said of its own body.
+CALLS = re.compile(r'no proof: it calls ')
 FUNCTION = re.compile(r'^ *(?:pub(?:\([\w: ]+\))? )?(?:const )?(?:unsafe )?fn (\w+)', re.M)
 BLOCK = re.compile(r'^(?:unsafe )?impl(?:<[^\n]*?>)? (?:([^\n]*) for )?(\w+)[^\n]*$|^}', re.M)
 # What a check says of a function, and what it ends with once it has reached the prover.
@@ -125,25 +128,29 @@ def answer_to(it: Tried, printed: str) -> str | None:
     it proves all that the edit changes."""
     said = dict(SAID.findall(printed))
     lines = PLACED.findall(printed)
+    if not it.functions:
+        return None if WHOLE.search(printed) else next(
+            (f'{place}:{line}:{text}' for place, line, text in lines), 'no proof')
+    found = None
     for function in it.functions:
-        own = {name: text for name, text in said.items()
-               if name == function.name or name.endswith(f'::{function.name}')}
-        if own and all(text == 'proved' for text in own.values()):
-            continue
-        goal = next((f'{place}:{line}:{text}' for place, line, text in lines
-                     if function.is_of(place, int(line))), '')
-        return goal or next((text for text in own.values() if text != 'proved'), 'no proof')
-    if it.functions:
-        return None
-    if WHOLE.search(printed):
-        return None
-    return next((f'{place}:{line}:{text}' for place, line, text in lines), 'no proof')
+        own = [text for name, text in said.items()
+               if name == function.name or name.endswith(f'::{function.name}')]
+        if not own or any(text != 'proved' for text in own):
+            goal = next((f'{place}:{line}:{text}' for place, line, text in lines
+                         if function.is_of(place, int(line))), '')
+            goal = goal or next((text for text in own
+                                 if text != 'proved' and not CALLS.match(text)), CALLED)
+            if goal != CALLED:
+                return goal
+            found = CALLED
+    return found
 
 
 def try_group(crate: pathlib.Path, edits: list[Tried],
               check: Callable[[list[str]], str]) -> dict[str, str | None]:
-    """Tries edits together, or each alone, if they don't reach the prover together: by its name,
-    what is said against each, or nothing. What says that an edit is bad begins with BAD."""
+    """Tries edits together: by its name, what is said against each, or nothing. If they don't reach
+    the prover together, each is tried alone, as is one whose function calls another that is
+    refused. What says that an edit is bad begins with BAD."""
     texts = texts_after(crate, edits)
     before = {path: (crate / path).read_text(encoding='utf-8') for path in texts}
     try:
@@ -155,12 +162,16 @@ def try_group(crate: pathlib.Path, edits: list[Tried],
     finally:
         for path, text in before.items():
             (crate / path).write_text(text, encoding='utf-8')
+    told: dict[str, str | None] = {}
     if REACHED.search(printed) or WHOLE.search(printed) or (
             not edits[0].functions and SAID.search(printed)):
-        return {it.name: answer_to(it, printed) for it in edits}
+        told = {it.name: answer_to(it, printed) for it in edits}
     if len(edits) > 1:
-        return {name: told for it in edits
-                for name, told in try_group(crate, [it], check).items()}
+        for it in edits:
+            if told.get(it.name, CALLED) == CALLED:
+                told |= try_group(crate, [it], check)
+    if told:
+        return told
     lines = [it for it in printed.splitlines() if 'error' in it]
     return {edits[0].name: f'{BAD}{lines[0] if lines else printed[-200:]}'}
 
