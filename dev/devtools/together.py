@@ -24,7 +24,8 @@ PLACED = re.compile(r'^(?:note: )?(?:\./)?(\S+?):(\d+):(\d+: .*)$', re.M)
 
 @dataclasses.dataclass(frozen=True)
 class Function:
-    """A function of a file: the end of its name as a check prints it, and its lines."""
+    """A function of a file: the end of its name as a check prints it, if it is known, and its
+    lines."""
     file: str
     name: str
     first: int
@@ -46,7 +47,10 @@ class Tried:
 
 
 def functions_of(file: str, text: str) -> list[Function]:
-    """The functions of a file."""
+    """The functions of a file; the methods of a trait without a name, since the name that a check
+    prints of one is not in the file."""
+    module = '::'.join(it for it in pathlib.Path(file).with_suffix('').parts[1:]
+                       if it not in ('lib', 'main', 'mod'))
     starts = list(FUNCTION.finditer(text))
     ends = [it.start() for it in starts[1:]] + [len(text)]
     found = []
@@ -54,7 +58,7 @@ def functions_of(file: str, text: str) -> list[Function]:
         block = next((found for found in reversed(list(BLOCK.finditer(text, 0, it.start())))), None)
         kind = '' if block is None or block[0] == '}' or it[0][0] != ' ' else block[2]
         is_trait = bool(kind and block and block[1])
-        name = f'{kind}::{it[1]}' if kind and not is_trait else it[1]
+        name = '' if is_trait else '::'.join(part for part in (module, kind, it[1]) if part)
         found.append(Function(file, name, text.count('\n', 0, it.start()) + 1,
                               text.count('\n', 0, end)))
     return found
@@ -85,7 +89,8 @@ def changed_by(crate: pathlib.Path, edit: str) -> tuple[Function, ...]:
             at = whole.find(text)
             line = whole.count('\n', 0, at) + 1
             of = [it for it in functions_of(path, whole) if it.first <= line <= it.last]
-            if at < 0 or not path.startswith('src/') or not of or not is_in_body(whole, of[0], at):
+            if (at < 0 or not path.startswith('src/') or not of or not of[0].name
+                    or not is_in_body(whole, of[0], at)):
                 return ()
             found += [it for it in of if it not in found]
     return tuple(found)
