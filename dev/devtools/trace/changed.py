@@ -13,6 +13,8 @@ from .calls import Call
 from .definitions import Named
 
 LAWS, CITING = DATA / 'laws.json', DATA / 'anchors.json'
+# A change, a program of cases, and a line of its `stdin` that differs if the code is changed alike.
+CASES = DATA / 'changed_cases.txt'
 LAW, CODE, NOTHING = 'a law', 'the code or a lemma', 'nothing that was looked at'
 
 
@@ -74,7 +76,7 @@ def held_by_no_law() -> str:
     """The changes that break no law, with what they break."""
     rows = [f'<tr><td>{html.escape(name)}</td><td><pre>- {html.escape(answer["before"])}\n'
             f'+ {html.escape(answer["after"])}</pre></td><td>'
-            f'{html.escape(broken_text(kind, answer))}</td></tr>'
+            f'{html.escape(broken_text(name, kind, answer))}</td></tr>'
             for of in outcomes().values() for name, (kind, answer) in of.items()
             if kind != LAW]
     count = sum(len(of) for of in outcomes().values())
@@ -84,6 +86,19 @@ def held_by_no_law() -> str:
             f'<th>Lines</th><th>It breaks</th></tr>{"".join(rows)}</table>')
 
 
-def broken_text(kind: str, answer: dict) -> str:
-    """What an answer says that a change breaks."""
-    return f'{answer["crate"]}, {answer["at"]}' if kind == CODE else kind
+@functools.cache
+def cases() -> dict[str, tuple[str, str]]:
+    """By the name of a change, the program of cases and the line that shows it."""
+    lines = CASES.read_text(encoding='utf-8').splitlines()
+    told = (it.split(' ', 2) for it in lines if not it.startswith('#'))
+    return {name: (program, line) for name, program, line in told}
+
+
+def broken_text(name: str, kind: str, answer: dict) -> str:
+    """What an answer says that a change breaks, or a case that shows it."""
+    if kind == CODE:
+        return f'{answer["crate"]}, {answer["at"]}'
+    if name in cases():
+        program, line = cases()[name]
+        return f'no law; if the code is changed alike, a case of {program} differs: {line}'
+    return kind
