@@ -299,7 +299,7 @@ class Changed(Tools):
     def test_each_case_is_there(self):
         laws = json.loads((changed.DATA / 'laws.json').read_text(encoding='utf-8'))
         for name, (program, line) in changed.cases().items():
-            given = (CRATES / program / 'stdin').read_text(encoding='utf-8').splitlines()
+            given = (TOP / 'crates' / program / 'stdin').read_text(encoding='utf-8').splitlines()
             self.assertTrue(any(it.startswith(line) for it in given), line)
             self.assertEqual(laws[name]['verdict'], 'proves', name)
 
