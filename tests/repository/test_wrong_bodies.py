@@ -200,7 +200,8 @@ class Twins(Tools):
             return [it for it in lines if not it.startswith('new:')]
         for twin in CRATES.glob('*/*/*.twin'):
             with self.subTest(twin.relative_to(CRATES)):
-                edit = twin.with_suffix('.edit')
+                edit, = twin.parent.parent.glob(f'*/{twin.stem}.edit')
+                self.assertEqual(twin.parent.name, 'wrong-bodies')
                 self.assertEqual(lines_but_new(twin), lines_but_new(edit))
                 self.assertNotEqual(twin.read_text(), edit.read_text())
                 self.assertNotIn('file: specs', twin.read_text())
