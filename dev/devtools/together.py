@@ -19,6 +19,7 @@ BLOCK = re.compile(r'^(?:unsafe )?impl(?:<[^\n]*?>)? (?:([^\n]*) for )?(\w+)[^\n
 # What a check says of a function, and what it ends with once it has reached the prover.
 SAID = re.compile(r'^fn (\S+): (.*)$', re.M)
 REACHED, WHOLE = re.compile(r'^only=\d+ proved=\d+$', re.M), re.compile(r'^logic=proved ', re.M)
+ERROR = re.compile(r'\berror(?:\[[\w-]+\])?: ')
 PLACED = re.compile(r'^(?:note: )?(?:\./)?(\S+?):(\d+):(\d+: .*)$', re.M)
 
 
@@ -47,8 +48,8 @@ class Tried:
 
 
 def functions_of(file: str, text: str) -> list[Function]:
-    """The functions of a file; the methods of a trait without a name, since the name that a check
-    prints of one is not in the file."""
+    """The functions of a file. A method is named by its type, which may be of another module; the
+    methods of a trait have no name here, since what a check prints of one is not in the file."""
     module = '::'.join(it for it in pathlib.Path(file).with_suffix('').parts[1:]
                        if it not in ('lib', 'main', 'mod'))
     starts = list(FUNCTION.finditer(text))
@@ -58,7 +59,8 @@ def functions_of(file: str, text: str) -> list[Function]:
         block = next((found for found in reversed(list(BLOCK.finditer(text, 0, it.start())))), None)
         kind = '' if block is None or block[0] == '}' or it[0][0] != ' ' else block[2]
         is_trait = bool(kind and block and block[1])
-        name = '' if is_trait else '::'.join(part for part in (module, kind, it[1]) if part)
+        before = kind or module
+        name = '' if is_trait else f'{before}::{it[1]}' if before else it[1]
         found.append(Function(file, name, text.count('\n', 0, it.start()) + 1,
                               text.count('\n', 0, end)))
     return found
@@ -177,7 +179,7 @@ def try_group(crate: pathlib.Path, edits: list[Tried],
                 told |= try_group(crate, [it], check)
     if told:
         return told
-    lines = [it for it in printed.splitlines() if 'error' in it]
+    lines = [it for it in printed.splitlines() if ERROR.search(it)]
     return {edits[0].name: f'{BAD}{lines[0] if lines else printed[-200:]}'}
 
 

@@ -52,11 +52,11 @@ class Together(Tools):
 
     def test_the_functions_of_a_file(self) -> None:
         self.assertEqual([(it.name, it.first) for it in together.functions_of('src/pair.rt', CODE)],
-                         [('pair::one', 2), ('pair::Pair::first', 10), ('pair::Pair::second', 17),
+                         [('pair::one', 2), ('Pair::first', 10), ('Pair::second', 17),
                           ('', 23)])
 
     def test_what_an_edit_changes(self) -> None:
-        for old, names in (('    1', ['pair::one']), ('        self.first', ['pair::Pair::first']),
+        for old, names in (('    1', ['pair::one']), ('        self.first', ['Pair::first']),
                            ('*self = none();', []), ('ensures { result ≡ 1 }', []),
                            ('self.second', []), ('not there', [])):
             with self.subTest(old):
