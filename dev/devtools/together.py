@@ -13,7 +13,7 @@ MOST = 12  # edits of one check
 BAD = 'BAD EDIT: '
 CALLED = 'it calls what is not proved'
 # Said of a function that calls one which is not proved, so nothing is said of its own body.
-CALLS = re.compile(r'no proof: it calls ')
+CALLS = re.compile(r'no proof: it calls |not proved; it calls ')
 FUNCTION = re.compile(r'^ *(?:pub(?:\([\w: ]+\))? )?(?:const )?(?:unsafe )?fn (\w+)', re.M)
 BLOCK = re.compile(r'^(?:unsafe )?impl(?:<[^\n]*?>)? (?:([^\n]*) for )?(\w+)[^\n]*$|^}', re.M)
 # What a check says of a function, and what it ends with once it has reached the prover.

@@ -83,10 +83,11 @@ class Together(Tools):
             'low/a': None, 'low/b': 'src/pair.rt:13:9: it is not proved (`returns`)'})
 
     def test_one_that_calls_a_refused_one_is_tried_alone(self) -> None:
-        calls = 'no proof: it calls `low::pair::Pair::first`, which is not proved'
-        self.assertEqual(self.answers(REFUSED.format(calls, 0),
-                                      'fn low::pair::one: proved\nonly=1 proved=1\n')['low/a'],
-                         None)
+        for before in ('no proof: it calls', 'not proved; it calls'):
+            calls = f'{before} `low::pair::Pair::first`, which is not proved'
+            with self.subTest(before):
+                alone = 'fn low::pair::one: proved\nonly=1 proved=1\n'
+                self.assertIsNone(self.answers(REFUSED.format(calls, 0), alone)['low/a'])
 
     def test_edits_that_do_not_compile_together_are_tried_alone(self) -> None:
         error = 'src/pair.rt:5:5: error: no such thing\n'
