@@ -2,6 +2,7 @@
 the prover says of them."""
 import itertools
 import os
+import threading
 import unittest
 from unittest import mock
 
@@ -17,7 +18,7 @@ from devtools.wrong_definitions.headline import (citing, definitions_changed,
                                                  definitions_of_headline)
 from devtools.wrong_definitions.laws import Room, answer_of, laws_on
 from devtools.wrong_definitions.trying import (BROKEN, PROVES, UNKNOWN, UNREAD, Answer, answer_in,
-                                               title_of)
+                                               answers_of, title_of)
 from devtools.wrong_definitions.written import types_of, without_fact
 from tests.tool import Tools
 
@@ -210,6 +211,21 @@ class Answers(unittest.TestCase):
                                 'rattle: no verdict: steps'))
         self.assertIsNone(self.answer('logic=proved', status=0))
         self.assertEqual(Answer(PROVES, ('a', 'b')).text, 'still proves in a, b')
+
+    def test_several_at_a_time(self):
+        changes = changes_of(only('is_selected_by'))[:4]
+        told = dict(zip(changes, (UNREAD, PROVES, BROKEN, BROKEN)))
+        both = threading.Barrier(2, timeout=60)
+
+        def answer_to(it: Change) -> Answer:
+            both.wait()
+            return Answer(told[it], ())
+        found = {it: answer.verdict for it, answer in answers_of(changes, answer_to, 2, None)}
+        self.assertEqual(found, told)
+        for jobs, most, count in ((1, 0, 0), (1, 1, 2), (1, 2, 3), (3, 3, 4), (1, None, 4)):
+            with self.subTest(jobs=jobs, most=most):
+                tried = answers_of(changes, lambda it: Answer(told[it], ()), jobs, most)
+                self.assertEqual(len(list(tried)), count)
 
 
 class Laws(Tools):

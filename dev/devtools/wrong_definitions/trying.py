@@ -1,9 +1,12 @@
 """Tries a change of a definition by `rt check`, on a copy of the crates, and reads the answer."""
+import concurrent.futures
 import dataclasses
+import itertools
 import pathlib
 import re
 import subprocess
 import tempfile
+from collections.abc import Callable, Iterator
 
 from devtools.crate_copy import KEPT, LIBRARY, copy_of
 from devtools.paths import CRATES
@@ -151,3 +154,22 @@ def try_change(change: Change, others: list[str], seconds: int) -> Answer:
             if found:
                 return found
     return Answer(PROVES, looked)
+
+
+def answers_of(changes: list[Change], answer_to: Callable[[Change], Answer], jobs: int,
+               most: int | None) -> Iterator[tuple[Change, Answer]]:
+    """Tries so many changes at a time: each with what it comes to, as they end. Of changes that can
+    be read it tries no more than the most."""
+    left, count = iter(changes), 0
+    running: dict[concurrent.futures.Future[Answer], Change] = {}
+    with concurrent.futures.ThreadPoolExecutor(jobs) as pool:
+        while True:
+            room = jobs if most is None else min(jobs, most - count)
+            for it in itertools.islice(left, room - len(running)):
+                running[pool.submit(answer_to, it)] = it
+            if not running:
+                return
+            for done in concurrent.futures.wait(running, return_when='FIRST_COMPLETED').done:
+                answer = done.result()
+                count += answer.verdict != UNREAD
+                yield running.pop(done), answer
