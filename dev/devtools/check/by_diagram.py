@@ -30,7 +30,7 @@ EDITS = (
     ('the bay file', BAY, 'name = "VT_DEAD"', 'name = "VT_DED"', 1, r'load refused 70 line \d+\n'))
 
 
-# Shows P-146, P-148, P-157.
+# Shows P-146, P-148, P-154, P-157.
 def holding(checks) -> None:
     """A server of whose releases none is a hazard prints their number and serves; its log has the
     sum of the diagram after those of the other files."""

@@ -1,6 +1,7 @@
 """What only a served bay can show of `serve --rules`: a server whose rules hold serves, and its log
-has the sums of its files; of files that were edited after an audit no port is opened. Each check
-has the name of the wrong behaviour that it refuses."""
+has the sums of its files; it waits as a rule with a time demands; of files that were edited after
+an audit no port is opened. Each check has the name of the wrong behaviour that it refuses."""
+import contextlib
 import hashlib
 import pathlib
 import re
@@ -8,8 +9,11 @@ import socket
 import subprocess
 import time
 
+from baytools.bay.names import Names
 from baytools.common.paths import TOP
-from devtools.served import Server, free_port
+from baytools.wire.client import Client
+from baytools.wire.control import Control
+from devtools.served import Server, free_port, until, value
 
 SERVED = TOP / 'examples' / '09_served'
 BAY, LOGIC, RULES = SERVED / 'bay.toml', SERVED / 'logic.il', SERVED / 'rules'
@@ -28,6 +32,35 @@ EDITS = (
     ('the bay file', BAY, 'name = "SPRING"', 'name = "SPRNG"', 1, 'load refused 70 line 7\n'),
     ('the words of a rule', RULES, 'always QA1 open', 'allways QA1 open', 1,
      LOAD + 'rules refused 141 line 2\n'))
+WAIT = 1_500  # ms for which the condition of a rule must have held
+HELD_BAY = '''[bay]
+domain = "B"
+vendor = "V"
+model = "M"
+revision = "1"
+scan_max_age_ms = 1000
+[[switch]]
+id = "QA1"
+kind = "breaker"
+control = "direct"
+travel_ms = 1
+[[input]]
+name = "ES"
+'''
+HELD_LOGIC = f'''PROGRAM P
+VAR_EXTERNAL
+ES, QA1_ENA_CLS : BOOL;
+END_VAR
+VAR
+t1 : TON;
+END_VAR
+CAL t1(IN := ES, PT := T#{WAIT}ms)
+LD t1.Q
+ST QA1_ENA_CLS
+END_PROGRAM
+'''
+RELEASED = 'CILO1$ST$EnaCls$stVal'
+HELD_RULE = f'never QA1 close until ES for {WAIT}ms\n'
 
 
 def line_of_file(path: pathlib.Path, what: str, more: str = '') -> str:
@@ -122,4 +155,61 @@ def unread(checks) -> None:
         checks.holds(f'{name} are told otherwise', told == wanted, str(told))
 
 
-PARTS = (holding, check_edited_files, unread)
+def releases_by_rule(report: str, record: str) -> tuple[list[bool], list[bool]]:
+    """Of each scan of a record whether QA1 may be closed: as the replay of the record has it, and
+    as the rule and a TON of its time have it. That is so once the input has been TRUE at each scan
+    of that time."""
+    found = [it == '1' for it in re.findall(r'(?m)^\d+ scan .*QA1=\d(\d)', report)]
+    wanted, since, is_true = [], None, False
+    for moment, word, last in re.findall(r'(?m)^(\d+) (input|scan)(?: ES (\d))?$', record):
+        if word == 'input':
+            is_true = last == '1'
+        else:
+            since = (since or int(moment)) if is_true else None
+            wanted.append(since is not None and int(moment) - since >= WAIT)
+    return found, wanted
+
+
+def held_session(server) -> list[bool]:
+    """Whether closes of QA1 are accepted, twice: when the input has just become TRUE, and once the
+    server releases QA1."""
+    server.client().close()
+    client = Client('127.0.0.1', server.port, Names(HELD_BAY), on_report=lambda told: None)
+    found = []
+    with contextlib.closing(client), \
+            socket.create_connection(('127.0.0.1', server.process)) as process:
+        control = Control(client, 'QA1')
+        for _ in range(2):
+            process.sendall(b'0 contact QA1 1\n0 input ES 1\n')
+            until(lambda: value(client, 'XCBR1$ST$Pos$stVal') == '01', 'QA1 is open')
+            found.append(control.operate(True).is_good)
+            until(lambda: value(client, RELEASED), 'QA1 is released')
+            found.append(control.operate(True).is_good)
+            process.sendall(b'0 contact QA1 2\n0 input ES 0\n')
+            until(lambda: not value(client, RELEASED), 'QA1 is released no more')
+    return found
+
+
+# Shows P-147.
+def waiting(checks) -> None:
+    """A switch may not be closed until an input has been TRUE for a time: each scan of a server
+    waits for it, and so does each operate."""
+    bay, logic = checks.file('held.toml', HELD_BAY), checks.file('held.il', HELD_LOGIC)
+    rules, path = checks.file('held.rules', HELD_RULE), checks.folder / 'held'
+    with Server(checks.bayctl, bay, logic, '--rules', rules, '--record', path,
+                with_process=True) as server:
+        accepted = held_session(server)
+        printed = server.printed()
+    record = path.read_text().rpartition('\n')[0] + '\n'
+    scenario = f'{HELD_BAY}%%\n{HELD_LOGIC}%%\n{record}'.encode()
+    report = subprocess.run([checks.bayctl, 'replay'], input=scenario, capture_output=True,
+                            check=False).stdout.decode()
+    found, wanted = releases_by_rule(report, record)
+    checks.holds('a scan does not wait as a rule demands', found == wanted and any(wanted)
+                 and 'rules 1\n' in printed, f'{found}, {wanted}, {printed}')
+    checks.holds('an operate does not wait as a rule demands',
+                 accepted == [False, True] * 2 and printed.count(' command QA1 on') == 2,
+                 f'{accepted}, {printed}')
+
+
+PARTS = (holding, waiting, check_edited_files, unread)

@@ -1,6 +1,7 @@
 """What stands in no contract: the words of the help, word for word, words that are no text, files
 that may not be read or written, and what reaches standard output and standard error. Each check has
 the name of the wrong behaviour that it refuses."""
+import contextlib
 import fcntl
 import os
 import pathlib
@@ -12,6 +13,7 @@ import socket
 import subprocess
 import tempfile
 import time
+from collections.abc import Iterator
 
 from devtools.paths import DATA
 from devtools.served import free_port
@@ -22,6 +24,7 @@ HELP = DATA / 'help.txt'
 NOBODY = 65_534  # the user who is no one, in whose place root runs a program
 OLD = [('out.image', b'old')]
 FULL = pathlib.Path('/dev/full')
+PIPE = 4_096  # octets for which a pipe has room
 NO_TEXT = b'error: a word of the command line is no text\n'
 
 
@@ -158,20 +161,28 @@ def ends(checks) -> None:
                      f'{done.returncode} {done.stderr!r}')
 
 
+@contextlib.contextmanager
+def unread_server(checks, count: int, *more: str) -> Iterator[tuple]:
+    """A server that does so many turns, each of which prints a line, and the end of a pipe for its
+    output, which has room for a part of it: nobody has read anything yet."""
+    words = ['serve', *more, '--turns', str(count), '--port', str(free_port()),
+             '--bay', checks.file('late.toml', bay()), '--logic', checks.file('late.il', LOGIC),
+             '--trace', checks.file('late.trace', '0 contact NONE 1\n' * count)]
+    reader, writer = os.pipe()
+    fcntl.fcntl(writer, fcntl.F_SETPIPE_SZ, PIPE)
+    with (open(reader, 'rb') as output,
+          subprocess.Popen([checks.bayctl, *words], stdout=writer,
+                           stderr=subprocess.PIPE) as server):
+        os.close(writer)
+        yield server, output
+
+
 # Shows P-102.
 def late(checks) -> None:
     """A reader of a server's output reads nothing until a while after the last turn. The pipe has
     room for a part of the output; the rest waits."""
     count = 300
-    words = ['serve', '--log', '--turns', str(count), '--port', str(free_port()),
-             '--bay', checks.file('late.toml', bay()), '--logic', checks.file('late.il', LOGIC),
-             '--trace', checks.file('late.trace', '0 contact NONE 1\n' * count)]
-    reader, writer = os.pipe()
-    fcntl.fcntl(writer, fcntl.F_SETPIPE_SZ, 4_096)
-    with (open(reader, 'rb') as output,
-          subprocess.Popen([checks.bayctl, *words], stdout=writer,
-                           stderr=subprocess.PIPE) as server):
-        os.close(writer)
+    with unread_server(checks, count, '--log') as (server, output):
         log = b''
         while b' all turns are served' not in log and (line := server.stderr.readline()):
             log += line
@@ -182,4 +193,18 @@ def late(checks) -> None:
                  and out.count(b' refused 113\n') == count, f'{server.returncode} {out!r} {log!r}')
 
 
-PARTS = (helps, no_texts, tell_takes_releases, files, closed_files, ends, late)
+# Shows P-102.
+def never(checks) -> None:
+    """A reader of a server's output reads nothing until the server has ended. What the pipe has
+    room for is written; the rest waits for a while, and is then a failed write."""
+    count = 300
+    with unread_server(checks, count) as (server, output):
+        told = server.stderr.read()
+        status, out = server.wait(60), output.read()
+    checks.holds('output that nobody reads counts as written',
+                 (status, told) == (3, b'fault 122\n') and out.count(b'\n') < count
+                 and re.fullmatch(rb'instructions=.*\n(?:\d+ refused 113\n)+[\w ]*', out),
+                 f'{status} {told!r} {out!r}')
+
+
+PARTS = (helps, no_texts, tell_takes_releases, files, closed_files, ends, late, never)

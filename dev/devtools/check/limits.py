@@ -1,6 +1,10 @@
-"""What is asked at the limits of bayctl with ample memory: nothing may answer want of memory. Each
-check has the name of the wrong behaviour that it refuses."""
+"""What is asked at the limits of bayctl with ample memory: nothing may answer want of memory. And
+texts and events of which an octet is another one. Each check has the name of the wrong behaviour
+that it refuses."""
+import concurrent.futures
 import contextlib
+import os
+import re
 import subprocess
 
 from baytools.wire import mms, stream
@@ -13,6 +17,33 @@ FRAME = ('PROGRAM P\nVAR_EXTERNAL\nQA1_OPEN, QA1_ENA_OPN, QA1_ENA_CLS : BOOL;\nE
 LOGIC = FRAME.format('', '')
 ROWS = 2_691  # of the largest bay: 32 enhanced disconnectors and 8 meters
 SCENARIO = 16_777_216  # octets at most
+# A short scenario with each kind of event, and what takes the place of each of its octets: NUL, an
+# octet that no text has, a digit, and a quote. Then what a replay prints, by its status.
+SHORT = b'''bay={domain="B",vendor="V",model="M",revision="1",scan_max_age_ms=1}
+switch=[{id="QA1",kind="breaker",control="sbo",sbo_timeout_ms=5,travel_ms=5}]
+input=[{name="ES"}]
+meter=[{id="M1"}]
+%%
+PROGRAM P
+VAR_EXTERNAL ES, QA1_ENA_CLS : BOOL; END_VAR
+LDN ES
+ST QA1_ENA_CLS
+END_PROGRAM
+%%
+9 open 1
+9 recv 1 03000006
+9 contact QA1 1
+9 input ES 1
+9 measure M1 AA 5
+9 measure M1 AA bad
+9 lost
+9 scan
+9 close 1
+'''
+OTHERS = (b'\0', b'\x80', b'9', b'"')
+LOADED = r'instructions=\d+ depth=\d+ budget=\d+\n(?:\d+ (?:scan|refused|closed|send) .*\n)*'
+PRINTED = {0: LOADED, 1: r'load refused \d+(?: line \d+)?\n',
+           3: rf'(?:{LOADED})?fault 120 line \d+\n'}
 
 
 def bay(switches: int = 1, inputs: int = 0, meters: int = 0, text: str = 'Demo') -> str:
@@ -175,4 +206,23 @@ def texts(checks) -> None:
                  told)
 
 
-PARTS = (names, inputs, messages, controls, programs, images, texts)
+# Shows P-002.
+def other_octets(checks) -> None:
+    """Each octet of a bay file, a program and a trace is replaced by others: each replay ends, with
+    a report of its status."""
+    def ends(at: int, other: bytes) -> str:
+        changed = SHORT[:at] + other + SHORT[at + 1:]
+        done = subprocess.run([checks.bayctl, 'replay'], input=changed, capture_output=True,
+                              timeout=60)
+        form = PRINTED.get(done.returncode)
+        is_right = form and re.fullmatch(form, done.stdout.decode()) and not done.stderr
+        return '' if is_right else f'{at} {other!r}: {done}'
+
+    with concurrent.futures.ThreadPoolExecutor(os.cpu_count()) as pool:
+        told = [pool.submit(ends, at, other) for at in range(len(SHORT)) for other in OTHERS]
+        wrong = [it.result() for it in told if it.result()]
+    checks.holds('a text or an event with another octet ends a replay otherwise', not wrong,
+                 str(wrong[:3]))
+
+
+PARTS = (names, inputs, messages, controls, programs, images, texts, other_octets)

@@ -28,6 +28,10 @@ WATCHED = ('CSWI1$ST$Pos', 'CSWI2$ST$Pos', 'CSWI3$ST$Pos', 'CILO1$ST$EnaOpn', 'C
 OPEN, BAD = '01', '11'
 RELEASED = 'release QA1 open=1 close=1'
 WATCHING, OPERATING = 1, 2  # associations
+# The events of a turn, in their order, by a letter for each line of a record: an association opens;
+# the loss; what each association has sent, or its end; the line of the trace; one scan.
+LETTERS = {'open': 'o', 'lost': 'l', 'recv': 'r', 'close': 'r', 'scan': 's'}
+TURN = 'o?l?r*p?s'
 # Lines of a record, without which the replay must not pass for the session.
 PARTS_OF_RECORD = (
     ('the losses', r'lost'), ('association 1', r'(?:open|recv|close) 1\b.*'),
@@ -171,6 +175,32 @@ def session(checks) -> None:
                      not all(is_so for _, is_so, _ in differences(seen, report)), record)
 
 
+# Shows P-125, P-158.
+def in_order(checks) -> None:
+    """Clients and a process come and go while each turn has a line of a trace: the record has the
+    events of each turn in their order, and one scan."""
+    record = checks.folder / 'ordered'
+    trace = checks.file('ordered.trace', ''.join(f'0 contact QA1 {1 + at % 2}\n'
+                                                 for at in range(2000)))
+    with Server(checks.bayctl, BAY, LOGIC, '--cycle', 10, '--record', record, '--trace', trace,
+                with_process=True) as server:
+        clients = [server.client() for _ in range(3)]
+        for client in clients:
+            value(client, POSITION)
+            client.close()
+        with socket.create_connection(('127.0.0.1', server.process)):
+            server.waits_for(' process open')
+        server.waits_for(' process closed 0')
+        until(lambda: re.search(r'(?m)^\d+ lost$', record.read_text()), 'the loss is recorded')
+    words = re.findall(r'(?m)^\d+ (\w+)', record.read_text())
+    told = ''.join(LETTERS.get(it, 'p') for it in words)
+    turns = told[:told.rindex('s') + 1]
+    checks.holds('the events of a turn have another order',
+                 re.fullmatch(f'(?:{TURN})+', turns) and turns.count('o') == len(clients)
+                 and re.search('or*ps', turns) and re.search('rps', turns)
+                 and re.search('lr*ps', turns), turns)
+
+
 # Shows P-113, P-114.
 def lines(checks) -> None:
     """A process sends lines in pieces, with empty lines and both ends of lines, and goes within a
@@ -244,4 +274,4 @@ exec {checks.bayctl} "$@"
                      server.printed())
 
 
-PARTS = (session, lines, full, check_failing_record)
+PARTS = (session, in_order, lines, full, check_failing_record)

@@ -115,7 +115,6 @@ def check_log(checks) -> None:
         'the process is lost', 'QC1 is bad'], 0)
 
 
-# Shows P-133.
 def another_bay(checks, server) -> None:
     """Nothing is operated with the file of another bay: its first two switches changed places."""
     head, one, two, *rest = re.split(r'(?m)^(?=\[\[)', BAY.read_text())
