@@ -108,6 +108,7 @@ def keyed_bay(checks, *more: str) -> Iterator[Keyed]:
         yield Keyed(server, client)
 
 
+# Shows P-132, P-149.
 def keys(checks) -> None:
     """A key at local and at remote, shared, turned between select and operate, and lost."""
     with keyed_bay(checks, '--log') as it:

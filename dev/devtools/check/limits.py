@@ -130,6 +130,30 @@ def messages(checks) -> None:
                  bool(pdus) and len(pdus[-1].data) == 32, printed)
 
 
+# Shows P-026.
+def long_answers(checks) -> None:
+    """Reads that select: the answer to the first is an octet longer than a PDU may be, that to the
+    second just as long. The octets of results are 23 of SBO, 10 of each t, 3 of each stSeld, and
+    there are 12 before them."""
+    select, stamp, state = (f'BAY1/{it}' for it in (
+        'CSWI1$CO$Pos$SBO', 'XSWI1$ST$Pos$t', 'CSWI1$ST$Pos$stSeld'))
+    long, fitting = ([select, *[stamp] * stamps, *[state] * states]
+                     for stamps, states in ((21, 4), (20, 7)))
+    asked = [mms.read_request(at, names)
+             for at, names in enumerate((long, [state], fitting, [state]), 1)]
+    printed, pdus = replay_requests(checks, bay().replace('sbo-enhanced', 'sbo'), asked, LEAST)
+    found = [(it.kind, it.invoke, it.code) for it in pdus]
+    checks.holds('a read whose answer is too long is answered',
+                 found == [('error', 1, (3, 0)), *[('response', at, ()) for at in (2, 3, 4)]],
+                 printed)
+    no, yes = (mms.Data(mms.BOOLEAN, it) for it in (False, True))
+    checks.holds('a read whose answer is too long selects', [no] in [it.data for it in pdus[1:2]],
+                 printed)
+    granted = [it.data[:1] + it.data[21:] for it in pdus[2:]]
+    checks.holds('an answer as long as a pdu is too long', 'a181fd020103' in printed
+                 and granted == [[mms.Data(mms.TEXT, select), *[yes] * 7], [yes]], printed)
+
+
 # Shows P-096.
 def controls(checks) -> None:
     """A select with value and its operate by the longest originator, with their report."""
@@ -168,7 +192,7 @@ def report_of_compilation(checks, path, logic, out) -> str:
     return subprocess.run(words, capture_output=True, timeout=60).stdout.decode()
 
 
-# Shows P-016, P-017, P-040.
+# Shows P-003, P-016, P-017, P-040.
 def images(checks) -> None:
     """An image of nearly 65,535 octets is written, checked and served; a longer one is refused."""
     path = checks.file('bay.toml', bay())
@@ -191,7 +215,7 @@ def images(checks) -> None:
                  done.stdout.decode() == told and done.returncode == 0, repr(done.stdout))
 
 
-# Shows P-103, P-104.
+# Shows P-100, P-103, P-104.
 def texts(checks) -> None:
     """The longest scenario, one that is longer, and a long line of a trace."""
     begin = f'{bay()}%%\n{LOGIC}%%\n'.encode()
@@ -225,4 +249,4 @@ def other_octets(checks) -> None:
                  str(wrong[:3]))
 
 
-PARTS = (names, inputs, messages, controls, programs, images, texts, other_octets)
+PARTS = (names, inputs, messages, long_answers, controls, programs, images, texts, other_octets)

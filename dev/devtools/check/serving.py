@@ -99,6 +99,7 @@ def processor_seconds(server: Server) -> float:
     return (taken() - before) / os.sysconf('SC_CLK_TCK')
 
 
+# Shows P-129, P-139.
 def silence(checks) -> None:
     """Ten seconds of silence end a connection from its start on, and not behind its first octet."""
     with Server(checks.bayctl, BAY, LOGIC) as server, contextlib.ExitStack() as kept:
@@ -167,7 +168,7 @@ def closings(checks) -> None:
                      sorted(closed) == sorted(numbers), f'{numbers}, {server.printed()!r}')
 
 
-# Shows P-129.
+# Shows P-129, P-139.
 def reasons(checks) -> None:
     """A client that goes is closed with 0; one that stays and sends no TPKT, or a TPDU that is
     malformed, is closed with the number of that fault."""
@@ -375,7 +376,7 @@ def settled(port: int) -> int:
     return found[-1]
 
 
-# Shows P-131.
+# Shows P-131, P-139.
 def full_queues(checks) -> None:
     """As many octets wait for a client that reads nothing as its queue has room for; with an answer
     more it is closed. The next client, which has its number, gets its own answers alone."""

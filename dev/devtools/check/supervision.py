@@ -178,7 +178,7 @@ def cause_of(client, switch: str) -> int | None:
     return None if control.operate(True).is_good else client.cause
 
 
-# Shows P-117, P-133.
+# Shows P-117, P-133, P-139.
 def frozen(checks) -> None:
     """A process freezes just before an operate, for three seconds."""
     with supervised_bay(checks) as (server, client):
@@ -237,7 +237,7 @@ def check_waiting_processes(checks) -> None:
                      and positions(client) == (BAD, BAD), f'{counts(client)} {positions(client)}')
 
 
-# Shows P-117.
+# Shows P-117, P-139.
 def strangers(checks) -> None:
     """Processes of another bay, without a first line, with another key, or a part of it."""
     key = checks.file('key', KEY + '\n')
@@ -264,7 +264,7 @@ def strangers(checks) -> None:
                              becomes(lambda: positions(client)[0] == OPEN), server.printed())
 
 
-# Shows P-117.
+# Shows P-117, P-139.
 def untimely(checks) -> None:
     """Lines whose times are too far away, and one whose is not."""
     with supervised_bay(checks) as (server, client):
@@ -397,6 +397,7 @@ def silent(checks) -> None:
             process.socket.close()
 
 
+# Shows P-115.
 def overdue(checks) -> None:
     """A process that does nothing is told that the time of an operate is over."""
     with supervised_bay(checks) as (server, client), Process(server).lives() as process:
@@ -411,6 +412,7 @@ def overdue(checks) -> None:
                      told[1:] == ['command QB1 on', 'over QB1'], str(told))
 
 
+# Shows P-115.
 def idle(checks) -> None:
     """Six seconds with `alive` alone."""
     with supervised_bay(checks) as (server, client), Process(server).lives() as process:
