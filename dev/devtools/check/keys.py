@@ -142,6 +142,9 @@ def keys(checks) -> None:
         logged = [line for line in it.server.printed().splitlines() if ' refused 2: ' in line]
         checks.holds('the log does not say that a key refused', len(logged) == 6
                      and all(' operate Q' in line for line in logged), it.server.printed())
+        commands = re.findall(r'(?m)^\d+ command (.*)$', it.server.printed())
+        checks.holds('a refused operate is a command', commands == [
+            f'{switch} on' for switch in ('QB2', 'QA1', 'QB1', 'QA1')], it.server.printed())
 
 
 def synchrochecks(checks) -> None:
