@@ -237,7 +237,7 @@ def check_waiting_processes(checks) -> None:
                      and positions(client) == (BAD, BAD), f'{counts(client)} {positions(client)}')
 
 
-# Shows P-117, P-139.
+# Shows P-117, P-133, P-139.
 def strangers(checks) -> None:
     """Processes of another bay, without a first line, with another key, or a part of it."""
     key = checks.file('key', KEY + '\n')
