@@ -60,6 +60,14 @@ fn decode_image(alloc: Global, octets: &[u8]) -> Result<String> {
     }?)
 }
 
+// Returns the image that comes back, in the refusal of the image that octets encode.
+fn returned_image(alloc: Global, octets: &[u8], points: &[Point]) -> Result<String> {
+    match verify(alloc, decode(alloc, octets)?, points) {
+        Ok(_) => bail!("the image is accepted"),
+        Err(refused) => Ok(image_text(alloc, &refused.image)?),
+    }
+}
+
 // Counts the results for octets with the one at an index changed to each other value: an image, or
 // refused with 80, 81, 82 or 83.
 fn count_at(alloc: Global, octets: &mut [u8], at: usize, counts: &mut [u32; 5])
@@ -192,6 +200,7 @@ impl<'a> Programs<'a> {
         let mut octets = octets_of(alloc, words)?;
         match kind {
             "decoded" => decode_image(alloc, octets.as_slice()),
+            "returned" => returned_image(alloc, octets.as_slice(), self.points.as_slice()),
             "changed" => Ok(count_changed(alloc, octets.as_mut_slice())?),
             _ => Ok(self.verdict(decode(alloc, octets.as_slice())?)?),
         }

@@ -24,7 +24,8 @@ HELP = DATA / 'help.txt'
 NOBODY = 65_534  # the user who is no one, in whose place root runs a program
 OLD = [('out.image', b'old')]
 FULL = pathlib.Path('/dev/full')
-PIPE = 4_096  # octets for which a pipe has room
+# Octets of a pipe: two pages. The system calls it full as soon as its last page has something.
+PIPE = 8_192
 NO_TEXT = b'error: a word of the command line is no text\n'
 
 
@@ -195,8 +196,8 @@ def late(checks) -> None:
 
 # Shows P-102.
 def never(checks) -> None:
-    """A reader of a server's output reads nothing until the server has ended. What the pipe has
-    room for is written; the rest waits for a while, and is then a failed write."""
+    """A reader of a server's output reads nothing until the server has ended. What the pipe accepts
+    is written; the rest waits for a while, and is then a failed write."""
     count = 300
     with unread_server(checks, count) as (server, output):
         told = server.stderr.read()
