@@ -6,12 +6,13 @@ from collections.abc import Callable
 import shared
 
 
-def refuse_each(name: str, run: Callable, outcome: Callable) -> tuple[int, collections.Counter]:
-    """Refuses each allocation of a run in turn: how many there are, and how often each outcome is
-    seen. It ends the script where a run has no outcome that it may have."""
+def refuse_each(name: str, run: Callable, outcome: Callable,
+                first: int = 1) -> tuple[int, collections.Counter]:
+    """Refuses each allocation of a run in turn, from one on: how many there are, and how often each
+    outcome is seen. It ends the script where a run has no outcome that it may have."""
     allocations = shared.allocations(run(FAIL_SHOW='1').stderr)
     seen = collections.Counter()
-    for at in range(1, allocations + 1):
+    for at in range(max(first, 1), allocations + 1):
         done = run(FAIL_AT=str(at))
         answer = outcome(done)
         if answer is None:
