@@ -5,6 +5,7 @@ import io
 import json
 import os
 import pathlib
+import shutil
 import unittest
 from collections.abc import Callable
 from unittest import mock
@@ -193,6 +194,26 @@ class Twins(Tools):
                          (1, '0 passed, 1 failed'))
         self.assertEqual(self.try_one('rt: the library low did not build'),
                          (1, '0 passed, 1 failed'))
+
+    def test_tried_together(self) -> None:
+        folder = self.folder / 'crates' / 'low'
+        folder.mkdir(parents=True)
+        (folder / 'lib.rt').write_text('one\n')
+        twin = pathlib.Path(self.file('a.twin', 'file: lib.rt\nold: one\nnew: two\n'))
+        room = mock.Mock(top=self.folder, words=lambda *_: ['rattle', '--incremental', 'kept'])
+        tool, printed = load_command('wrong_bodies'), io.StringIO()
+        answers = (('logic=proved functions=1', True),
+                   ('fn low::one: no proof\nonly=1 proved=0', False))
+        for number, (said, proved) in enumerate(answers):
+            room.top = self.folder / str(number)
+            shutil.copytree(folder, room.top / 'crates' / 'low')
+            for are_twins in (False, True):
+                with mock.patch.object(tool, 'Room', return_value=room), \
+                        mock.patch.object(tool.together, 'run', return_value=said), \
+                        contextlib.redirect_stdout(printed):
+                    status = tool.try_together({'low': [twin]}, 1, are_twins)
+                self.assertEqual(status, int(proved != are_twins))
+                shutil.rmtree(room.top / 'kept-low')
 
     def test_each_has_its_edit_of_the_same_text(self) -> None:
         def lines_but_new(path: pathlib.Path) -> list[str]:
