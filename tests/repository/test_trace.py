@@ -287,14 +287,17 @@ class Changed(Tools):
         self.assertIn('broken by a_law', changed.refused_text([named])[0])
 
     def test_what_breaks_no_law(self):
-        found = changed.held_by_no_law()
+        found = changed.held_by_no_law({'low': (3, 4), 'top': (0, 1_000)})
         self.assertIn('3 changes', found)
         self.assertIn('low, call/ok', found)
         self.assertNotIn('sign-1', found)
+        self.assertIn('can make 1,004 changes', found)
+        self.assertIn('3 of these were tried: low 3 of 4, top 0 of 1,000.', found)
+        self.assertNotIn('can make', changed.held_by_no_law({}))
 
     def test_what_a_case_shows(self):
         with mock.patch.object(changed, 'cases', lambda: {'low.X.f.sign-3': ('low_cases', 'one')}):
-            self.assertIn('a case of low_cases differs: one', changed.held_by_no_law())
+            self.assertIn('a case of low_cases differs: one', changed.held_by_no_law({}))
 
     def test_each_case_is_there(self):
         laws = json.loads((changed.DATA / 'laws.json').read_text(encoding='utf-8'))

@@ -4,7 +4,7 @@ import collections
 import functools
 import html
 import json
-from collections.abc import Iterable
+from collections.abc import Iterable, Mapping
 
 from baytools.common.texts import quantity
 from devtools.paths import DATA
@@ -31,6 +31,12 @@ def outcomes() -> dict[str, dict[str, tuple[str, dict]]]:
             elif answer['verdict'] == 'proves':
                 of.setdefault(name, (NOTHING, answer))
     return {name: of for name, of in found.items() if of}
+
+
+def names_tried() -> set[str]:
+    """The names of the changes that were tried, or are no correct text."""
+    return {name for path in (CITING, LAWS)
+            for name in json.loads(path.read_text(encoding='utf-8'))}
 
 
 def law_of(answer: dict) -> str:
@@ -72,8 +78,21 @@ def name_of(it: Named) -> str:
     return f'{it.crate}.{it.path.stem}.{it.name}'
 
 
-def held_by_no_law() -> str:
-    """The changes that break no law, with what they break."""
+def tried_by_crate(counts: Mapping[str, tuple[int, int]]) -> str:
+    """How many changes were tried of those that can be made to the definitions that the headline
+    rests on, by crate; or nothing without these numbers."""
+    if not counts:
+        return ''
+    told = ', '.join(f'{html.escape(crate)} {tried:,} of {count:,}'
+                     for crate, (tried, count) in counts.items())
+    tried, count = (sum(it) for it in zip(*counts.values()))
+    return (f'<p>The tool can make {count:,} changes to the definitions that the headline rests '
+            f'on; {tried:,} of these were tried: {told}. The others were not tried, because each '
+            'takes a processor some ten seconds.</p>')
+
+
+def held_by_no_law(counts: Mapping[str, tuple[int, int]]) -> str:
+    """The changes that break no law, with what they break; and how many were tried, by crate."""
     rows = [f'<tr><td>{html.escape(name)}</td><td><pre>- {html.escape(answer["before"])}\n'
             f'+ {html.escape(answer["after"])}</pre></td><td>'
             f'{html.escape(broken_text(name, kind, answer))}</td></tr>'
@@ -82,7 +101,8 @@ def held_by_no_law() -> str:
     count = sum(len(of) for of in outcomes().values())
     return (f'<h2 id="changed">Definitions that were changed</h2><p>{count} changes of definitions '
             'that the headline or another row rests on were tried, one at a time; '
-            f'{count - len(rows)} break a law. These break none:</p><table><tr><th>Change</th>'
+            f'{count - len(rows)} break a law.</p>{tried_by_crate(counts)}<p>These break none:</p>'
+            '<table><tr><th>Change</th>'
             f'<th>Lines</th><th>It breaks</th></tr>{"".join(rows)}</table>')
 
 

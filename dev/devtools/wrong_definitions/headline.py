@@ -1,6 +1,7 @@
 """Which definitions the headline or another row reaches, and which crates cite one of them."""
+import collections
 import functools
-from collections.abc import Iterable, Iterator
+from collections.abc import Callable, Iterable, Iterator
 
 from devtools.paths import CRATES
 from devtools.trace.calls import calls_of, crates
@@ -8,6 +9,8 @@ from devtools.trace.definitions import Definition, Named, below, definitions_cit
 from devtools.trace.inner import crates_below
 from devtools.trace.promises import borne_by, promises
 from devtools.trace.trace_page import rests_on
+
+from .changes import changes_of
 
 # The headline, and that no operate is without its own select.
 HEADLINE = ('P-001', 'P-012')
@@ -65,3 +68,12 @@ def citing(definition: Definition) -> Iterator[str]:
     meant = resting_on(definition)
     return (it for it in crates() if it != definition.crate
             and definition.crate in crates_below(it) and meant & named_by(it))
+
+
+def counts_by_crate(is_tried: Callable[[str], bool]) -> dict[str, tuple[int, int]]:
+    """Of the definitions that the headline rests on, by crate: how many changes were tried, and of
+    how many. A name says whether its change was tried."""
+    made: dict[str, list[bool]] = collections.defaultdict(list)
+    for definition in definitions_of_headline():
+        made[definition.crate] += [is_tried(it.id) for it in changes_of(definition)]
+    return {crate: (sum(it), len(it)) for crate, it in sorted(made.items())}
