@@ -20,7 +20,8 @@ BLOCK = re.compile(r'^(?:unsafe )?impl(?:<[^\n]*?>)? (?:([^\n]*) for )?(\w+)[^\n
 SAID = re.compile(r'^fn (\S+): (.*)$', re.M)
 REACHED, WHOLE = re.compile(r'^only=\d+ proved=\d+$', re.M), re.compile(r'^logic=proved ', re.M)
 ERROR = re.compile(r'\berror(?:\[[\w-]+\])?: ')
-PLACED = re.compile(r'^(?:note: )?(?:\./)?(\S+?):(\d+):(\d+: .*)$', re.M)
+# A goal and its place, and no advice of the prover.
+PLACED = re.compile(r'^(?:note: )?(?:\./)?(\S+?):(\d+):(\d+: (?!note: |warning: ).*)$', re.M)
 
 
 @dataclasses.dataclass(frozen=True)

@@ -96,6 +96,13 @@ class Together(Tools):
             {'low/a': together.BAD + error.strip(),
              'low/b': 'src/pair.rt:13:9: it is not proved (`returns`)'})
 
+    def test_advice_is_no_goal(self) -> None:
+        whole = together.Tried('low/a', EDIT.format('second', 'x'), ())
+        printed = ('proofs/A.antt:3:1: note: large solution\nsrc/pair.rt:4:1: warning: unused\n'
+                   './proofs/B.antt:5:6: error: two types differ\n')
+        self.assertEqual(together.answer_to(whole, printed),
+                         'proofs/B.antt:5:6: error: two types differ')
+
     def test_what_is_printed(self) -> None:
         self.assertEqual([together.line_of('low/a', it) for it in ('x', None, 'BAD EDIT: x')], [
             'must-fail low/a.edit: refused, as it must be: x',

@@ -95,12 +95,12 @@ def head(about: list[tuple[str, str]], gate: pathlib.Path | None) -> str:
 
 class Sheet:
     """One page, whose links into the sources begin with `sources`; `gate` is the log of a run of
-    the gate on its commit, and `counts` has by crate how many changes of definitions were tried,
+    the gate on its commit, and `changes` has by crate how many changes of definitions were tried,
     and of how many."""
 
     def __init__(self, sources: str, gate: pathlib.Path | None = None,
-                 counts: Mapping[str, tuple[int, int]] = MappingProxyType({})) -> None:
-        self.sources, self.gate, self.counts = sources, gate, counts
+                 changes: Mapping[str, tuple[int, int]] = MappingProxyType({})) -> None:
+        self.sources, self.gate, self.changes = sources, gate, changes
         self.borne = {it: borne_by(it) for it in promises()}
         self.laws = {it: laws_about(borne) for it, borne in self.borne.items()}
         self.listed = self.definitions()
@@ -270,7 +270,7 @@ class Sheet:
             '<li><a href="#definitions">Definitions</a></li>'
             f'{self.other_pages()}</ul><details><summary>How to read '
             f'clauses and definitions</summary>{how}</details>', *body, self.inner(),
-            changed.held_by_no_law(self.counts),
+            changed.held_by_no_law(self.changes),
             f'<h2 id="definitions">Definitions</h2><p>{", ".join(links)}</p>', *parts.values(),
             '</html>\n'))
 
