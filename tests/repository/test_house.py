@@ -15,6 +15,8 @@ BENCH = TOP / 'bench'
 PACKAGES = TOOLS / 'baytools', DEV / 'devtools'
 WIDTH = 100
 SHEBANG = b'#!/usr/bin/env python3'
+# What stands at the top; a program of cases that is run there leaves others.
+AT_TOP = {'.gitignore', 'CHANGELOG.md', 'CONTRIBUTING.md', 'HANDLES', 'README.md', 'crates.txt'}
 # What mypy --strict finds nothing in. A package whose last fault is mended is added here.
 STRICT = (
     *(f'tools/baytools/{it}' for it in (
@@ -58,6 +60,9 @@ def imported_packages(path: pathlib.Path) -> set[str]:
 
 
 class Layout(unittest.TestCase):
+    def test_no_run_left_files_at_the_top(self):
+        self.assertEqual({it.name for it in TOP.iterdir() if it.is_file()} - {'.git'}, AT_TOP)
+
     def test_tools_has_the_commands_of_users_alone(self):
         for folder, package in zip((TOOLS, DEV), PACKAGES):
             names = {it.name for it in folder.iterdir()} - {'__pycache__'}
