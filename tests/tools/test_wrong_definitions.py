@@ -233,10 +233,11 @@ class Laws(Tools):
 
     def test_the_nearest_law_comes_first(self):
         backed = definitions_in(DECISIONS.with_name('Backing.antt'))['IsBacked']
-        (crate, laws), *further = laws_on(backed)
+        (crate, laws), *further = laws_on(backed, 3)
         self.assertEqual((crate, laws[0].title), (
             'bay_device_example_laws', 'a_select_with_value_backs_what_it_requested'))
         self.assertEqual(further[0][0], 'bay_control')
+        self.assertEqual({len(it) for _, it in laws_on(backed, 1)}, {1})
 
     def test_crates_up_to_the_law_are_sources(self):
         self.assertEqual(all_below('bay_stdio'), ('bay_io', 'bay_lines'))

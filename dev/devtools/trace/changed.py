@@ -13,8 +13,9 @@ from .calls import Call
 from .definitions import Named
 
 LAWS, CITING = DATA / 'laws.json', DATA / 'anchors.json'
-# A change, a program of cases, and a line of its `stdin` that differs if the code is changed alike.
-CASES = DATA / 'changed_cases.txt'
+# A change, a program of cases, and a line of its `stdin` that differs if the code is changed alike;
+# or a change, this word, and why no case can differ.
+CASES, NO_CASE = DATA / 'changed_cases.txt', 'because'
 LAW, CODE, NOTHING = 'a law', 'the code or a lemma', 'nothing that was looked at'
 
 
@@ -108,17 +109,20 @@ def held_by_no_law(counts: Mapping[str, tuple[int, int]]) -> str:
 
 @functools.cache
 def cases() -> dict[str, tuple[str, str]]:
-    """By the name of a change, the program of cases and the line that shows it."""
+    """By the name of a change, the program of cases and the line that shows it; or the word that
+    stands in the place of a program, and why no case can."""
     lines = CASES.read_text(encoding='utf-8').splitlines()
     told = (it.split(' ', 2) for it in lines if not it.startswith('#'))
     return {name: (program, line) for name, program, line in told}
 
 
 def broken_text(name: str, kind: str, answer: dict) -> str:
-    """What an answer says that a change breaks, or a case that shows it."""
+    """What an answer says that a change breaks, or a case that shows it, or why none can."""
     if kind == CODE:
         return f'{answer["crate"]}, {answer["at"]}'
     if name in cases():
-        program, line = cases()[name]
-        return f'no law; if the code is changed alike, a case of {program} differs: {line}'
+        program, told = cases()[name]
+        if program == NO_CASE:
+            return f'nothing, {NO_CASE} {told}'
+        return f'no law; if the code is changed alike, a case of {program} differs: {told}'
     return kind

@@ -21,8 +21,6 @@ from devtools.trace.trace_page import closure
 from .changes import Change
 from .trying import BROKEN, PROVES, UNKNOWN, UNREAD, Answer, first_goal, place_in
 
-# How many laws of a crate are looked at: those that rest on the fewest definitions.
-LAWS = 3
 # A definition that can't be read, and a clause of a law that is not proved.
 SPOILT = re.compile(r'^\S*?/crates/(\w+)/(specs/\S+?):\d+:\d+: error: (.*)$', re.M)
 CLAUSE = re.compile(r'^\S*?/(\w+)/Answers\.antt:.*: returns-clause-(\w+)$', re.M)
@@ -34,13 +32,13 @@ def rests_on(law: Call) -> frozenset[Named]:
     return frozenset(closure(list(definitions_cited(law))))
 
 
-def laws_on(definition: Definition) -> Iterator[tuple[str, list[Call]]]:
-    """The crates with laws that rest on a definition, and those laws: first the law that rests on
-    the fewest definitions, and its crate."""
+def laws_on(definition: Definition, each: int) -> Iterator[tuple[str, list[Call]]]:
+    """The crates with laws that rest on a definition, and so many of those laws in each: first the
+    law that rests on the fewest definitions, and its crate."""
     found = sorted((it for it in public_laws() if definition in rests_on(it)),
                    key=lambda it: (len(rests_on(it)), it.title))
     for crate in dict.fromkeys(it.crate for it in found):
-        yield crate, [it for it in found if it.crate == crate][:LAWS]
+        yield crate, [it for it in found if it.crate == crate][:each]
 
 
 def from_kit(crate: str) -> set[str]:
@@ -119,12 +117,13 @@ class Room:
             return -1, f'the check took more than {seconds} seconds'
         return done.returncode, done.stdout
 
-    def tried(self, change: Change, most: int, seconds: int) -> Answer:
-        """What a change comes to in the laws of so many crates, one after the other."""
+    def tried(self, change: Change, most: int, each: int, seconds: int) -> Answer:
+        """What a change comes to in the laws of so many crates, one after the other, and so many
+        laws of each."""
         looked: tuple[str, ...] = ()
         changed = place_in(self.top, change)
         try:
-            for crate, laws in itertools.islice(laws_on(change.definition), most):
+            for crate, laws in itertools.islice(laws_on(change.definition, each), most):
                 looked += (crate,)
                 said = self.checked(change.definition.crate, crate, laws, seconds)
                 found = answer_of(crate, *said, looked)
