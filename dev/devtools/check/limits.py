@@ -76,13 +76,14 @@ def replay(checks, scenario: str | bytes) -> str:
 
 
 def replay_requests(checks, of_bay: str, pdus: list[bytes],
-                    size: int = MOST) -> tuple[str, list[mms.Pdu]]:
-    """What a replay prints in which a client with PDUs of a size asks, and what it is answered."""
+                    size: int = MOST, more: str = '') -> tuple[str, list[mms.Pdu]]:
+    """What a replay prints in which a client with PDUs of a size asks, and more events follow, and
+    what it is sent."""
     initiate = stream.association_request(mms.initiate_request(size))
     sent = [stream.connection_request(), stream.tpkt_frames(initiate)]
     sent += [stream.tpkt_frames(stream.data_tsdu(pdu)) for pdu in pdus]
     trace = '1000 contact QA1 1\n1000 scan\n1000 open 1\n'
-    trace += ''.join(f'1000 recv 1 {octets.hex()}\n' for octets in sent)
+    trace += ''.join(f'1000 recv 1 {octets.hex()}\n' for octets in sent) + more
     printed = replay(checks, f'{of_bay}%%\n{LOGIC}%%\n{trace}')
     answers = stream.Stream()
     octets = b''.join(bytes.fromhex(line.split(' ')[3]) for line in printed.splitlines()
@@ -162,6 +163,25 @@ def controls(checks) -> None:
                for at, item in ((1, 'SBOw'), (2, 'Oper'))]
     printed, _ = replay_requests(checks, bay(), written)
     checks.holds('a long originator wants memory', '1000 command QA1 on\n' in printed, printed)
+
+
+# Shows P-020.
+def long_reports(checks) -> None:
+    """The report that the time of an operate has expired has 135 octets and twice those of the
+    originator, so 255 by an originator of 60 octets, and 257, which is more than the smallest PDU
+    has, by one of 61. The report that the switch is where it was asked to go is shorter."""
+    late, there = '1499 scan\n1500 scan\n', '1400 contact QA1 2\n1500 scan\n'
+    for ident, size, more, wanted in ((60, LEAST, late, 255), (61, LEAST, late, None),
+                                      (61, MOST, late, 257), (61, LEAST, there, 134)):
+        value = mms.control(True, ident=b'\xFF' * ident)
+        written = [mms.write_request(at, [f'BAY1/CSWI1$CO$Pos${item}'], [value])
+                   for at, item in ((1, 'SBOw'), (2, 'Oper'))]
+        printed, pdus = replay_requests(checks, bay(), written, size, more)
+        kinds = [it.kind for it in pdus]
+        checks.holds('a report is sent that is longer than a pdu, or another is not',
+                     kinds == ['response'] * 2 + ['report'] * (wanted is not None), printed)
+        checks.holds('a report has another length',
+                     wanted is None or f'a381{wanted - 3:02x}a0' in printed, printed)
 
 
 def report_of_check(checks, *words) -> str:
@@ -249,4 +269,5 @@ def other_octets(checks) -> None:
                  str(wrong[:3]))
 
 
-PARTS = (names, inputs, messages, long_answers, controls, programs, images, texts, other_octets)
+PARTS = (names, inputs, messages, long_answers, controls, long_reports, programs, images, texts,
+         other_octets)

@@ -111,4 +111,35 @@ def one_contact(checks) -> None:
                  [type(it) for it in before] == [type(it) for it in after], f'{before}, {after}')
 
 
-PARTS = (several_operates, several_results, one_contact)
+# Shows P-022.
+def other_events(checks) -> None:
+    """A client that connects, selects, cancels, selects again, operates and leaves changes no value
+    that is read: the positions, their moments and counts, and the releases."""
+    names = [f'BAY1/{node}{at}$ST$Pos${part}' for node in ('XSWI', 'CSWI') for at in (1, 2)
+             for part in ('stVal', 'q', 't')]
+    names += [f'BAY1/CILO{at}$ST${way}$stVal' for at in (1, 2) for way in ('EnaOpn', 'EnaCls')]
+    names += [f'BAY1/XSWI{at}$ST$OpCnt$stVal' for at in (1, 2)]
+    select, cancel = 'BAY1/CSWI1$CO$Pos$SBO', 'BAY1/CSWI1$CO$Pos$Cancel'
+    pdus = [mms.read_request(1, [select]),
+            mms.write_request(2, [cancel], [mms.control(True, check=None)]),
+            mms.read_request(3, [select]), mms.write_request(4, [FIRST], [mms.control(True)])]
+    sent = [stream.connection_request(),
+            stream.tpkt_frames(stream.association_request(mms.initiate_request(65_000))),
+            *[stream.tpkt_frames(stream.data_tsdu(it)) for it in pdus]]
+    more = ''.join(['1500 open 2\n', *[f'1500 recv 2 {it.hex()}\n' for it in sent],
+                    '1600 close 2\n'])
+    read = stream.tpkt_frames(stream.data_tsdu(mms.read_request(1, names)))
+    printed = replay_of(checks, SELECTED, read, more)
+    before, after = all_results(printed)[-2:]
+    checks.holds('a client that selects may not operate', '1500 command QA1 on\n' in printed,
+                 printed)
+    known = dict(zip(names, before))
+    told = [known[f'BAY1/{name}'] for name in (
+        'XSWI1$ST$Pos$stVal', 'CSWI2$ST$Pos$stVal', 'XSWI1$ST$Pos$t', 'CILO1$ST$EnaCls$stVal',
+        'XSWI1$ST$OpCnt$stVal')]
+    checks.holds('a position, its moment, a release and a count are others',
+                 told == ['01', '01', 1000, True, 1], str(told))
+    checks.holds('what a client does changes a value', after == before, f'{before}, {after}')
+
+
+PARTS = (several_operates, several_results, one_contact, other_events)
