@@ -213,7 +213,7 @@ fn a_tree_shows_no_selection(rt: HostRuntime) -> Result<(), Fail> {
 }
 
 // A device that is loaded from an image in version 1 returns its image in version 2.
-// Shows P-018, P-019.
+// Shows P-017, P-018, P-019.
 #[test]
 fn a_device_of_an_image(rt: HostRuntime) -> Result<(), Fail> {
     let first = octets_of(rt.alloc(), &[IMAGE[0], "01", IMAGE[1]])?;
