@@ -143,7 +143,7 @@ fn check_each(rt: &impl Abort, alloc: Global, scenario: &[u8], most: usize) {
 }
 
 // Calls that transfer one octet, a few, or all.
-// Shows P-098, P-100, P-101, P-103.
+// Shows P-098, P-100, P-101, P-103, P-104.
 #[test]
 fn each_call_may_fail(rt: HostRuntime) -> Result<(), Fail> {
     let scenario = format!(in rt.alloc();

@@ -279,7 +279,7 @@ const ROWS: [ServedCase; 15] = [
     },
 ];
 
-// Shows P-117, P-133.
+// Shows P-115, P-117, P-121, P-122, P-133.
 #[test]
 fn rules_over_memory(rt: HostRuntime) -> Result<(), Fail> {
     for row in ROWS.iter() {

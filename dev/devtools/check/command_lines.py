@@ -126,13 +126,14 @@ def closed_files(checks) -> None:
         shut.chmod(0o755)
 
 
-# Shows P-099, P-109, P-110, P-121.
+# Shows P-099, P-102, P-109, P-110, P-118, P-121.
 def ends(checks) -> None:
     """What the program prints, logs and ends with: a file that is not there, a refused load, a port
     that is taken, and an output that is full."""
     load = ['--bay', checks.file('bay.toml', bay()), '--logic']
     none, wrong = (checks.folder / 'absent.il',
                    checks.file('wrong.il', 'PROGRAM P\nLD A\nEND_PROGRAM\n'))
+    no_bay = checks.folder / 'absent.toml'
     right = [*load, checks.file('logic.il', LOGIC)]
     report = output_of([checks.bayctl, 'check', *right])[1]
     with socket.create_server(('127.0.0.1', 0)) as taken:
@@ -141,6 +142,9 @@ def ends(checks) -> None:
                 ('the program has no report', ['check', '--log', *right], (0, report, '')),
                 ('a file that is not there is not logged', ['check', '--log', *load, none],
                  (3, 'fault 121\n', f'bayctl: fault 121: {none}: there is no such file\n')),
+                ('another file than the first that is not there is logged',
+                 ['check', '--log', '--bay', no_bay, '--logic', none],
+                 (3, 'fault 121\n', f'bayctl: fault 121: {no_bay}: there is no such file\n')),
                 ('a refused load is not logged', ['check', '--log', *load, wrong],
                  (1, 'load refused 70 line 2\n',
                   'bayctl: load refused 70 line 2: the name is unknown\n')),
@@ -160,6 +164,25 @@ def ends(checks) -> None:
                                   stdout=full, stderr=subprocess.PIPE, text=True)
         checks.holds('a full output is no fault', (done.returncode, done.stderr) == (3, wanted),
                      f'{done.returncode} {done.stderr!r}')
+
+
+# Shows P-119.
+def check_unprinted(checks) -> None:
+    """A compilation whose line of the load can't be written makes no file."""
+    if not FULL.exists():
+        checks.left_out(f'there is no {FULL}', 'a compilation whose output is full')
+        return
+    out = checks.folder / 'unprinted.image'
+    words = ['compile', '--bay', checks.file('bay.toml', bay()), '--logic',
+             checks.file('logic.il', LOGIC), '--out', out]
+    with FULL.open('wb') as full:
+        done = subprocess.run([checks.bayctl, *words], stdout=full, stderr=subprocess.PIPE,
+                              text=True)
+    checks.holds('an image is written after a line that is not',
+                 (done.returncode, done.stderr) == (3, 'fault 122\n') and not out.exists(),
+                 f'{done.returncode} {done.stderr!r} {out.exists()}')
+    told = output_of([checks.bayctl, *words])
+    checks.holds('no image is written after its line', told[0] == 0 and out.exists(), str(told))
 
 
 @contextlib.contextmanager
@@ -208,4 +231,5 @@ def never(checks) -> None:
                  f'{status} {told!r} {out!r}')
 
 
-PARTS = (helps, no_texts, tell_takes_releases, files, closed_files, ends, late, never)
+PARTS = (helps, no_texts, tell_takes_releases, files, closed_files, ends, check_unprinted, late,
+         never)

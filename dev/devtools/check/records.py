@@ -175,7 +175,7 @@ def session(checks) -> None:
                      not all(is_so for _, is_so, _ in differences(seen, report)), record)
 
 
-# Shows P-125, P-158.
+# Shows P-122, P-125, P-158.
 def in_order(checks) -> None:
     """Clients and a process come and go while each turn has a line of a trace: the record has the
     events of each turn in their order, and one scan."""
@@ -233,7 +233,7 @@ def lines(checks) -> None:
                  found in (wanted, [*wanted, 'lost']), str(found))
 
 
-# Shows P-158.
+# Shows P-121, P-158.
 def full(checks) -> None:
     """A record ends with the last line that fits, and a name that is taken ends the server."""
     record = checks.folder / 'full'

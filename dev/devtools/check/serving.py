@@ -32,6 +32,15 @@ GIVEN = (('', True), ('0 contact QA1 1\n', True), ('0 input SPRING 1\n', True),
          ('0 lost now\n', False))
 CONFIRMED = 22  # octets of the answer to a transport connection
 BUSY = 0.4  # of a processor: far more than an idle server takes
+# A bay of which every release follows one input, and two lines that change all of them and back.
+SWITCHES = [f'Q{at}' for at in range(1, 33)]
+FOLLOWING_BAY = 'bay = { domain = "B", vendor = "V", model = "M", revision = "1", ' \
+    'scan_max_age_ms = 1000 }\n[[input]]\nname = "ES"\n' + ''.join(
+        f'[[switch]]\nid = "{it}"\nkind = "breaker"\ncontrol = "status"\n' for it in SWITCHES)
+FOLLOWING_LOGIC = 'PROGRAM P\nVAR_EXTERNAL\nES : BOOL;\n' + ''.join(
+    f'{it}_ENA_OPN, {it}_ENA_CLS : BOOL;\n' for it in SWITCHES) + 'END_VAR\nLD ES\n' + ''.join(
+    f'ST {it}_ENA_OPN\nST {it}_ENA_CLS\n' for it in SWITCHES) + 'END_PROGRAM\n'
+CHANGES = b'0 input ES 1\n0 input ES 0\n'
 
 
 def connect(port: int) -> socket.socket:
@@ -186,7 +195,7 @@ def reasons(checks) -> None:
                              prints(server, f' closed {number} {why}\n'), server.printed())
 
 
-# Shows P-122.
+# Shows P-122, P-124.
 def eight(checks) -> None:
     """Eight clients are served; a ninth waits until one of them goes."""
     with Server(checks.bayctl, BAY, LOGIC) as server, contextlib.ExitStack() as kept:
@@ -276,6 +285,28 @@ def cycles(checks) -> None:
         checks.holds('a busy client shortens the turns', seconds >= (count - 1) * cycle,
                      f'{count} requests take {seconds:.2f} s')
         client.close()
+
+
+# Shows P-121.
+def check_waiting_lines(checks) -> None:
+    """Ten lines of a process wait while a trace is played, with a cycle. The turn after the last
+    line of the trace does not skip its reads, so it begins a cycle later; the next ones do."""
+    cycle, count, more = 50, 100, 10
+    trace = checks.file('waiting.trace', '0 contact NONE 1\n' * count)
+    with Server(checks.bayctl, BAY, LOGIC, '--trace', trace, '--cycle', cycle,
+                with_process=True) as server:
+        server.client().close()
+        with connect(server.process) as process:
+            process.sendall(b'0 contact NONE 1\n' * more)
+            with contextlib.suppress(TimeoutError):
+                until(lambda: server.printed().count(' refused 113\n') == count + more, 'all lines')
+        found = [int(it) for it in re.findall(r'(?m)^(\d+) refused 113$', server.printed())]
+    least = cycle - 1  # the server's clock may be slower than the steady one
+    steps = [second - first for first, second in itertools.pairwise(found)]
+    checks.holds('a turn after a line of a trace skips its reads',
+                 len(found) == count + more and min(steps[:count]) >= least, str(found))
+    checks.holds('each line of a process waits for a turn that reads',
+                 any(it < least for it in steps[count:]), str(found))
 
 
 # Shows P-126.
@@ -441,11 +472,68 @@ def unread(checks) -> None:
         client.socket.close()
 
 
+def releases_told(*values: str) -> bytes:
+    """What a process is told if all releases have these values, one after the other."""
+    return ''.join(f'{it}={value}\n' for value in values for it in SWITCHES).encode()
+
+
+def fill_process(process: socket.socket, port: int) -> int:
+    """Sends lines and reads none, until the system takes no more of what the process is told. What
+    it is told at a time fits the server's queue. Returns how often it has sent the two lines."""
+    before, count = -1, 0
+    while under_way(port) > before:
+        before = under_way(port)
+        process.sendall(CHANGES * 50)
+        count += 50
+        time.sleep(0.05)
+    return count
+
+
+def read_up_to(process: socket.socket, count: int) -> bytes:
+    """The next octets, this number of them, or all up to the end of the connection."""
+    octets = b''
+    with contextlib.suppress(OSError):
+        while len(octets) < count and (piece := process.recv(65_536)):
+            octets += piece
+    return octets
+
+
+# Shows P-115.
+def check_slow_process(checks) -> None:
+    """A process sends lines until the system takes no more of what it is told, and then reads all
+    of that. Then it never reads, until it is closed for its full queue."""
+    bay, logic = (checks.file('following.toml', FOLLOWING_BAY),
+                  checks.file('following.il', FOLLOWING_LOGIC))
+    first, changes = releases_told('00'), releases_told('11', '00')
+    with Server(checks.bayctl, bay, logic, '--tell', 'releases', with_process=True) as server:
+        server.client().close()
+        with connect(server.process) as process:
+            process.setsockopt(socket.SOL_SOCKET, socket.SO_RCVBUF, 131_072)
+            is_begun = read_up_to(process, len(first)) == first
+            wanted = changes * fill_process(process, server.process)
+            octets = read_up_to(process, len(wanted))
+            checks.holds('what a process does not read at once is lost',
+                         is_begun and octets == wanted
+                         and ' process closed' not in server.printed(),
+                         f'{len(octets)} of {len(wanted)} octets, {server.printed()!r}')
+            count = 0
+            with contextlib.suppress(OSError):
+                while ' process closed' not in server.printed() and count < 100_000:
+                    count += 500
+                    process.sendall(CHANGES * 500)
+                    time.sleep(0.05)
+            is_closed, wanted = prints(server, ' process closed 130\n'), changes * count
+            octets = read_up_to(process, len(wanted))
+            checks.holds('a process that never reads is told something else, or stays',
+                         is_closed and wanted.startswith(octets) and octets != wanted,
+                         f'{len(octets)} of {len(wanted)} octets, {server.printed()!r}')
+
+
 def all_of(checks) -> None:
     """Does all of it. The connections that are silent for ten seconds are so meanwhile."""
     silent = threading.Thread(target=checks.run_part, args=(silence,))
     silent.start()
-    for part in (clients, closings, reasons, eight, moments, turns, cycles, pieces, wakes, rests,
-                 full_queues, right_turns, unread):
+    for part in (clients, closings, reasons, eight, moments, turns, cycles, check_waiting_lines,
+                 pieces, wakes, rests, full_queues, right_turns, unread, check_slow_process):
         checks.run_part(part)
     silent.join()

@@ -97,6 +97,7 @@ def sessions(checks) -> None:
     check_log(checks)
 
 
+# Shows P-121.
 def check_log(checks) -> None:
     """tools/log tells what a server logged: where the switches were, what was released, who asked,
     how an operate ended, and that the process was lost."""

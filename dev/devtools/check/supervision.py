@@ -212,7 +212,7 @@ def frozen(checks) -> None:
                          f'{is_given}, {gear.printed()}')
 
 
-# Shows P-114, P-117.
+# Shows P-117.
 def check_waiting_processes(checks) -> None:
     """While a process is served two others wait: one says open and dies, one has sent 4,000 lines.
     Both are of this bay, and their lines are old when their turn comes."""
@@ -427,12 +427,15 @@ def idle(checks) -> None:
 
 # Shows P-112.
 def keys(checks) -> None:
-    """A key file that others may read, and files that hold no key."""
+    """A key file that others may read, files that hold no key, and files that hold one: of the
+    fewest and the most digits, and with an end of a line."""
     bay, logic = files_of(checks)
     for name, text, mode in (('open', KEY, 0o644), ('group', KEY, 0o640),
                              ('short', 'a' * 31, 0o600), ('long', 'a' * 65, 0o600),
                              ('odd', 'g' * 40, 0o600), ('ends', KEY + '\n\n', 0o600),
-                             ('absent', None, 0)):
+                             ('absent', None, 0), ('least', 'a' * 32, 0o600),
+                             ('most', 'F' * 64, 0o600), ('lf', KEY + '\n', 0o600),
+                             ('crlf', KEY + '\r\n', 0o400)):
         key = checks.folder / f'{name}.key'
         if text is not None:
             key.write_text(text)
@@ -440,6 +443,9 @@ def keys(checks) -> None:
         words = ['serve', '--bay', bay, '--logic', logic, '--port', str(free_port()), '--turns',
                  '1', '--process', str(free_port()), '--supervise', '500', '--key', key]
         done = subprocess.run([checks.bayctl, *words], capture_output=True, text=True, timeout=60)
+        if name in ('least', 'most', 'lf', 'crlf'):
+            checks.holds('a key is refused', done.returncode == 0, f'{name}: {done}')
+            continue
         checks.holds('a key that is none, or that others read, is taken',
                      done.returncode == 3 and 'fault 121' in done.stdout, f'{name}: {done}')
 
