@@ -151,4 +151,4 @@ def rig(library: str):
             one.wait_until_steady()
             yield one
         finally:
-            one.ends()
+            one.end()

@@ -13,10 +13,10 @@ from .promises import Promise, borne_by, promises
 PLACES = ('crates/layer_cases/stdin', 'crates/bayctl_cases/stdin', 'crates/bayctl_tests/src/*.rt',
           'crates/bay_diagram_tests/src/*.rt',
           'dev/devtools/check/*.py', 'examples/*/run', 'bench/speed/allocations',
-          'bench/trials/faults')
-SHOWS = re.compile(r'^(?:#|//|== note) Shows (P-\d{3}(?:, P-\d{3})*)\.$')
+          'bench/trials/calls', 'bench/trials/faults')
+SHOWS = re.compile(r'^ *(?:#|//|== note) Shows (P-\d{3}(?:, P-\d{3})*)\.$')
 TITLE = re.compile(r'^(?:# (?!Shows )|== note (?!Shows )|== (?=report|eight|hostile|bay'
-                   r'|tree|controls)|def |fn )(.*)$')
+                   r'|tree|controls)| *def |fn )(.*)$')
 OWN_RUNS = 'it speaks of definitions, on runs of its own'
 NONE = {
     'P-037': 'no case can: nothing else makes a typed program',
