@@ -120,7 +120,7 @@ fn check_rows(
     Ok(())
 }
 
-// Shows P-142, P-143.
+// Shows P-142, P-143, P-144.
 #[test]
 fn hazards_of_a_line_bay(rt: HostRuntime) -> Result<(), Fail> {
     let network = line_bay(rt.alloc())?;
@@ -128,7 +128,7 @@ fn hazards_of_a_line_bay(rt: HostRuntime) -> Result<(), Fail> {
     Ok(())
 }
 
-// Shows P-142, P-143.
+// Shows P-142, P-143, P-144.
 #[test]
 fn hazards_of_a_transformer_bay(rt: HostRuntime) -> Result<(), Fail> {
     let network = transformer_bay(rt.alloc())?;
@@ -138,7 +138,7 @@ fn hazards_of_a_transformer_bay(rt: HostRuntime) -> Result<(), Fail> {
 
 // Switches and inputs that may have any value (*): QC9 closes while all switches are open, and the
 // line may be dead; QC2 closes while nothing is known.
-// Shows P-144.
+// Shows P-143, P-144.
 #[test]
 fn what_is_not_known(rt: HostRuntime) -> Result<(), Fail> {
     let network = line_bay(rt.alloc())?;

@@ -256,13 +256,13 @@ fn check_words(rt: &impl Abort, alloc: Global, texts: Texts, rows: &[Row]) -> Re
     Ok(())
 }
 
-// Shows P-152.
+// Shows P-142, P-152.
 #[test]
 fn words_of_hazards(rt: HostRuntime) -> Result<(), Fail> {
     check_words(&rt, rt.alloc(), LINE, &ROWS)
 }
 
-// Shows P-143, P-152.
+// Shows P-142, P-143, P-152.
 #[test]
 fn words_of_hazards_with_keys(rt: HostRuntime) -> Result<(), Fail> {
     check_words(&rt, rt.alloc(), KEYED, &KEYED_ROWS)

@@ -463,7 +463,7 @@ pub fn check(rt: &impl Abort, alloc: Global, row: &ServedCase) -> Result<(), Fai
     Ok(())
 }
 
-// Shows P-026, P-109, P-112, P-113, P-114, P-115, P-120, P-121, P-123, P-132.
+// Shows P-026, P-109, P-112, P-113, P-114, P-115, P-120, P-121, P-123, P-132, P-139.
 #[test]
 fn commands_over_memory(rt: HostRuntime) -> Result<(), Fail> {
     for row in ROWS.iter() {

@@ -142,7 +142,7 @@ fn check_session_with_failing_call(
     Ok(calls)
 }
 
-// Shows P-127, P-129.
+// Shows P-125, P-127, P-129.
 #[test]
 fn each_call_may_fail(rt: HostRuntime) -> Result<(), Fail> {
     for fails_at in 1..=check_session_with_failing_call(&rt, rt.alloc(), 0)? {

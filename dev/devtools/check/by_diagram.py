@@ -1,12 +1,17 @@
 """What only a served bay can show of `serve --diagram`: a server of whose releases none is a hazard
-serves, and its log has the sum of the diagram; of a diagram or a program that was edited no port is
-opened. Each check has the name of the wrong behaviour that it refuses."""
+serves, its log has the sum of the diagram, and no client moves a switch while that is a hazard; of
+a diagram or a program that was edited no port is opened. Each check has the name of the wrong
+behaviour that it refuses."""
+import contextlib
 import re
 import socket
 import subprocess
 
+from baytools.bay.names import Names
 from baytools.common.paths import TOP
-from devtools.served import Server, free_port
+from baytools.wire.client import Client
+from baytools.wire.control import Control
+from devtools.served import Server, free_port, until, value
 
 from .by_rules import is_port_reached, line_of_file
 
@@ -28,6 +33,61 @@ EDITS = (
     ('a switch of the diagram', DIAGRAM, '[[between]]\nswitch = "QC1"\nnodes = ["N1", "E"]\n', '',
      1, LOAD + 'diagram refused 155 switch 4\n'),
     ('the bay file', BAY, 'name = "VT_DEAD"', 'name = "VT_DED"', 1, r'load refused 70 line \d+\n'))
+# A busbar with a disconnector, and an earthing switch behind it.
+EARTHED_BAY = '''[bay]
+domain = "B"
+vendor = "V"
+model = "M"
+revision = "1"
+scan_max_age_ms = 60000
+[[switch]]
+id = "QB1"
+kind = "disconnector"
+control = "direct"
+travel_ms = 60000
+[[switch]]
+id = "QC1"
+kind = "earthing"
+control = "direct"
+travel_ms = 60000
+'''
+EARTHED_LOGIC = '''PROGRAM P
+VAR_EXTERNAL
+QB1_OPEN, QC1_OPEN : BOOL;
+QB1_ENA_OPN, QB1_ENA_CLS, QC1_ENA_OPN, QC1_ENA_CLS : BOOL;
+END_VAR
+LD QC1_OPEN
+ST QB1_ENA_OPN
+ST QB1_ENA_CLS
+LD QB1_OPEN
+ST QC1_ENA_CLS
+LD TRUE
+ST QC1_ENA_OPN
+END_PROGRAM
+'''
+EARTHED_DIAGRAM = '''[[node]]
+name = "BB"
+kind = "busbar"
+source = true
+[[node]]
+name = "N1"
+kind = "junction"
+[[node]]
+name = "E"
+kind = "earth"
+[[between]]
+switch = "QC1"
+nodes = ["N1", "E"]
+[[between]]
+switch = "QB1"
+nodes = ["BB", "N1"]
+'''
+RELEASES = ['QB1 open', 'QB1 close', 'QC1 open', 'QC1 close']
+BITS = ('00', '01', '10', '11')
+# The positions of QB1 and QC1, the switch that a client closes then, and whether that is a hazard:
+# it earths the busbar, or joins it to an earth that may be closed.
+CLOSES = ((2, 1, 'QC1', True), (1, 1, 'QC1', False), (1, 2, 'QB1', True), (1, 3, 'QB1', True),
+          (1, 1, 'QB1', False))
 
 
 # Shows P-146, P-148, P-154, P-157.
@@ -88,6 +148,46 @@ def check_edited_files(checks) -> None:
                          f'{run.returncode} {told!r}')
 
 
+def closes_accepted(server) -> list[bool]:
+    """Whether each close of a client is accepted, once it reads the positions."""
+    server.client().close()
+    client, found = Client('127.0.0.1', server.port, Names(EARTHED_BAY),
+                           on_report=lambda told: None), []
+    with contextlib.closing(client), \
+            socket.create_connection(('127.0.0.1', server.process)) as process:
+        for disconnector, earth, switch, _ in (*CLOSES, (2, 1, None, False)):
+            process.sendall(f'0 contact QB1 {disconnector}\n0 contact QC1 {earth}\n'.encode())
+            wanted = [BITS[disconnector], BITS[earth]]
+            until(lambda: [value(client, f'CSWI{at}$ST$Pos$stVal') for at in (1, 2)] == wanted,
+                  f'the positions are {wanted}')
+            if switch:
+                found.append(Control(client, switch).operate(True).is_good)
+    return found
+
+
+# Shows P-156, P-157.
+def operating(checks) -> None:
+    """By an audit each release holds in a diagram. So a server of the same files, with the diagram
+    or without it, lets no client close a switch while that is a hazard, and lets it while it is
+    none."""
+    bay, logic = checks.file('earthed.toml', EARTHED_BAY), checks.file('earthed.il', EARTHED_LOGIC)
+    diagram = checks.file('earthed.diagram', EARTHED_DIAGRAM)
+    words = ['--bay', bay, '--logic', logic, '--diagram', diagram]
+    audit = subprocess.run([checks.bayctl, 'audit', *words], capture_output=True, text=True,
+                           timeout=60, check=False)
+    held = re.findall(r'(?m)^diagram (\w+ \w+) holds ', audit.stdout)
+    checks.holds('a release that is never a hazard does not hold',
+                 audit.returncode == 0 and held == RELEASES, str(audit))
+    wanted = [f'{switch} on' for _, _, switch, is_hazard in CLOSES if not is_hazard]
+    for name, more in (('a diagram', ['--diagram', diagram]), ('no diagram', [])):
+        with Server(checks.bayctl, bay, logic, *more, with_process=True) as server:
+            accepted, printed = closes_accepted(server), server.printed()
+        commands = re.findall(r'(?m)^\d+ command (.*)$', printed)
+        checks.holds(f'a server with {name} commands a hazard, or nothing',
+                     accepted == [not is_hazard for *_, is_hazard in CLOSES]
+                     and commands == wanted, f'{accepted}, {printed}')
+
+
 # Shows P-146, P-154.
 def in_order(checks) -> None:
     """A diagram that is not there is told before the load; one that is refused is logged with its
@@ -112,4 +212,4 @@ def in_order(checks) -> None:
         checks.holds(f'{name} is told otherwise', told == (status, out, error), str(told))
 
 
-PARTS = (holding, check_edited_files, in_order)
+PARTS = (holding, operating, check_edited_files, in_order)

@@ -60,7 +60,7 @@ ST QA1_ENA_CLS
 END_PROGRAM
 '''
 RELEASED = 'CILO1$ST$EnaCls$stVal'
-HELD_RULE = f'never QA1 close until ES for {WAIT}ms\n'
+HELD_RULES = f'never QA1 close until ES for {WAIT}ms\nnever QA1 open\n'
 
 
 def line_of_file(path: pathlib.Path, what: str, more: str = '') -> str:
@@ -171,8 +171,8 @@ def releases_by_rule(report: str, record: str) -> tuple[list[bool], list[bool]]:
 
 
 def held_session(server) -> list[bool]:
-    """Whether closes of QA1 are accepted, twice: when the input has just become TRUE, and once the
-    server releases QA1."""
+    """Whether operates of QA1 are accepted, twice: a close when the input has just become TRUE, a
+    close once the server releases QA1, and an open."""
     server.client().close()
     client = Client('127.0.0.1', server.port, Names(HELD_BAY), on_report=lambda told: None)
     found = []
@@ -187,15 +187,17 @@ def held_session(server) -> list[bool]:
             found.append(control.operate(True).is_good)
             process.sendall(b'0 contact QA1 2\n0 input ES 0\n')
             until(lambda: not value(client, RELEASED), 'QA1 is released no more')
+            found.append(control.operate(False).is_good)
     return found
 
 
 # Shows P-147.
 def waiting(checks) -> None:
     """A switch may not be closed until an input has been TRUE for a time: each scan of a server
-    waits for it, and so does each operate."""
+    waits for it, and so does each operate. Nor may it ever be opened: no scan releases it for that,
+    and no operate opens it."""
     bay, logic = checks.file('held.toml', HELD_BAY), checks.file('held.il', HELD_LOGIC)
-    rules, path = checks.file('held.rules', HELD_RULE), checks.folder / 'held'
+    rules, path = checks.file('held.rules', HELD_RULES), checks.folder / 'held'
     with Server(checks.bayctl, bay, logic, '--rules', rules, '--record', path,
                 with_process=True) as server:
         accepted = held_session(server)
@@ -206,9 +208,12 @@ def waiting(checks) -> None:
                             check=False).stdout.decode()
     found, wanted = releases_by_rule(report, record)
     checks.holds('a scan does not wait as a rule demands', found == wanted and any(wanted)
-                 and 'rules 1\n' in printed, f'{found}, {wanted}, {printed}')
-    checks.holds('an operate does not wait as a rule demands',
-                 accepted == [False, True] * 2 and printed.count(' command QA1 on') == 2,
+                 and 'rules 2\n' in printed, f'{found}, {wanted}, {printed}')
+    checks.holds('a scan releases what a rule forbids',
+                 found and not re.search(r'(?m)^\d+ scan .*QA1=1', report), report)
+    checks.holds('an operate does not obey as the rules demand',
+                 accepted == [False, True, False] * 2
+                 and re.findall(r' command (.*)', printed) == ['QA1 on'] * 2,
                  f'{accepted}, {printed}')
 
 

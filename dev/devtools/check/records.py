@@ -161,11 +161,14 @@ def sent_by(tap: Tap) -> bytes:
     return b''.join(octets for _, side, _, octets in tap.seen if side == 1)
 
 
-# Shows P-097, P-158.
+# Shows P-097, P-125, P-132, P-158.
 def session(checks) -> None:
-    """A record is replayed as the session was, and a record that lacks lines is not."""
+    """A record is replayed as the session was, and a record that lacks lines is not. A record for
+    which no size is named has room for 16,000,000 octets."""
     path = checks.folder / 'record'
     seen = served_session(checks, path)
+    checks.holds('a record for which no size is named has another one',
+                 ' the record has room for 16000000 octets: ' in seen.printed, seen.printed)
     joined, record = checks.run('join', BAY, LOGIC, path)[0], path.read_text()
     for name, is_so, told in differences(seen, replay(checks, joined.encode())):
         checks.holds(name, is_so, told)
@@ -201,7 +204,7 @@ def in_order(checks) -> None:
                  and re.search('lr*ps', turns), turns)
 
 
-# Shows P-113, P-114.
+# Shows P-113, P-114, P-158.
 def lines(checks) -> None:
     """A process sends lines in pieces, with empty lines and both ends of lines, and goes within a
     line. Another one comes, whose first octet would end that line."""

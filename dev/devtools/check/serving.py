@@ -195,7 +195,7 @@ def reasons(checks) -> None:
                              prints(server, f' closed {number} {why}\n'), server.printed())
 
 
-# Shows P-122, P-124.
+# Shows P-122, P-124, P-125.
 def eight(checks) -> None:
     """Eight clients are served; a ninth waits until one of them goes."""
     with Server(checks.bayctl, BAY, LOGIC) as server, contextlib.ExitStack() as kept:
@@ -353,7 +353,7 @@ def await_refusal(process: socket.socket) -> None:
     process.recv(100)
 
 
-# Shows P-130, P-131.
+# Shows P-130.
 def rests(checks) -> None:
     """Neither a process that has nothing to say nor a client that reads nothing keeps the server
     busy."""
@@ -407,19 +407,27 @@ def settled(port: int) -> int:
     return found[-1]
 
 
-# Shows P-131, P-139.
+def fill_queue(client, port: int) -> tuple[int, list[int]]:
+    """Asks, and reads nothing, until the queue of a client has no room for one more answer to an
+    identify. Returns the number of octets that were asked for, and the sizes of the answers."""
+    sizes = []
+    for request in (PAGE, IDENTIFY):
+        client.socket.sendall(request)
+        sizes.append(len(client.socket.recv(65_536)))
+    asked = fill(client, port) * sizes[0]
+    while (count := (ROOM - asked + settled(port)) // sizes[1]) > 0:
+        client.socket.sendall(IDENTIFY * count)
+        asked += count * sizes[1]
+    return asked, sizes
+
+
+# Shows P-130, P-131, P-134, P-139.
 def full_queues(checks) -> None:
     """As many octets wait for a client that reads nothing as its queue has room for; with an answer
     more it is closed. The next client, which has its number, gets its own answers alone."""
     with Server(checks.bayctl, BAY, LOGIC) as server:
-        client, sizes = server.client(), []
-        for request in (PAGE, IDENTIFY):
-            client.socket.sendall(request)
-            sizes.append(len(client.socket.recv(65_536)))
-        asked = fill(client, server.port) * sizes[0]
-        while (count := (ROOM - asked + settled(server.port)) // sizes[1]) > 0:
-            client.socket.sendall(IDENTIFY * count)
-            asked += count * sizes[1]
+        client = server.client()
+        asked, sizes = fill_queue(client, server.port)
         is_open = ' closed ' not in server.printed()
         client.socket.sendall(IDENTIFY)
         is_closed = prints(server, ' closed 1 130\n')
@@ -434,7 +442,23 @@ def full_queues(checks) -> None:
         client.socket.close()
 
 
-# Shows P-123.
+# Shows P-129, P-130.
+def full_and_faulty(checks) -> None:
+    """A client asks for an answer for which its queue has no room, and sends at once what is no
+    TPKT: it is closed with the number of this fault, and not for its queue."""
+    with Server(checks.bayctl, BAY, LOGIC) as server:
+        client = server.client()
+        fill_queue(client, server.port)
+        is_open = ' closed ' not in server.printed()
+        client.socket.sendall(IDENTIFY + b'\x04\0\0\0')
+        is_closed = prints(server, ' closed 1 10\n')
+        checks.holds('a full queue is reported of a client that was closed for a fault',
+                     is_open and is_closed and ' 130\n' not in server.printed(),
+                     repr(server.printed()))
+        client.socket.close()
+
+
+# Shows P-123, P-139.
 def right_turns(checks) -> None:
     """A turn without a line, or with one that the process may send, is done; with another line it
     is refused for that, also past the last moment, at which every turn is refused."""
@@ -534,6 +558,7 @@ def all_of(checks) -> None:
     silent = threading.Thread(target=checks.run_part, args=(silence,))
     silent.start()
     for part in (clients, closings, reasons, eight, moments, turns, cycles, check_waiting_lines,
-                 pieces, wakes, rests, full_queues, right_turns, unread, check_slow_process):
+                 pieces, wakes, rests, full_queues, full_and_faulty, right_turns, unread,
+                 check_slow_process):
         checks.run_part(part)
     silent.join()

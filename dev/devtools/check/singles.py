@@ -60,7 +60,7 @@ def all_results(printed: str) -> list[list]:
             for pdu in pdus]
 
 
-# Shows P-011.
+# Shows P-011, P-135.
 def several_operates(checks) -> None:
     """Of several operates in one event the first alone is a command."""
     alone = {name: commands_for(checks, write_of(name)) for name in (FIRST, SECOND)}
