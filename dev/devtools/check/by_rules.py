@@ -191,7 +191,7 @@ def held_session(server) -> list[bool]:
     return found
 
 
-# Shows P-147.
+# Shows P-071, P-147.
 def waiting(checks) -> None:
     """A switch may not be closed until an input has been TRUE for a time: each scan of a server
     waits for it, and so does each operate. Nor may it ever be opened: no scan releases it for that,
