@@ -311,6 +311,14 @@ class Changed(Tools):
                 self.assertTrue(any(it.startswith(line) for it in given), line)
 
 
+class ChangesThatBreakNothing(Tools):
+    def test_each_change_of_the_language_that_breaks_nothing_is_told(self):
+        """By a case that differs, or by the reason why none can."""
+        self.assertEqual([name for of in changed.outcomes().values()
+                          for name, (kind, _) in of.items() if kind == changed.NOTHING
+                          and name.startswith('il_') and name not in changed.cases()], [])
+
+
 class Standards(unittest.TestCase):
     def test_each_definition_names_its_clause_or_is_own(self):
         for it in (it for crate in standards.STATED for it in standards.definitions_of(crate)):
