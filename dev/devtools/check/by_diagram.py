@@ -148,8 +148,19 @@ def check_edited_files(checks) -> None:
                          f'{run.returncode} {told!r}')
 
 
-def closes_accepted(server) -> list[bool]:
-    """Whether each close of a client is accepted, once it reads the positions."""
+def lines_for(process: socket.socket) -> str:
+    """What the server has sent to its process, up to a second without more."""
+    found = b''
+    process.settimeout(1)
+    with contextlib.suppress(TimeoutError):
+        while piece := process.recv(4_096):
+            found += piece
+    return found.decode()
+
+
+def closes_accepted(server) -> tuple[list[bool], str]:
+    """Whether each close of a client is accepted, once it reads the positions; and what the process
+    has received."""
     server.client().close()
     client, found = Client('127.0.0.1', server.port, Names(EARTHED_BAY),
                            on_report=lambda told: None), []
@@ -162,7 +173,8 @@ def closes_accepted(server) -> list[bool]:
                   f'the positions are {wanted}')
             if switch:
                 found.append(Control(client, switch).operate(True).is_good)
-    return found
+        received = lines_for(process)
+    return found, received
 
 
 # Shows P-156, P-157.
@@ -181,11 +193,13 @@ def operating(checks) -> None:
     wanted = [f'{switch} on' for _, _, switch, is_hazard in CLOSES if not is_hazard]
     for name, more in (('a diagram', ['--diagram', diagram]), ('no diagram', [])):
         with Server(checks.bayctl, bay, logic, *more, with_process=True) as server:
-            accepted, printed = closes_accepted(server), server.printed()
-        commands = re.findall(r'(?m)^\d+ command (.*)$', printed)
+            accepted, received = closes_accepted(server)
+            printed = server.printed()
+        commands, sent = (re.findall(r'(?m)^\d+ command (.*)$', it) for it in (printed, received))
         checks.holds(f'a server with {name} commands a hazard, or nothing',
                      accepted == [not is_hazard for *_, is_hazard in CLOSES]
-                     and commands == wanted, f'{accepted}, {printed}')
+                     and commands == wanted and sent == wanted,
+                     f'{accepted}, {printed}, {received}')
 
 
 # Shows P-146, P-154.

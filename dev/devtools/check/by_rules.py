@@ -113,7 +113,7 @@ def start_server(checks, files: dict, port: int, *more: str) -> subprocess.Popen
                              *more], stdout=subprocess.PIPE, stderr=subprocess.PIPE, text=True)
 
 
-# Shows P-146.
+# Shows P-146, P-147.
 def check_edited_files(checks) -> None:
     """A file that was edited after the audit is not served: nobody reaches the port, and a port
     that another program has is not even tried."""
@@ -191,15 +191,10 @@ def held_session(server) -> list[bool]:
     return found
 
 
-# Shows P-071, P-147.
-def waiting(checks) -> None:
-    """A switch may not be closed until an input has been TRUE for a time: each scan of a server
-    waits for it, and so does each operate. Nor may it ever be opened: no scan releases it for that,
-    and no operate opens it."""
-    bay, logic = checks.file('held.toml', HELD_BAY), checks.file('held.il', HELD_LOGIC)
-    rules, path = checks.file('held.rules', HELD_RULES), checks.folder / 'held'
-    with Server(checks.bayctl, bay, logic, '--rules', rules, '--record', path,
-                with_process=True) as server:
+def check_waiting(checks, bay, logic, path, *more: object) -> None:
+    """A session of a server: its scans and its operates obey the rules, and so do the lines of its
+    commands."""
+    with Server(checks.bayctl, bay, logic, *more, '--record', path, with_process=True) as server:
         accepted = held_session(server)
         printed = server.printed()
     record = path.read_text().rpartition('\n')[0] + '\n'
@@ -208,13 +203,30 @@ def waiting(checks) -> None:
                             check=False).stdout.decode()
     found, wanted = releases_by_rule(report, record)
     checks.holds('a scan does not wait as a rule demands', found == wanted and any(wanted)
-                 and 'rules 2\n' in printed, f'{found}, {wanted}, {printed}')
+                 and ('rules 2\n' in printed) == bool(more), f'{found}, {wanted}, {printed}')
     checks.holds('a scan releases what a rule forbids',
                  found and not re.search(r'(?m)^\d+ scan .*QA1=1', report), report)
     checks.holds('an operate does not obey as the rules demand',
                  accepted == [False, True, False] * 2
                  and re.findall(r' command (.*)', printed) == ['QA1 on'] * 2,
                  f'{accepted}, {printed}')
+
+
+# Shows P-071, P-147.
+def waiting(checks) -> None:
+    """A switch may not be closed until an input has been TRUE for a time: each scan of a server
+    waits for it, and so does each operate. Nor may it ever be opened: no scan releases it for that,
+    and no operate opens it. By an audit both rules hold. So all this is so of a server with the
+    rules and of one without them."""
+    bay, logic = checks.file('held.toml', HELD_BAY), checks.file('held.il', HELD_LOGIC)
+    rules = checks.file('held.rules', HELD_RULES)
+    audit = subprocess.run([checks.bayctl, 'audit', '--bay', bay, '--logic', logic, '--rules',
+                            rules], capture_output=True, text=True, timeout=60, check=False)
+    held = re.findall(r'(?m)^rule (\d+ \w+ \w+) holds ', audit.stdout)
+    checks.holds('rules that hold are answered otherwise',
+                 audit.returncode == 0 and held == ['1 QA1 close', '2 QA1 open'], str(audit))
+    check_waiting(checks, bay, logic, checks.folder / 'ruled', '--rules', rules)
+    check_waiting(checks, bay, logic, checks.folder / 'unruled')
 
 
 PARTS = (holding, waiting, check_edited_files, unread)
