@@ -13,7 +13,7 @@ from baytools.wire.client import Client
 from baytools.wire.control import Control
 from devtools.served import Server, free_port, until, value
 
-from .by_rules import is_port_reached, line_of_file
+from .by_rules import is_port_reached, line_of_file, lines_for
 
 FOLDER = TOP / 'examples' / '07_diagrams' / 'single'
 BAY, LOGIC, DIAGRAM = FOLDER / 'bay.toml', FOLDER / 'logic.il', FOLDER / 'diagram.toml'
@@ -146,16 +146,6 @@ def check_edited_files(checks) -> None:
             checks.holds(f'{name} was edited, and a port is tried first',
                          run.returncode == status and re.fullmatch(wanted, told),
                          f'{run.returncode} {told!r}')
-
-
-def lines_for(process: socket.socket) -> str:
-    """What the server has sent to its process, up to a second without more."""
-    found = b''
-    process.settimeout(1)
-    with contextlib.suppress(TimeoutError):
-        while piece := process.recv(4_096):
-            found += piece
-    return found.decode()
 
 
 def closes_accepted(server) -> tuple[list[bool], str]:

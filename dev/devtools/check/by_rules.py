@@ -59,6 +59,7 @@ LD t1.Q
 ST QA1_ENA_CLS
 END_PROGRAM
 '''
+HELD_LOAD = 'instructions=10 depth=2 budget=10\n'
 RELEASED = 'CILO1$ST$EnaCls$stVal'
 HELD_RULES = f'never QA1 close until ES for {WAIT}ms\nnever QA1 open\n'
 
@@ -71,10 +72,12 @@ def line_of_file(path: pathlib.Path, what: str, more: str = '') -> str:
 # Shows P-146, P-148.
 def holding(checks) -> None:
     """A server whose rules hold prints their number and serves; its log has the sums of the files
-    that it serves, and no other line of sums."""
+    that it serves, and no other line of sums: after the line of its ports, and before the position
+    that its first turn logs."""
     image = checks.folder / 'ruled.image'
     subprocess.run([checks.bayctl, 'compile', '--bay', BAY, '--logic', LOGIC, '--out', image],
                    check=True, capture_output=True)
+    trace = checks.file('opened.trace', '0 contact QA1 1\n')
     bay, rules = line_of_file(BAY, 'bay'), line_of_file(RULES, 'rules', f', {COUNT} hold')
     for name, words, printed, sums in (
             ('rules', ['--logic', LOGIC, '--rules', RULES], LOAD + HELD,
@@ -83,17 +86,39 @@ def holding(checks) -> None:
              [bay, line_of_file(image, 'image'), rules]),
             ('no rules', ['--logic', LOGIC], LOAD, [bay, line_of_file(LOGIC, 'program')])):
         done = subprocess.run([checks.bayctl, 'serve', '--log', '--bay', BAY, *words, '--port',
-                               str(free_port()), '--turns', '1'], capture_output=True, text=True,
-                              timeout=60)
-        found = [line[24:] for line in done.stderr.splitlines(True) if ' SHA-256 ' in line]
+                               str(free_port()), '--turns', '1', '--trace', trace],
+                              capture_output=True, text=True, timeout=60)
+        lines = [line[24:] for line in done.stderr.splitlines(True)]
+        found, later = lines[1:len(sums) + 1], lines[len(sums) + 1:]
         checks.holds(f'a server with {name} prints otherwise',
-                     (done.returncode, done.stdout) == (0, printed), str(done))
-        checks.holds(f'the log of a server with {name} has other sums', found == sums, done.stderr)
+                     (done.returncode, done.stdout.splitlines(True)[:printed.count('\n')])
+                     == (0, printed.splitlines(True)), str(done))
+        checks.holds(f'the log of a server with {name} has other sums, or has them after a turn',
+                     found == sums and ' position QA1 open\n' in later
+                     and not any(' SHA-256 ' in it for it in later), done.stderr)
     with Server(checks.bayctl, BAY, LOGIC, '--rules', RULES) as server:
         client = server.client()
         checks.holds('a server whose rules hold does not serve', client.domain() == 'E05',
                      server.printed())
         client.close()
+
+
+# Shows P-064.
+def counted(checks) -> None:
+    """A text may have 1,000 rules, where one for opening and closing counts twice. The next rule is
+    refused with its line."""
+    bay, logic = checks.file('held.toml', HELD_BAY), checks.file('held.il', HELD_LOGIC)
+    one, two = 'never QA1 open\n', 'never QA1 open|close when ES and not ES\n'
+    for text, status, printed in (
+            (one * 1_000, 0, 'rules 1000\n'), (one * 1_001, 1, 'rules refused 144 line 1001\n'),
+            (two * 500, 0, 'rules 1000\n'), (two * 501, 1, 'rules refused 144 line 501\n'),
+            (one * 999 + two, 1, 'rules refused 144 line 1000\n')):
+        done = subprocess.run([checks.bayctl, 'serve', '--bay', bay, '--logic', logic, '--port',
+                               str(free_port()), '--turns', '0', '--rules',
+                               checks.file('counted.rules', text)], capture_output=True, text=True,
+                              timeout=60)
+        checks.holds(f'{text.count(chr(10))} lines of rules are counted otherwise',
+                     (done.returncode, done.stdout) == (status, HELD_LOAD + printed), str(done))
 
 
 def is_port_reached(port: int, run: subprocess.Popen) -> bool:
@@ -170,9 +195,19 @@ def releases_by_rule(report: str, record: str) -> tuple[list[bool], list[bool]]:
     return found, wanted
 
 
-def held_session(server) -> list[bool]:
+def lines_for(process: socket.socket) -> str:
+    """What the server has sent to its process, up to a second without more."""
+    found = b''
+    process.settimeout(1)
+    with contextlib.suppress(TimeoutError):
+        while piece := process.recv(4_096):
+            found += piece
+    return found.decode()
+
+
+def held_session(server) -> tuple[list[bool], str]:
     """Whether operates of QA1 are accepted, twice: a close when the input has just become TRUE, a
-    close once the server releases QA1, and an open."""
+    close once the server releases QA1, and an open; and what the process has received."""
     server.client().close()
     client = Client('127.0.0.1', server.port, Names(HELD_BAY), on_report=lambda told: None)
     found = []
@@ -188,14 +223,15 @@ def held_session(server) -> list[bool]:
             process.sendall(b'0 contact QA1 2\n0 input ES 0\n')
             until(lambda: not value(client, RELEASED), 'QA1 is released no more')
             found.append(control.operate(False).is_good)
-    return found
+        received = lines_for(process)
+    return found, received
 
 
 def check_waiting(checks, bay, logic, path, *more: object) -> None:
     """A session of a server: its scans and its operates obey the rules, and so do the lines of its
     commands."""
     with Server(checks.bayctl, bay, logic, *more, '--record', path, with_process=True) as server:
-        accepted = held_session(server)
+        accepted, received = held_session(server)
         printed = server.printed()
     record = path.read_text().rpartition('\n')[0] + '\n'
     scenario = f'{HELD_BAY}%%\n{HELD_LOGIC}%%\n{record}'.encode()
@@ -208,8 +244,9 @@ def check_waiting(checks, bay, logic, path, *more: object) -> None:
                  found and not re.search(r'(?m)^\d+ scan .*QA1=1', report), report)
     checks.holds('an operate does not obey as the rules demand',
                  accepted == [False, True, False] * 2
-                 and re.findall(r' command (.*)', printed) == ['QA1 on'] * 2,
-                 f'{accepted}, {printed}')
+                 and re.findall(r' command (.*)', printed) == ['QA1 on'] * 2
+                 and re.findall(r' command (.*)', received) == ['QA1 on'] * 2,
+                 f'{accepted}, {printed}, {received}')
 
 
 # Shows P-071, P-147.
@@ -229,4 +266,4 @@ def waiting(checks) -> None:
     check_waiting(checks, bay, logic, checks.folder / 'unruled')
 
 
-PARTS = (holding, waiting, check_edited_files, unread)
+PARTS = (holding, counted, waiting, check_edited_files, unread)
