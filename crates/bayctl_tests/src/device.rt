@@ -346,7 +346,7 @@ fn part_3_of_version_1(rt: HostRuntime) -> Result<(), Fail> {
     check_part(&rt, rt.alloc(), "01", 3, VERSION_1[3])
 }
 
-// Shows P-018, P-061, P-138.
+// Shows P-018, P-055, P-056, P-061, P-138.
 #[test]
 fn part_4_of_version_1(rt: HostRuntime) -> Result<(), Fail> {
     check_part(&rt, rt.alloc(), "01", 4, VERSION_1[4])
@@ -376,7 +376,7 @@ fn part_3_of_version_2(rt: HostRuntime) -> Result<(), Fail> {
     check_part(&rt, rt.alloc(), "02", 3, VERSION_2[3])
 }
 
-// Shows P-018, P-061, P-138.
+// Shows P-018, P-055, P-056, P-061, P-138.
 #[test]
 fn part_4_of_version_2(rt: HostRuntime) -> Result<(), Fail> {
     check_part(&rt, rt.alloc(), "02", 4, VERSION_2[4])
