@@ -11,7 +11,7 @@ from baytools.bay.names import Names
 from baytools.common.paths import TOP
 from baytools.wire.client import Client
 from baytools.wire.control import Control
-from devtools.served import Server, free_port, until, value
+from devtools.served import TURNS, Running, Server, free_port, until, value
 
 from .by_rules import is_port_reached, line_of_file, lines_for
 
@@ -123,7 +123,7 @@ def start_server(checks, files: dict, port: int, *more: object) -> subprocess.Po
                             text=True)
 
 
-# Shows P-146, P-154.
+# Shows P-146, P-154, P-157.
 def check_edited_files(checks) -> None:
     """A file that was edited after the audit is not served: nobody reaches the port, and a port
     that another program has is not even tried."""
@@ -167,29 +167,46 @@ def closes_accepted(server) -> tuple[list[bool], str]:
     return found, received
 
 
-# Shows P-156, P-157.
-def operating(checks) -> None:
-    """By an audit each release holds in a diagram. So a server of the same files, with the diagram
-    or without it, lets no client close a switch while that is a hazard, and lets it while it is
-    none."""
-    bay, logic = checks.file('earthed.toml', EARTHED_BAY), checks.file('earthed.il', EARTHED_LOGIC)
-    diagram = checks.file('earthed.diagram', EARTHED_DIAGRAM)
-    words = ['--bay', bay, '--logic', logic, '--diagram', diagram]
-    audit = subprocess.run([checks.bayctl, 'audit', *words], capture_output=True, text=True,
-                           timeout=60, check=False)
+class FormServer(Server):
+    """A server of a program in a form, its text or its image, with a process."""
+
+    def __init__(self, bayctl, *words) -> None:
+        self.port, self.process = free_port(), free_port()
+        Running.__init__(self, bayctl, 'serve', *words, '--port', self.port, '--process',
+                         self.process, '--turns', TURNS)
+
+
+def operate_by(checks, form: str, words: list, diagram) -> None:
+    """By an audit each release of a program in a form holds in a diagram. So a server of the same
+    files, with the diagram or without it, lets no client close a switch while that is a hazard, and
+    lets it while it is none."""
+    audit = subprocess.run([checks.bayctl, 'audit', *words, '--diagram', diagram],
+                           capture_output=True, text=True, timeout=60, check=False)
     held = re.findall(r'(?m)^diagram (\w+ \w+) holds ', audit.stdout)
-    checks.holds('a release that is never a hazard does not hold',
+    checks.holds(f'a release of {form} that is never a hazard does not hold',
                  audit.returncode == 0 and held == RELEASES, str(audit))
     wanted = [f'{switch} on' for _, _, switch, is_hazard in CLOSES if not is_hazard]
     for name, more in (('a diagram', ['--diagram', diagram]), ('no diagram', [])):
-        with Server(checks.bayctl, bay, logic, *more, with_process=True) as server:
+        with FormServer(checks.bayctl, *words, *more) as server:
             accepted, received = closes_accepted(server)
             printed = server.printed()
         commands, sent = (re.findall(r'(?m)^\d+ command (.*)$', it) for it in (printed, received))
-        checks.holds(f'a server with {name} commands a hazard, or nothing',
+        checks.holds(f'a server of {form} with {name} commands a hazard, or nothing',
                      accepted == [not is_hazard for *_, is_hazard in CLOSES]
                      and commands == wanted and sent == wanted,
                      f'{accepted}, {printed}, {received}')
+
+
+# Shows P-156, P-157.
+def operating(checks) -> None:
+    """No client of a server by a diagram moves a switch while that is a hazard, whether the program
+    is a text or an image."""
+    bay, logic = checks.file('earthed.toml', EARTHED_BAY), checks.file('earthed.il', EARTHED_LOGIC)
+    diagram, image = checks.file('earthed.diagram', EARTHED_DIAGRAM), checks.folder / 'earthed'
+    subprocess.run([checks.bayctl, 'compile', '--bay', bay, '--logic', logic, '--out', image],
+                   stdout=subprocess.DEVNULL, timeout=60, check=True)
+    for form, option, program in (('a program', '--logic', logic), ('an image', '--image', image)):
+        operate_by(checks, form, ['--bay', bay, option, program], diagram)
 
 
 # Shows P-146, P-154.

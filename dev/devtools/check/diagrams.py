@@ -46,6 +46,20 @@ FAULTS = (
      'a switch of the bay, a switch at a node, or a source is missing: add it'))
 TOO_MANY = 'a section has more than 64 tables: leave out what no switch of the bay can reach'
 LONGEST, MOST = 262_144, 64  # octets of a diagram file; tables of a section
+# Faults that a diagram has all at once, in the order in which they are named: a text, what takes
+# its place, the number and the place.
+AT_ONCE = (
+    ('[[between]]\nswitch = "QB1"', '[[between]\nswitch = "QB1"', '146'),
+    ('# A cable feeder', '[[check]]\n#', '149'),
+    ('kind = "cable"', 'kind = "cable"\nlive = 1', '147 node 2'),
+    ('nodes = ["BB1", "N1"]\n', '', '148 between 1'),
+    ('name = "N1"\nkind = "junction"', 'name = "N1"\nkind = "joint"', '149 node 3'),
+    ('name = "N2"', 'name = "n1"', '151 node 3'),
+    ('dead = "VT_DEAD"', 'dead = "VT_DED"', '152 node 2'),
+    ('kind = "earth"', 'kind = "earth"\nsource = true', '153 node 5'),
+    ('switch = "QA1"', 'switch = "QA1"\nkind = "breaker"', '154 between 2'),
+    ('["N2", "CABLE"]', '["N2", "N2"]', '154 between 3'),
+    ('[[between]]\nswitch = "QC1"\nnodes = ["N1", "E"]\n', '', '155 switch 4'))
 
 
 def answers_file(name: str) -> str:
@@ -168,7 +182,7 @@ def hazards_are_judged(checks) -> None:
     checks.holds('hazards of planted faults', count >= 20, f'only {count}')
 
 
-def audit_of_diagram(checks, text: str) -> tuple[int, str, str]:
+def audit_of_diagram(checks, text: str | bytes) -> tuple[int, str, str]:
     """The status, what is printed behind the line of the load, and the log of an audit of the
     program of a single busbar, by a diagram."""
     folder, path = DIAGRAMS / 'single', checks.file('diagram.toml', text)
@@ -192,6 +206,24 @@ def faults_are_named(checks) -> None:
 
 
 # Shows P-151.
+def first_faults(checks) -> None:
+    """Of many faults the first is named: what is no TOML, then a section, then tables in the order
+    of the numbers. And octets that are not UTF-8 are no TOML."""
+    text = text_of(DIAGRAMS / 'single' / 'diagram.toml')
+    for at, (_, _, told) in enumerate(AT_ONCE):
+        faulty = text
+        for old, new, _ in AT_ONCE[at:]:
+            assert faulty.count(old) == 1, old
+            faulty = faulty.replace(old, new)
+        found = audit_of_diagram(checks, faulty)
+        checks.holds(f'{told} is not the first fault',
+                     found[:2] == (1, f'diagram refused {told}\n'), str(found))
+    found = audit_of_diagram(checks, text.encode() + b'# \xff\n')
+    checks.holds('octets that are not UTF-8 are told otherwise',
+                 found[:2] == (1, 'diagram refused 146\n'), str(found))
+
+
+# Shows P-151.
 def diagrams_at_the_limits(checks) -> None:
     """The longest diagram file and one that is longer; as many tables as a section may have, and
     one more."""
@@ -209,6 +241,8 @@ def diagrams_at_the_limits(checks) -> None:
             ('the longest diagram file is refused', full, held),
             ('a longer diagram file is read', f'{full}#', (1, 'diagram refused 146\n',
              f'bayctl: diagram refused 146: {FAULTS[0][3]}\n')),
+            ('a diagram without a switch is read', text.partition('[[between]]')[0],
+             (1, 'diagram refused 148\n', f'bayctl: diagram refused 148: {FAULTS[2][3]}\n')),
             ('65 switches are read', f'{text}{parallel}{switch.format(MOST, "N2")}', many),
             ('65 nodes are read', f'{text}{joined}{node.format(MOST)}', many)):
         found = audit_of_diagram(checks, more)
@@ -240,4 +274,4 @@ def diagram_on_the_panel(checks) -> None:
 
 
 PARTS = (diagrams_are_kept, hands_follow, planted_faults_break, hazards_are_judged,
-         faults_are_named, diagrams_at_the_limits, diagram_on_the_panel)
+         faults_are_named, first_faults, diagrams_at_the_limits, diagram_on_the_panel)
