@@ -60,7 +60,7 @@ def all_results(printed: str) -> list[list]:
             for pdu in pdus]
 
 
-# Shows P-011, P-135.
+# Shows P-011, P-026, P-028, P-135.
 def several_operates(checks) -> None:
     """Of several operates in one event the first alone is a command."""
     alone = {name: commands_for(checks, write_of(name)) for name in (FIRST, SECOND)}
@@ -75,7 +75,7 @@ def several_operates(checks) -> None:
                      found == ['1000 command QA1 on'], str(found))
 
 
-# Shows P-094.
+# Shows P-026, P-094.
 def several_results(checks) -> None:
     """The results of a read and of a write stand in the order of their variables: values, a text,
     an error and a success."""
@@ -94,7 +94,7 @@ def several_results(checks) -> None:
                  found == [3, None, 3], str(found))
 
 
-# Shows P-076.
+# Shows P-029, P-076.
 def one_contact(checks) -> None:
     """A contact changes the values of its switch, and no other; all are read by the names that they
     had."""
@@ -111,7 +111,7 @@ def one_contact(checks) -> None:
                  [type(it) for it in before] == [type(it) for it in after], f'{before}, {after}')
 
 
-# Shows P-022.
+# Shows P-022, P-028.
 def other_events(checks) -> None:
     """A client that connects, selects, cancels, selects again, operates and leaves changes no value
     that is read: the positions, their moments and counts, and the releases."""
