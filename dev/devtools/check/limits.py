@@ -131,7 +131,7 @@ def messages(checks) -> None:
                  bool(pdus) and len(pdus[-1].data) == 32, printed)
 
 
-# Shows P-026, P-080, P-093.
+# Shows P-026, P-080, P-093, P-094.
 def long_answers(checks) -> None:
     """Reads that select: the answer to the first is an octet longer than a PDU may be, that to the
     second just as long. The octets of results are 23 of SBO, 10 of each t, 3 of each stSeld, and
@@ -163,6 +163,25 @@ def controls(checks) -> None:
                for at, item in ((1, 'SBOw'), (2, 'Oper'))]
     printed, _ = replay_requests(checks, bay(), written)
     checks.holds('a long originator wants memory', '1000 command QA1 on\n' in printed, printed)
+
+
+# Shows P-096.
+def wrong_controls(checks) -> None:
+    """Selects with value, operates and cancels whose data have another shape (7), or a value that
+    is just out of range (11), also where both the shape and a value are wrong (7)."""
+    far = b'\xFF' * 65
+    values = [(7, mms.Data(mms.BOOLEAN, True)), (11, {'ident': far}), (11, {'category': 128}),
+              (11, {'category': -129}), (11, {'count': 256}), (7, {'check': '000', 'count': 256})]
+    for item, right in (('SBOw', '00'), ('Oper', '00'), ('Cancel', None)):
+        wanted, pdus = [], []
+        for at, (code, value) in enumerate(values, 1):
+            if isinstance(value, dict):
+                value = mms.control(True, **{'check': right, **value})
+            wanted.append([mms.Failure(code)])
+            pdus.append(mms.write_request(at, [f'BAY1/CSWI1$CO$Pos${item}'], [value]))
+        printed, found = replay_requests(checks, bay(), pdus)
+        checks.holds(f'a wrong {item} has another error', [it.data for it in found] == wanted,
+                     f'{[it.data for it in found]}, {printed}')
 
 
 # Shows P-020.
@@ -269,5 +288,5 @@ def other_octets(checks) -> None:
                  str(wrong[:3]))
 
 
-PARTS = (names, inputs, messages, long_answers, controls, long_reports, programs, images, texts,
-         other_octets)
+PARTS = (names, inputs, messages, long_answers, controls, wrong_controls, long_reports, programs,
+         images, texts, other_octets)

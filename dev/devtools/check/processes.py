@@ -42,6 +42,13 @@ ROWS = ('CILO1$ST$EnaOpn$stVal', 'CILO1$ST$EnaCls$stVal')
 POSITIONS = ('CSWI1$ST$Pos$stVal', 'CSWI2$ST$Pos$stVal')
 COUNTS = ('XCBR1$ST$OpCnt$stVal', 'XSWI1$ST$OpCnt$stVal')
 BAD = '11'
+# Lines that a process may send, at any moments. The last one names no input of the bay.
+RIGHT_LINES = '''7 contact QA1 1
+5 input ES 1
+18446744073709551615 measure M1 HZ 1
+3 measure M1 HZ bad
+0 input NONE 1
+'''
 
 
 # Shows P-115.
@@ -150,4 +157,25 @@ def releases_are_sent(checks) -> None:
         checks.holds('releases are told unasked', first[0].endswith(' refused 113'), str(first))
 
 
-PARTS = (check_next_process, check_waiting_processes, releases_are_sent)
+# Shows P-097.
+def check_other_lines(checks) -> None:
+    """A process that sends an event of a trace other than a contact, an input or a measure is
+    closed with 120; one that sends these is not, whatever their moments."""
+    bay = checks.file('bay.toml', f'{BAY}[[meter]]\nid = "M1"\n')
+    with Server(checks.bayctl, bay, checks.file('logic.il', LOGIC), with_process=True) as server, \
+            contextlib.closing(server.client()):
+        for said, why in (('0 lost\n', 120), ('0 scan\n', 120), ('0 open 1\n', 120),
+                          ('0 recv 1 00\n', 120), ('0 close 1\n', 120), (RIGHT_LINES, 0)):
+            before = len(process_lines(server))
+            with connect_process(server) as process:
+                process.sendall(said.encode())
+                told = lines_of(process, 1)
+            with contextlib.suppress(TimeoutError):
+                until(lambda: len(process_lines(server)) == before + 2, 'the process is closed')
+            checks.holds('a line of a process is taken or refused otherwise',
+                         process_lines(server)[before:] == ['process open', f'process closed {why}']
+                         and [it.endswith(' refused 113') for it in told] == [True] * (why == 0),
+                         f'{said!r}: {told}, {server.printed()}')
+
+
+PARTS = (check_next_process, check_waiting_processes, releases_are_sent, check_other_lines)
