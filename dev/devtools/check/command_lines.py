@@ -158,12 +158,17 @@ def ends(checks) -> None:
         checks.left_out(f'there is no {FULL}', 'output that is full')
         return
     why = "bayctl: fault 122: standard output: it can't be written\n"
-    for words, wanted in (([], 'fault 122\n'), (['--log'], f'{why}fault 122\n')):
+    served = ['serve', *right, '--turns', '1', '--port', str(free_port())]
+    for words, wanted in ((['replay'], 'fault 122\n'), (['replay', '--log'], f'{why}fault 122\n'),
+                          (['check', '--log', *load, none], f'{why}fault 122\n'),
+                          (['check', '--log', *load, wrong], f'{why}fault 122\n'),
+                          (served, 'fault 122\n')):
         with FULL.open('wb') as full:
-            done = subprocess.run([checks.bayctl, 'replay', *words], stdin=subprocess.DEVNULL,
+            done = subprocess.run([checks.bayctl, *words], stdin=subprocess.DEVNULL,
                                   stdout=full, stderr=subprocess.PIPE, text=True)
-        checks.holds('a full output is no fault', (done.returncode, done.stderr) == (3, wanted),
-                     f'{done.returncode} {done.stderr!r}')
+        checks.holds('a full output is no fault, or what it lacks is logged',
+                     (done.returncode, done.stderr) == (3, wanted),
+                     f'{words}: {done.returncode} {done.stderr!r}')
 
 
 # Shows P-119.
