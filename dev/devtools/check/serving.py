@@ -522,7 +522,7 @@ def read_up_to(process: socket.socket, count: int) -> bytes:
     return octets
 
 
-# Shows P-115.
+# Shows P-115, P-139.
 def check_slow_process(checks) -> None:
     """A process sends lines until the system takes no more of what it is told, and then reads all
     of that. Then it never reads, until it is closed for its full queue."""

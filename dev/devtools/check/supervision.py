@@ -237,7 +237,7 @@ def check_waiting_processes(checks) -> None:
                      and positions(client) == (BAD, BAD), f'{counts(client)} {positions(client)}')
 
 
-# Shows P-117, P-133, P-139.
+# Shows P-112, P-117, P-133, P-139.
 def strangers(checks) -> None:
     """Processes of another bay, without a first line, with another key, or a part of it."""
     key = checks.file('key', KEY + '\n')
@@ -427,27 +427,35 @@ def idle(checks) -> None:
 
 # Shows P-112.
 def keys(checks) -> None:
-    """A key file that others may read, files that hold no key, and files that hold one: of the
-    fewest and the most digits, and with an end of a line."""
+    """A key file that others may read, also one that holds no key, files that hold no key, and
+    files that hold one: of the fewest and the most digits, and with an end of a line."""
     bay, logic = files_of(checks)
-    for name, text, mode in (('open', KEY, 0o644), ('group', KEY, 0o640),
-                             ('short', 'a' * 31, 0o600), ('long', 'a' * 65, 0o600),
-                             ('odd', 'g' * 40, 0o600), ('ends', KEY + '\n\n', 0o600),
-                             ('absent', None, 0), ('least', 'a' * 32, 0o600),
-                             ('most', 'F' * 64, 0o600), ('lf', KEY + '\n', 0o600),
-                             ('crlf', KEY + '\r\n', 0o400)):
+    others, none = 'only its owner may read it', 'a key has 32 to 64 hexadecimal digits'
+    for name, text, mode, why in (('open', KEY, 0o644, others), ('group', KEY, 0o640, others),
+                                  ('world', KEY, 0o601, others), ('both', 'a' * 31, 0o604, others),
+                                  ('short', 'a' * 31, 0o600, none),
+                                  ('long', 'a' * 65, 0o600, none),
+                                  ('odd', 'g' * 40, 0o600, none),
+                                  ('ends', KEY + '\n\n', 0o600, none),
+                                  ('space', KEY + ' ', 0o600, none),
+                                  ('absent', None, 0, 'there is no such file'),
+                                  ('least', 'a' * 32, 0o600, ''), ('most', 'F' * 64, 0o600, ''),
+                                  ('lf', KEY + '\n', 0o600, ''),
+                                  ('crlf', KEY + '\r\n', 0o400, '')):
         key = checks.folder / f'{name}.key'
         if text is not None:
             key.write_text(text)
             key.chmod(mode)
-        words = ['serve', '--bay', bay, '--logic', logic, '--port', str(free_port()), '--turns',
-                 '1', '--process', str(free_port()), '--supervise', '500', '--key', key]
+        words = ['serve', '--log', '--bay', bay, '--logic', logic, '--port', str(free_port()),
+                 '--turns', '1', '--process', str(free_port()), '--supervise', '500', '--key', key]
         done = subprocess.run([checks.bayctl, *words], capture_output=True, text=True, timeout=60)
-        if name in ('least', 'most', 'lf', 'crlf'):
+        if not why:
             checks.holds('a key is refused', done.returncode == 0, f'{name}: {done}')
             continue
-        checks.holds('a key that is none, or that others read, is taken',
-                     done.returncode == 3 and 'fault 121' in done.stdout, f'{name}: {done}')
+        checks.holds('a key that is none, or that others read, is taken, or refused otherwise',
+                     (done.returncode, done.stdout, done.stderr)
+                     == (3, 'fault 121\n', f'bayctl: fault 121: {key}: {why}\n'),
+                     f'{name}: {done}')
 
 
 # Shows P-111.
