@@ -33,7 +33,7 @@ const PIECE: [u8; 65_536] = [b'a'; 65_536];
 
 // A queue that is full refuses further output, and later outputs all that it accepted. Lines of a
 // log that nobody reads are dropped and counted.
-// Shows P-102.
+// Shows P-101, P-102.
 #[test]
 fn readers_that_wait(rt: HostRuntime) -> Result<(), Fail> {
     let (is_open, taken) = (Cell::new(false), RefCell::new(Vec::new(rt.alloc())));

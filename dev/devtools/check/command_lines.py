@@ -93,6 +93,7 @@ def files_of(folder: pathlib.Path) -> list[tuple[str, bytes]]:
     return [(it.name, it.read_bytes()) for it in sorted(folder.iterdir())]
 
 
+# Shows P-099, P-109.
 def closed_files(checks) -> None:
     """A file that may not be read, and a folder that may not be written, by a user who may not do
     everything."""

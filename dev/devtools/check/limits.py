@@ -184,7 +184,7 @@ def wrong_controls(checks) -> None:
                      f'{[it.data for it in found]}, {printed}')
 
 
-# Shows P-020.
+# Shows P-020, P-093.
 def long_reports(checks) -> None:
     """The report that the time of an operate has expired has 135 octets and twice those of the
     originator, so 255 by an originator of 60 octets, and 257, which is more than the smallest PDU
