@@ -119,6 +119,10 @@ def closed_files(checks) -> None:
         told = output_of([program, 'check', *words, 'closed.toml'], cwd=folder, **user)
         checks.holds('a file that may not be read wants memory', told == (3, 'fault 121\n', ''),
                      str(told))
+        told = output_of([program, 'check', '--log', *words, 'closed.toml'], cwd=folder, **user)
+        why = 'bayctl: fault 121: closed.toml: permission denied\n'
+        checks.holds('a file that may not be read is logged otherwise',
+                     told == (3, 'fault 121\n', why), str(told))
         told = output_of([program, 'compile', *words, 'bay.toml', '--out', shut / 'out.image'],
                          cwd=folder, **user)
         checks.holds('a write changes a folder that may not be written',
@@ -129,12 +133,14 @@ def closed_files(checks) -> None:
 
 # Shows P-099, P-102, P-109, P-110, P-118, P-121.
 def ends(checks) -> None:
-    """What the program prints, logs and ends with: a file that is not there, a refused load, a port
-    that is taken, and an output that is full."""
+    """What the program prints, logs and ends with: a file that is not there, is a folder or too
+    long, a refused load, a port that is taken, and an output that is full."""
     load = ['--bay', checks.file('bay.toml', bay()), '--logic']
     none, wrong = (checks.folder / 'absent.il',
                    checks.file('wrong.il', 'PROGRAM P\nLD A\nEND_PROGRAM\n'))
-    no_bay = checks.folder / 'absent.toml'
+    no_bay, long = checks.folder / 'absent.toml', checks.folder / 'long.toml'
+    with long.open('wb') as longest:
+        longest.truncate(16_777_217)
     right = [*load, checks.file('logic.il', LOGIC)]
     report = output_of([checks.bayctl, 'check', *right])[1]
     with socket.create_server(('127.0.0.1', 0)) as taken:
@@ -146,6 +152,12 @@ def ends(checks) -> None:
                 ('another file than the first that is not there is logged',
                  ['check', '--log', '--bay', no_bay, '--logic', none],
                  (3, 'fault 121\n', f'bayctl: fault 121: {no_bay}: there is no such file\n')),
+                ('a folder is read as a file', ['check', '--log', *load, checks.folder],
+                 (3, 'fault 121\n', f'bayctl: fault 121: {checks.folder}: it is a folder\n')),
+                ('a file that is too long is logged otherwise',
+                 ['check', '--log', '--bay', long, '--logic', none],
+                 (3, 'fault 121\n',
+                  f'bayctl: fault 121: {long}: it is longer than 16,777,216 bytes\n')),
                 ('a refused load is not logged', ['check', '--log', *load, wrong],
                  (1, 'load refused 70 line 2\n',
                   'bayctl: load refused 70 line 2: the name is unknown\n')),
