@@ -184,6 +184,86 @@ def ends(checks) -> None:
                      f'{words}: {done.returncode} {done.stderr!r}')
 
 
+# Shows P-118, P-119, P-120.
+def file_order(checks) -> None:
+    """Of two files that are not there, the one that is read first is logged. All files are read
+    before a bay file is refused."""
+    right, wrong = (checks.file('bay.toml', bay()), checks.file('wrong.toml', 'x'))
+    logic = checks.file('logic.il', LOGIC)
+    no_bay, no_logic, trace, key, rules, diagram = (
+        checks.folder / f'absent.{it}' for it in ('toml', 'il', 'trace', 'key', 'rules', 'diagram'))
+    supervised = ['--process', free_port(), '--supervise', 500, '--key', key]
+    serve = ['serve', '--port', free_port(), '--turns', 1]
+    for words, first in (
+            (['compile', '--bay', no_bay, '--logic', no_logic, '--out', trace], no_bay),
+            ([*serve, '--bay', no_bay, '--logic', no_logic], no_bay),
+            ([*serve, '--bay', right, '--logic', no_logic, '--trace', trace], no_logic),
+            ([*serve, '--bay', right, '--logic', logic, '--trace', trace, '--rules', rules], trace),
+            ([*serve, '--bay', right, '--logic', logic, *supervised, '--rules', rules], key),
+            ([*serve, '--bay', right, '--logic', logic, '--rules', rules, '--diagram', diagram],
+             rules),
+            ([*serve, '--bay', wrong, '--logic', logic, '--diagram', diagram], diagram)):
+        told = output_of([checks.bayctl, *map(str, words), '--log'])
+        checks.holds('files are read in another order', told == (
+            3, 'fault 121\n', f'bayctl: fault 121: {first}: there is no such file\n'), str(told))
+
+
+# Shows P-118, P-119.
+def untouched(checks) -> None:
+    """What reads no file: words that are refused, and a compilation to a file that it would read.
+    The files are pipes that nobody writes, so whoever opens one waits. A check changes no file, and
+    one that can't print is a fault."""
+    with tempfile.TemporaryDirectory() as name:
+        folder = pathlib.Path(name)
+        one, other = folder / 'one', folder / 'other'
+        for it in one, other:
+            os.mkfifo(it)
+        load = ['--bay', one, '--logic', other]
+        for words in (['check', '--bay', one], ['check', *load, '--image', one], ['compile', *load],
+                      ['audit', *load], ['serve', *load, '--port', '0', '--turns', '1']):
+            told = output_of([checks.bayctl, *words, '--log'])
+            checks.holds('words that are refused are more than an error', told[:2] == (2, '')
+                         and told[2].startswith('error: ') and 'bayctl: ' not in told[2], str(told))
+        for out in one, other:
+            told = output_of([checks.bayctl, 'compile', *load, '--out', out, '--log'])
+            checks.holds('a compilation reads before it refuses what it would replace', told == (
+                3, '', f"bayctl: fault 122: {out}: it can't be written\nfault 122\n"), str(told))
+    with tempfile.TemporaryDirectory() as name:
+        folder = pathlib.Path(name)
+        for at, text in (('bay.toml', bay()), ('logic.il', LOGIC), ('wrong.il', 'x')):
+            (folder / at).write_text(text, encoding='utf-8')
+        before = files_of(folder), [it.stat().st_mtime_ns for it in sorted(folder.iterdir())]
+        found = [output_of([checks.bayctl, 'check', '--bay', 'bay.toml', '--logic', at],
+                           cwd=folder)[0] for at in ('logic.il', 'wrong.il', 'absent.il')]
+        after = files_of(folder), [it.stat().st_mtime_ns for it in sorted(folder.iterdir())]
+        checks.holds('a check has another status, or changes a file',
+                     found == [0, 1, 3] and before == after, f'{found} {before} {after}')
+        if FULL.exists():
+            with FULL.open('wb') as full:
+                done = subprocess.run([checks.bayctl, 'check', '--bay', 'bay.toml', '--logic',
+                                       'logic.il'], cwd=folder, stdout=full,
+                                      stderr=subprocess.PIPE, text=True)
+            checks.holds('a check that can print nothing is no fault',
+                         (done.returncode, done.stderr) == (3, 'fault 122\n'), str(done))
+
+
+# Shows P-120.
+def port_order(checks) -> None:
+    """Ports that are taken: that of the clients is opened first."""
+    load = ['--bay', checks.file('bay.toml', bay()), '--logic', checks.file('logic.il', LOGIC)]
+    report = output_of([checks.bayctl, 'check', *load])[1]
+    with (socket.create_server(('127.0.0.1', 0)) as one,
+          socket.create_server(('127.0.0.1', 0)) as other):
+        clients, process = one.getsockname()[1], other.getsockname()[1]
+        for port in clients, free_port():
+            told = output_of([checks.bayctl, 'serve', *load, '--log', '--turns', '1', '--port',
+                              str(port), '--process', str(process)])
+            wrong = port if port == clients else process
+            checks.holds('the port of the process is opened first', told == (
+                3, f'{report}fault 121\n',
+                f'bayctl: fault 121: port {wrong}: another program uses it\n'), str(told))
+
+
 # Shows P-119.
 def check_unprinted(checks) -> None:
     """A compilation whose line of the load can't be written makes no file."""
@@ -249,5 +329,5 @@ def never(checks) -> None:
                  f'{status} {told!r} {out!r}')
 
 
-PARTS = (helps, no_texts, tell_takes_releases, files, closed_files, ends, check_unprinted, late,
-         never)
+PARTS = (helps, no_texts, tell_takes_releases, files, closed_files, ends, file_order, untouched,
+         port_order, check_unprinted, late, never)

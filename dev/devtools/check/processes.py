@@ -3,6 +3,7 @@ releases. Each check has the name of the wrong behaviour that it refuses."""
 import contextlib
 import re
 import socket
+import struct
 import time
 
 from devtools.served import PATIENCE, Server, until, value
@@ -79,10 +80,12 @@ def connect_process(server: Server) -> socket.socket:
     return socket.create_connection(('127.0.0.1', server.process))
 
 
-def leaves(server: Server, said: bytes) -> None:
-    """A process that connects, says something, and goes."""
+def leaves(server: Server, said: bytes, is_reset: bool) -> None:
+    """A process that connects, says something, and goes, or resets its connection."""
     with connect_process(server) as process:
         process.sendall(said)
+        if is_reset:
+            process.setsockopt(socket.SOL_SOCKET, socket.SO_LINGER, struct.pack('ii', 1, 0))
 
 
 def process_lines(server: Server) -> list[str]:
@@ -92,16 +95,17 @@ def process_lines(server: Server) -> list[str]:
 
 # Shows P-115.
 def check_waiting_processes(checks) -> None:
-    """While a process is served three others come and go: one says nothing, one half a line, and
-    one a line. Then the first one goes."""
+    """While a process is served four others come and go: two say nothing, of which one resets its
+    connection, one says half a line, and one a line. Then the first one goes."""
     bay, logic = checks.file('bay.toml', BAY), checks.file('logic.il', LOGIC)
     with Server(checks.bayctl, bay, logic, with_process=True) as server, \
             contextlib.closing(server.client()) as client:
         with connect_process(server) as first:
             first.sendall(b'0 input ES 1\n')
             until(lambda: value(client, ROWS[1]), 'the first one is served')
-            for said in (b'', b'0 contact QC1 1', b'0 contact QA1 1\n'):
-                leaves(server, said)
+            for said, is_reset in ((b'', False), (b'', True), (b'0 contact QC1 1', False),
+                                   (b'0 contact QA1 1\n', False)):
+                leaves(server, said, is_reset)
             time.sleep(0.1)
             checks.holds('two processes at once', process_lines(server) == ['process open'],
                          server.printed())
@@ -114,6 +118,30 @@ def check_waiting_processes(checks) -> None:
         checks.holds('what a process sent that waited and went is lost',
                      value(client, COUNTS[0]) == 1 and value(client, POSITIONS[0]) == BAD,
                      server.printed())
+
+
+# Shows P-113, P-114.
+def line_lengths(checks) -> None:
+    """Lines of 256 octets before their LF, a CR among them, are taken, and a line of 257 is not."""
+    bay, logic = checks.file('bay.toml', BAY), checks.file('logic.il', LOGIC)
+    with Server(checks.bayctl, bay, logic, with_process=True) as server:
+        server.client().close()
+        for length, end, is_taken in ((256, '\n', True), (257, '\n', False),
+                                      (255, '\r\n', True), (256, '\r\n', False)):
+            head, tail = '0 contact ', ' 1'
+            line = head + 'N' * (length - len(head + tail)) + tail + end
+            before = len(server.printed())
+            with connect_process(server) as process:
+                process.sendall(line.encode())
+                wanted = ' refused 113\n' if is_taken else ' process closed 120\n'
+                with contextlib.suppress(TimeoutError):
+                    until(lambda: wanted in server.printed()[before:], 'the line is judged')
+            with contextlib.suppress(TimeoutError):
+                until(lambda: ' process closed ' in server.printed()[before:], 'it is gone')
+            told = server.printed()[before:]
+            checks.holds('a line of a process is taken that is too long, or not one that is not',
+                         wanted in told and (' refused 113\n' in told) == is_taken,
+                         f'{length} {end!r}: {told}')
 
 
 def lines_of(process: socket.socket, count: int) -> list[str]:
@@ -178,4 +206,5 @@ def check_other_lines(checks) -> None:
                          f'{said!r}: {told}, {server.printed()}')
 
 
-PARTS = (check_next_process, check_waiting_processes, releases_are_sent, check_other_lines)
+PARTS = (check_next_process, check_waiting_processes, line_lengths, releases_are_sent,
+         check_other_lines)

@@ -41,10 +41,12 @@ PARTS_OF_RECORD = (
 
 @dataclasses.dataclass(frozen=True)
 class Seen:
-    """What went out of a served session: what the server printed and logged, the octets that it
-    sent to each association, and what it told the first process and the second one."""
+    """What went through a served session: what the server printed and logged, the octets that it
+    sent to each association, and received of it, and what it told the first process and the second
+    one."""
     printed: str
     sent: dict[int, bytes]
+    received: dict[int, bytes]
     told: tuple[str, str]
 
 
@@ -153,23 +155,32 @@ def served_session(checks, record) -> Seen:
               'their ends are reported')
         size = record.stat().st_size
         until(lambda: record.stat().st_size > size, 'a later turn is recorded')
-        return Seen(server.printed(), {it: sent_by(taps[it]) for it in taps}, (first, later))
+        return Seen(server.printed(), *({it: sent_by(taps[it], side) for it in taps}
+                                        for side in (1, 0)), (first, later))
 
 
-def sent_by(tap: Tap) -> bytes:
-    """What a server sent to the client of a tap."""
-    return b''.join(octets for _, side, _, octets in tap.seen if side == 1)
+def sent_by(tap: Tap, side: int) -> bytes:
+    """What a server (1) or its client (0) sent through a tap."""
+    return b''.join(octets for _, sender, _, octets in tap.seen if sender == side)
 
 
-# Shows P-097, P-125, P-132, P-158.
+# Shows P-097, P-116, P-125, P-126, P-127, P-132, P-158.
 def session(checks) -> None:
-    """A record is replayed as the session was, and a record that lacks lines is not. A record for
-    which no size is named has room for 16,000,000 octets."""
+    """A record is replayed as the session was, and a record that lacks lines is not. It has the
+    octets that each client has sent, and each line has the moment of its turn. A record for which
+    no size is named has room for 16,000,000 octets."""
     path = checks.folder / 'record'
     seen = served_session(checks, path)
     checks.holds('a record for which no size is named has another one',
                  ' the record has room for 16000000 octets: ' in seen.printed, seen.printed)
     joined, record = checks.run('join', BAY, LOGIC, path)[0], path.read_text()
+    for place, octets in seen.received.items():
+        found = ''.join(lines_in(record, rf'\d+ recv {place} (\w+)'))
+        checks.holds('the octets of a client are lost, repeated or torn',
+                     found == octets.hex() != '', f'association {place}: {found}\n{octets.hex()}')
+    moments = lines_in(seen.printed, r'(\d+) refused 113')
+    checks.holds('a line is recorded at another moment than that of its turn',
+                 lines_in(record, r'(\d+) contact NONE 1') == moments != [], f'{moments}\n{record}')
     for name, is_so, told in differences(seen, replay(checks, joined.encode())):
         checks.holds(name, is_so, told)
     for what, form in PARTS_OF_RECORD:
@@ -178,7 +189,7 @@ def session(checks) -> None:
                      not all(is_so for _, is_so, _ in differences(seen, report)), record)
 
 
-# Shows P-122, P-125, P-158.
+# Shows P-121, P-122, P-125, P-158.
 def in_order(checks) -> None:
     """Clients and a process come and go while each turn has a line of a trace: the record has the
     events of each turn in their order, and one scan."""

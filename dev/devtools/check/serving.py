@@ -179,15 +179,17 @@ def closings(checks) -> None:
 
 # Shows P-129, P-139.
 def reasons(checks) -> None:
-    """A client that goes is closed with 0; one that stays and sends no TPKT, or a TPDU that is
-    malformed, is closed with the number of that fault."""
+    """A client that goes is closed with 0, and with 131 if it resets its connection; one that stays
+    and sends no TPKT, or a TPDU that is malformed, is closed with the number of that fault."""
     with Server(checks.bayctl, BAY, LOGIC) as server:
         server.client().close()
-        for why, octets in ((0, None), (10, b'\x04\0\0\0'),
+        for why, octets in ((0, None), (131, None), (10, b'\x04\0\0\0'),
                             (11, bytes.fromhex('0300000803f08005'))):
             with connect(server.port) as one:
                 number = number_of(one)
                 if octets is None:
+                    one.setsockopt(socket.SOL_SOCKET, socket.SO_LINGER,
+                                   struct.pack('ii', why != 0, 0))
                     one.close()
                 else:
                     one.sendall(octets)
@@ -321,6 +323,34 @@ def pieces(checks) -> None:
         client.close()
 
 
+# Shows P-125, P-126.
+def reads(checks) -> None:
+    """Three clients ask in one turn, the last association first: each is read once in the turn, the
+    lowest first, and the record has what each has sent."""
+    record, rounds = checks.folder / 'reads.record', 5
+    with Server(checks.bayctl, BAY, LOGIC, '--cycle', 100, '--record', record) as server:
+        clients = [server.client() for _ in range(3)]
+        for _ in range(rounds):
+            for client in reversed(clients):
+                client.socket.sendall(IDENTIFY)
+            for client in clients:
+                client.next('mms')
+        for client in clients:
+            client.socket.close()
+        until(lambda: len(re.findall(r'(?m)^\d+ close [123]$', record.read_text())) == 3,
+              'their ends are recorded')
+    text = record.read_text()
+    turns = [re.findall(r'(?m)^\d+ recv (\d)', it) for it in text.split(' scan\n')]
+    checks.holds('clients are read in another order, or twice in a turn',
+                 all(it == sorted(set(it)) for it in turns) and ['1', '2', '3'] in turns,
+                 str([it for it in turns if it]))
+    for number in '123':
+        octets = ''.join(re.findall(rf'(?m)^\d+ recv {number} (\w+)$', text))
+        checks.holds('what a client has sent is lost or repeated',
+                     octets.endswith(IDENTIFY.hex() * rounds)
+                     and octets.count(IDENTIFY.hex()) == rounds, f'{number}: {octets}')
+
+
 def wakes(checks) -> None:
     """Each port wakes an idle server. A request comes two milliseconds behind the answer to the
     one before, when the server has just begun to rest."""
@@ -421,7 +451,7 @@ def fill_queue(client, port: int) -> tuple[int, list[int]]:
     return asked, sizes
 
 
-# Shows P-130, P-131, P-134, P-139.
+# Shows P-122, P-130, P-131, P-134, P-139.
 def full_queues(checks) -> None:
     """As many octets wait for a client that reads nothing as its queue has room for; with an answer
     more it is closed. The next client, which has its number, gets its own answers alone."""
@@ -481,18 +511,19 @@ def right_turns(checks) -> None:
 
 # Shows P-127.
 def unread(checks) -> None:
-    """A client asks until the system takes no more answers, and then reads them all."""
+    """A client asks until the system takes no more answers, and then reads them all: each is the
+    answer that it has got when nothing waited."""
     with Server(checks.bayctl, BAY, LOGIC) as server:
-        client, read = server.client(), 0
+        client, read = server.client(), b''
         client.socket.sendall(PAGE)
-        size = len(client.socket.recv(65_536))
-        wanted = fill(client, server.port, 131_072) * size
+        answer = client.socket.recv(65_536)
+        wanted = answer * fill(client, server.port, 131_072)
         client.socket.settimeout(5)
         with contextlib.suppress(OSError):
-            while read < wanted and (piece := client.socket.recv(1_048_576)):
-                read += len(piece)
-        checks.holds('octets that a socket does not take are lost', read == wanted,
-                     f'{read} of {wanted} octets, {server.printed()!r}')
+            while len(read) < len(wanted) and (piece := client.socket.recv(1_048_576)):
+                read += piece
+        checks.holds('octets that a socket does not take are lost, or others come', read == wanted,
+                     f'{len(read)} of {len(wanted)} octets, {server.printed()!r}')
         client.socket.close()
 
 
@@ -522,7 +553,7 @@ def read_up_to(process: socket.socket, count: int) -> bytes:
     return octets
 
 
-# Shows P-115, P-139.
+# Shows P-115, P-116, P-139.
 def check_slow_process(checks) -> None:
     """A process sends lines until the system takes no more of what it is told, and then reads all
     of that. Then it never reads, until it is closed for its full queue."""
@@ -558,7 +589,7 @@ def all_of(checks) -> None:
     silent = threading.Thread(target=checks.run_part, args=(silence,))
     silent.start()
     for part in (clients, closings, reasons, eight, moments, turns, cycles, check_waiting_lines,
-                 pieces, wakes, rests, full_queues, full_and_faulty, right_turns, unread,
+                 pieces, reads, wakes, rests, full_queues, full_and_faulty, right_turns, unread,
                  check_slow_process):
         checks.run_part(part)
     silent.join()
