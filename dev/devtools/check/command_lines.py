@@ -93,7 +93,7 @@ def files_of(folder: pathlib.Path) -> list[tuple[str, bytes]]:
     return [(it.name, it.read_bytes()) for it in sorted(folder.iterdir())]
 
 
-# Shows P-099, P-109.
+# Shows P-099, P-109, P-118.
 def closed_files(checks) -> None:
     """A file that may not be read, and a folder that may not be written, by a user who may not do
     everything."""
@@ -131,7 +131,7 @@ def closed_files(checks) -> None:
         shut.chmod(0o755)
 
 
-# Shows P-099, P-102, P-109, P-110, P-118, P-121.
+# Shows P-099, P-102, P-109, P-110, P-118, P-120, P-121.
 def ends(checks) -> None:
     """What the program prints, logs and ends with: a file that is not there, is a folder or too
     long, a refused load, a port that is taken, and an output that is full."""
@@ -233,11 +233,12 @@ def untouched(checks) -> None:
         for at, text in (('bay.toml', bay()), ('logic.il', LOGIC), ('wrong.il', 'x')):
             (folder / at).write_text(text, encoding='utf-8')
         before = files_of(folder), [it.stat().st_mtime_ns for it in sorted(folder.iterdir())]
-        found = [output_of([checks.bayctl, 'check', '--bay', 'bay.toml', '--logic', at],
-                           cwd=folder)[0] for at in ('logic.il', 'wrong.il', 'absent.il')]
+        told = [output_of([checks.bayctl, 'check', '--bay', 'bay.toml', '--logic', at], cwd=folder)
+                for at in ('logic.il', 'wrong.il', 'absent.il')]
         after = files_of(folder), [it.stat().st_mtime_ns for it in sorted(folder.iterdir())]
-        checks.holds('a check has another status, or changes a file',
-                     found == [0, 1, 3] and before == after, f'{found} {before} {after}')
+        checks.holds('a check has another status, logs unasked, or changes a file',
+                     [it[0] for it in told] == [0, 1, 3] and not any(it[2] for it in told)
+                     and before == after, f'{told} {before} {after}')
         if FULL.exists():
             with FULL.open('wb') as full:
                 done = subprocess.run([checks.bayctl, 'check', '--bay', 'bay.toml', '--logic',
@@ -299,7 +300,7 @@ def unread_server(checks, count: int, *more: str) -> Iterator[tuple]:
         yield server, output
 
 
-# Shows P-102.
+# Shows P-102, P-120.
 def late(checks) -> None:
     """A reader of a server's output reads nothing until a while after the last turn. The pipe has
     room for a part of the output; the rest waits."""
@@ -315,7 +316,7 @@ def late(checks) -> None:
                  and out.count(b' refused 113\n') == count, f'{server.returncode} {out!r} {log!r}')
 
 
-# Shows P-102.
+# Shows P-102, P-120.
 def never(checks) -> None:
     """A reader of a server's output reads nothing until the server has ended. What the pipe accepts
     is written; the rest waits for a while, and is then a failed write."""

@@ -194,7 +194,7 @@ def line_times(checks, library: str) -> None:
                          f'{more}: {bay.server.printed()}')
 
 
-# Shows P-117, P-133.
+# Shows P-117, P-132, P-133.
 def silences(checks, library: str) -> None:
     """Silence counts from the time of the last line, from no later one than that of its turn, and
     before the first line from the acceptance. A process that is lost in a turn gets no command in

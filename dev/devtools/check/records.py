@@ -247,7 +247,7 @@ def lines(checks) -> None:
                  found in (wanted, [*wanted, 'lost']), str(found))
 
 
-# Shows P-121, P-158.
+# Shows P-120, P-121, P-158.
 def full(checks) -> None:
     """A record ends with the last line that fits, and a name that is taken ends the server."""
     record = checks.folder / 'full'
@@ -271,6 +271,27 @@ def full(checks) -> None:
                  and record.read_text() == held, str(ran))
 
 
+# Shows P-121, P-158.
+def shown_lines(checks) -> None:
+    """Lines of the process whose event the device refuses, as the log and the record have them:
+    with a control character escaped, and up to 80 octets. A line of more than these ends the
+    record, and not the server."""
+    record = checks.folder / 'shown'
+    with Server(checks.bayctl, BAY, LOGIC, '--log', '--record', record,
+                with_process=True) as server, contextlib.closing(server.client()) as client:
+        with socket.create_connection(('127.0.0.1', server.process)) as process:
+            process.sendall(b'0 contact X\x1b 1\n0 contact ' + b'N' * 200 + b' 1\n')
+            server.waits_for(' the record has ended: a line is too long for it\n')
+        is_served = client.domain() == 'E05'
+        log, text = server.printed(), record.read_text()
+    shown = lines_in(log, r'\S+Z refused 113: (.*)')
+    checks.holds('a refused line is logged another way',
+                 shown == ['0 contact X\\x1b 1', '0 contact ' + 'N' * 70 + '..'], str(shown))
+    checks.holds('a line that is too long for a record is recorded, or ends the server',
+                 is_served and lines_in(text, r'\d+ (contact .*)') == ['contact X\\x1b 1']
+                 and text.endswith('\n'), text)
+
+
 # Shows P-158.
 def check_failing_record(checks) -> None:
     """A record whose file can't be written any more ends, and the server does not."""
@@ -288,4 +309,4 @@ exec {checks.bayctl} "$@"
                      server.printed())
 
 
-PARTS = (session, in_order, lines, full, check_failing_record)
+PARTS = (session, in_order, lines, full, shown_lines, check_failing_record)

@@ -488,7 +488,7 @@ def full_and_faulty(checks) -> None:
         client.socket.close()
 
 
-# Shows P-097, P-123, P-139.
+# Shows P-097, P-120, P-123, P-139.
 def right_turns(checks) -> None:
     """A turn without a line, or with one that the process may send, is done; with another line it
     is refused for that, also past the last moment, at which every turn is refused."""
