@@ -94,7 +94,6 @@ fn wait_time(rt: &HostRuntime, readiness: &mut Readiness, most: u64) -> io::Resu
 // nothing for ten seconds after its connection was accepted, but not once it has sent an octet.
 // Octets that the system does not take are not counted as sent, and the end of one client does not
 // affect another.
-// Shows P-122.
 #[test]
 fn clients_of_a_link(rt: HostRuntime) -> Result<(), Fail> {
     let clock = SetClock {

@@ -253,7 +253,6 @@ def values(client) -> list:
     return [value(client, f'MMXU1$MX$A$phs{phase}$cVal$mag$i') for phase in 'AB']
 
 
-# Shows P-121.
 def turns(checks) -> None:
     """An idle server takes its turns: a hundred of them within two seconds, and not at once."""
     words = [checks.bayctl, 'serve', '--bay', BAY, '--logic', LOGIC, '--turns', '100', '--port']
@@ -383,7 +382,6 @@ def await_refusal(process: socket.socket) -> None:
     process.recv(100)
 
 
-# Shows P-130.
 def rests(checks) -> None:
     """Neither a process that has nothing to say nor a client that reads nothing keeps the server
     busy."""
