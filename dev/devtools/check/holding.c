@@ -11,7 +11,8 @@ extern long syscall(long number, ...);
 extern char *getenv(const char *name);
 extern long strtol(const char *digits, char **end, int base);
 
-enum { READ = 0, OPEN = 2, CLOSE = 3, CLOCK_GETTIME = 228, REAL_TIME = 0, MONOTONIC = 1, ROOM = 64 };
+enum { READ = 0, OPEN = 2, CLOSE = 3, CLOCK_GETTIME = 228 };
+enum { REAL_TIME = 0, MONOTONIC = 1, ROOM = 64 };
 
 static void read_times(long *times)
 {
