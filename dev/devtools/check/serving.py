@@ -310,7 +310,6 @@ def check_waiting_lines(checks) -> None:
                  any(it < least for it in steps[count:]), str(found))
 
 
-# Shows P-126.
 def pieces(checks) -> None:
     """What comes at once is read in pieces of 4,096 octets, without a rest between them."""
     with Server(checks.bayctl, BAY, LOGIC) as server:

@@ -364,7 +364,6 @@ def stalls(checks) -> None:
                      'process closed 134' in printed, f'{case}: {printed}')
 
 
-# Shows P-117.
 def check_loaded_machine(checks) -> None:
     """A process that lives on a machine on which six programs work without a pause."""
     loops = [subprocess.Popen([sys.executable, '-c', 'while True: pass']) for _ in range(BUSY)]
