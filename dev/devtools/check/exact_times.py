@@ -64,7 +64,7 @@ ST QB1_ENA_CLS
 END_PROGRAM
 '''
 POSITIONS = ('CSWI1$ST$Pos$stVal', 'CSWI2$ST$Pos$stVal')
-OPEN = '01'
+OPEN, CLOSED = '01', '10'
 PROCESS = ('--supervise', LIMIT)
 
 
@@ -139,6 +139,22 @@ class Bay:
         self.server.run.send_signal(signal.SIGCONT)
         asking.join(10)
         return bool(answers) and answers[0].is_good
+
+    def operates_in_parts(self, control: Control, between) -> bool:
+        """Whether an open is accepted of which the server reads the second half after a change."""
+        def send(octets: bytes) -> None:
+            half = len(octets) // 2
+            self.client.socket.sendall(octets[:half])
+            time.sleep(QUIET)
+            between()
+            self.client.socket.sendall(octets[half:])
+
+        self.client.send = send
+        return control.operate(False).is_good
+
+    def waits_for_release(self, told: str, count: int) -> None:
+        """Waits until the log has told something of the release of QA1 this number of times."""
+        until(lambda: self.server.printed().count(f'release QA1 {told} close=1\n') == count, told)
 
     def is_lost(self, wanted: bool) -> bool:
         """Whether the process is lost: within some turns, or, if that is wanted, seconds."""
@@ -252,6 +268,37 @@ def scan_ages(checks, library: str) -> None:
                          f'{more}: {bay.server.printed()}')
 
 
+# Shows P-132.
+def halves(checks, library: str) -> None:
+    """An operate arrives in two halves, between which its release comes, or goes. The last scan
+    before the second half decides."""
+    for comes in False, True:
+        with held_bay(checks, library) as bay:
+            bay.says('contact QA1 2', *(() if comes else ('input ES 1',)))
+            until(lambda: value(bay.client, POSITIONS[0]) == CLOSED, 'QA1 is closed')
+            control = bay.control('QA1')
+            if comes:
+                def between() -> None:
+                    bay.says('input ES 1')
+                    time.sleep(QUIET)
+                    bay.held.go_on(2000)
+                    bay.waits_for_release('open=1', 1)
+            else:
+                time.sleep(QUIET)
+                bay.held.go_on(2000)
+                bay.waits_for_release('open=1', 1)
+
+                def between() -> None:
+                    bay.says('input ES 0')
+                    bay.waits_for_release('open=0', 2)
+            is_given = bay.operates_in_parts(control, between)
+            wanted = [f'{SYSTEM + 2000} command QA1 off'] if comes else []
+            commands = bay.lines()
+            checks.holds('the release at the first half of an operate counts',
+                         is_given == comes and commands == wanted,
+                         f'{comes}: {is_given} {commands} {bay.server.printed()}')
+
+
 # Shows P-123.
 def last_moments(checks, library: str) -> None:
     """A turn at the last moment is done, and one a millisecond later is refused."""
@@ -332,7 +379,7 @@ def exact_times(checks) -> None:
     if library is None:
         checks.left_out('neither the kit nor cc is installed', 'times to the millisecond')
         return
-    for part in (line_times, silences, jumps, scan_ages, last_moments, paces, report_order):
+    for part in (line_times, silences, jumps, scan_ages, halves, last_moments, paces, report_order):
         part(checks, library)
 
 
