@@ -24,6 +24,7 @@ SYSTEM, STEADY = 1_700_000_000_000, 5_000_000  # the times of the clocks at firs
 LIMIT, AGE = 500, 1_000  # ms of a process' silence, and of a scan's age
 LAST = 4_294_967_295_999  # the last moment that a time stamp holds
 QUIET = 0.15  # seconds in which an idle server takes several turns
+SENT = 0.5  # seconds in which a client's request reaches a server that is stopped
 SKIPPING = 63  # turns in a row that take a line and read no client; the next one waits a cycle
 TRIES = 5
 NAMED = 'bay - B 1'
@@ -134,7 +135,7 @@ class Bay:
         self.server.run.send_signal(signal.SIGSTOP)
         asking = threading.Thread(target=lambda: answers.append(control.operate(True)), daemon=True)
         asking.start()
-        time.sleep(QUIET)
+        time.sleep(SENT)
         change()
         self.server.run.send_signal(signal.SIGCONT)
         asking.join(10)

@@ -19,8 +19,6 @@ TITLE = re.compile(r'^(?:# (?!Shows )|== note (?!Shows )|== (?=report|eight|host
                    r'|tree|controls)| *def |fn )(.*)$')
 OWN_RUNS = 'it speaks of definitions, on runs of its own'
 NONE = {
-    'P-037': 'no case can: nothing else makes a typed program',
-    'P-054': 'no case can: the verifier lets no such program pass',
     'P-140': OWN_RUNS,
     'P-141': OWN_RUNS}
 
