@@ -16,8 +16,6 @@ NO_LAW = {
                                      'all together must be',
     'bay_device load': '`accepted` and `refused` say of the texts themselves what `device` comes '
                        'to: a bay file that is read, and a program right by its grammar and types',
-    'bay_device Device::run': '`operates`, `fresh`, `backed`, `means` and `halts` say what the '
-                              'outcomes come to by events, answers and what programs mean',
     'bay_device Device::step': '`operates`, `fresh`, `means`, `halts` and `leads` say what the '
                                'outcome comes to by events, answers and what programs mean',
     'bay_device Device::switch': OWN_WORDS + 'the place of an id, and the id at a place',
