@@ -101,7 +101,7 @@ def device(checks, of_bay: str, logic: str, trace: str) -> list:
     return answers_of(printed)
 
 
-# Shows P-001, P-019, P-023.
+# Shows P-001, P-006, P-019, P-023.
 def first_state(checks) -> None:
     """A device that was just loaded has eight closed associations, no selection (18 without a
     select), no execution (else 12 or 14), no scan (10), and a process that is not lost (else 9). It
@@ -206,12 +206,12 @@ def paired_answers(checks) -> None:
                  found[1:] == ['1000 refused 111'] * 2, str(found))
 
 
-# Shows P-012, P-013.
+# Shows P-012, P-013, P-014, P-022.
 def attempts(checks) -> None:
     """An operate with a value of another type (7) or out of range (11) is no attempt: the selection
     is still valid. One that is refused for a test, and a cancel, end it; a cancel by another
     association, which is refused, does not. An association that was closed and opened again has no
-    selection."""
+    selection. Whatever clients do, the scan stays fresh."""
     select, short = reads(SBO.partition('/')[2]), mms.Data(mms.BOOLEAN, True)
     test = mms.write_request(1, [OPER], [mms.control(True, test=True)])
     cancel = mms.write_request(1, [OPER.replace('Oper', 'Cancel')], [mms.control(True, check=None)])

@@ -131,7 +131,7 @@ def messages(checks) -> None:
                  bool(pdus) and len(pdus[-1].data) == 32, printed)
 
 
-# Shows P-026, P-080, P-093, P-094.
+# Shows P-013, P-026, P-080, P-093, P-094.
 def long_answers(checks) -> None:
     """Reads that select: the answer to the first is an octet longer than a PDU may be, that to the
     second just as long. The octets of results are 23 of SBO, 10 of each t, 3 of each stSeld, and
