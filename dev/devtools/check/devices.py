@@ -29,6 +29,24 @@ LD 8
 ST level
 END_PROGRAM
 '''
+# What a lost process leaves: bad positions, and inputs that are FALSE.
+LOST_LOGIC = '''PROGRAM P
+VAR_EXTERNAL
+QA1_POS, QA2_POS : INT;
+IN0, IN1, QA1_ENA_OPN, QA1_ENA_CLS, QA2_ENA_OPN, QA2_ENA_CLS : BOOL;
+END_VAR
+LD QA1_POS
+EQ 3
+ST QA1_ENA_OPN
+LD QA2_POS
+EQ 3
+ST QA1_ENA_CLS
+LDN IN0
+ST QA2_ENA_OPN
+LDN IN1
+ST QA2_ENA_CLS
+END_PROGRAM
+'''
 OPER, SBOW, SBO = (f'BAY1/CSWI1$CO$Pos${it}' for it in ('Oper', 'SBOw', 'SBO'))
 GOOD, INVALID = '0' * 13, '01' + '0' * 11
 ABORT = b'\x19\x00'  # the TSDU of an abort (X.225)
@@ -128,11 +146,31 @@ def first_state(checks) -> None:
                  str(found))
 
 
-# Shows P-007, P-009.
+# Shows P-010.
+def lost_values(checks) -> None:
+    """From a loss on each position is bad and invalid, and each input FALSE, and a scan reads them
+    so; a report changes what it is about, and nothing else."""
+    rows = [f'{node}{at}$ST$Pos${part}' for at in (1, 2) for node in ('XSWI', 'CSWI')
+            for part in ('stVal', 'q')]
+    begun = '1000 contact QA1 1\n1000 contact QA2 2\n1000 input IN0 1\n1000 input IN1 1\n'
+    found = device(checks, ENHANCED, LOST_LOGIC, begun + '1000 scan\n' + opens(1000, 1) + ''.join(
+        f'{now} {event}\n' + asks(now, 1, reads(*rows)) + f'{now} scan\n' for now, event in (
+            (1100, 'lost'), (1200, 'lost'), (1300, 'measure M0 HZ 5'), (1400, 'contact QA2 1'),
+            (1500, 'input IN0 1'))))
+    bad = ['11', INVALID] * 2
+    wanted = ['QA1=00 QA2=00', bad * 2, 'QA1=11 QA2=11', bad * 2, 'QA1=11 QA2=11', bad * 2,
+              'QA1=11 QA2=11', bad + ['01', GOOD] * 2, 'QA1=10 QA2=11', bad + ['01', GOOD] * 2,
+              'QA1=10 QA2=01']
+    told = [it[1] if isinstance(it, tuple) else it.split(' ', 3)[3] for it in found]
+    checks.holds('a lost process leaves a value, or a report changes another', told == wanted,
+                 str(found))
+
+
+# Shows P-007, P-009, P-020.
 def heard_again(checks) -> None:
     """After a loss an operate is refused with 9 until the process reports a position, an input, a
-    measured value or that one is invalid; a scan, a client, and a report of what is not there do
-    not end the loss."""
+    measured value or that one is invalid; a scan, a client, and a report of what is not there,
+    which is refused (113), do not end the loss."""
     for report, is_heard in (('contact QA1 0', True), ('contact QA2 3', True),
                              ('input IN1 0', True), ('input IN1 1', True),
                              ('measure M0 TOTW 5', True),
@@ -144,8 +182,9 @@ def heard_again(checks) -> None:
                        + asks(1200, 1, writes(SBOW), writes(OPER)))
         wanted = [(1, [None]), (1, [None]), '1200 command QA1 on'] if is_heard else [
             (1, [None]), (1, 'cause 9'), (1, [3])]
-        checks.holds('a loss ends by another event, or not by a report', found[-3:] == wanted,
-                     f'{report}: {found}')
+        is_there = ('1100 refused 113' in found) == ('NONE' in report)
+        checks.holds('a loss ends by another event, or not by a report',
+                     found[-3:] == wanted and is_there, f'{report}: {found}')
 
 
 # Shows P-007.
@@ -293,5 +332,5 @@ def first_faults(checks) -> None:
                      told == f'load refused {wanted}\n', f'{name}, {wanted}: {told}')
 
 
-PARTS = (first_state, heard_again, others_wait, own_releases, paired_answers, attempts,
+PARTS = (first_state, lost_values, heard_again, others_wait, own_releases, paired_answers, attempts,
          ends_of_operations, endings, first_faults)

@@ -60,7 +60,7 @@ def all_results(printed: str) -> list[list]:
             for pdu in pdus]
 
 
-# Shows P-011, P-026, P-028, P-135.
+# Shows P-008, P-011, P-026, P-028, P-135.
 def several_operates(checks) -> None:
     """Of several operates in one event the first alone is a command, also if an operation lasts for
     1 ms, which is the least."""
@@ -96,7 +96,7 @@ def several_results(checks) -> None:
                  found == [3, None, 3], str(found))
 
 
-# Shows P-029, P-076.
+# Shows P-022, P-029, P-076.
 def one_contact(checks) -> None:
     """A contact changes the values of its switch, and no other; all are read by the names that they
     had."""
