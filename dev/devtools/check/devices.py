@@ -187,6 +187,21 @@ def heard_again(checks) -> None:
                      found[-3:] == wanted and is_there, f'{report}: {found}')
 
 
+# Shows P-020, P-149.
+def key_reports(checks) -> None:
+    """A report about a key counts only if it is accepted: one with a moment before the last one is
+    refused (110), and leaves the key where it was."""
+    of_bay = ENHANCED.replace('travel_ms = 500\n', 'travel_ms = 500\nremote = "IN0"\n', 1)
+    for before, refused, is_remote in (('1000 input IN0 1\n', '999 input IN0 0\n', True),
+                                       ('', '999 input IN0 1\n', False),
+                                       ('1000 input IN0 0\n', '999 input IN0 1\n', False)):
+        found = device(checks, of_bay, LOGIC, f'1000 contact QA1 1\n{before}1000 scan\n'
+                       + opens(1000, 1) + refused + asks(1000, 1, writes(SBOW), writes(OPER)))
+        wanted = [(1, [None]), '1000 command QA1 on'] if is_remote else [(1, 'cause 2'), (1, [3])]
+        checks.holds('a report that is refused turns a key',
+                     found[1:] == ['999 refused 110', (1, [None]), *wanted], str(found))
+
+
 # Shows P-007.
 def others_wait(checks) -> None:
     """While a switch is operating, no other is operated: up to the millisecond before its travel
@@ -332,5 +347,5 @@ def first_faults(checks) -> None:
                      told == f'load refused {wanted}\n', f'{name}, {wanted}: {told}')
 
 
-PARTS = (first_state, lost_values, heard_again, others_wait, own_releases, paired_answers, attempts,
-         ends_of_operations, endings, first_faults)
+PARTS = (first_state, lost_values, heard_again, key_reports, others_wait, own_releases,
+         paired_answers, attempts, ends_of_operations, endings, first_faults)
