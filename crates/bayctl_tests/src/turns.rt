@@ -1,6 +1,8 @@
 // Turns of a server over clients in memory.
 use crate::memory_link::MemoryLink;
 use crate::session::{CONFIRM, CONNECT, CONNECTED, IDENTIFY, IDENTITY, REQUEST, octets_of, server};
+use bay_base::position::Dbpos;
+use bay_server_turn::server::Server;
 use bay_server_turn::turn::serve_turn;
 use bay_server_turn::turn_report::CloseReason;
 use std::alloc::Global;
@@ -148,5 +150,45 @@ fn each_call_may_fail(rt: HostRuntime) -> Result<(), Fail> {
     for fails_at in 1..=check_session_with_failing_call(&rt, rt.alloc(), 0)? {
         check_session_with_failing_call(&rt, rt.alloc(), fails_at)?;
     }
+    Ok(())
+}
+
+// Turns that are refused: the line, the clock and the number of the fault. If both are wrong, the
+// fault is that of the line.
+const REFUSED: [(Option<&str>, u64, u8); 6] = [
+    (Some("9 scan"), 5, 120),
+    (Some("9 contact QA1 4"), 5, 120),
+    (Some(""), 5, 120),
+    (Some("9 scan"), 4_294_967_296_000, 120),
+    (Some("9 contact QA1 1"), 4_294_967_296_000, 114),
+    (None, 4_294_967_296_000, 114),
+];
+
+// Asserts that a server has this moment, and whether its first association is open and its first
+// switch is in this position.
+fn check_device(rt: &impl Abort, server: &Server, moment: u64, is_open: bool, position: Dbpos) {
+    let device = server.device();
+    assert!(rt; device.moment() == moment && device.is_open(1) == is_open);
+    assert!(rt; device.position(0) == Some(position));
+}
+
+// Shows P-123.
+#[test]
+fn a_refused_turn_changes_nothing(rt: HostRuntime) -> Result<(), Fail> {
+    let taken = RefCell::new(Vec::new(rt.alloc()));
+    let mut link = MemoryLink::new(1, session(rt.alloc(), 0)?, &taken);
+    let mut server = server(rt.alloc())?;
+    for (line, clock, code) in REFUSED {
+        let found = match serve_turn(&mut server, &mut link, clock, line) {
+            Ok(_) => 0,
+            Err(fault) => fault.code(),
+        };
+        assert!(rt; found == code && link.calls == 0);
+        check_device(&rt, &server, 0, false, Dbpos::Intermediate);
+    }
+    let _turn = serve_turn(&mut server, &mut link, 5, Some("9 contact QA1 1"))?;
+    check_device(&rt, &server, 5, true, Dbpos::Off);
+    drop(link);
+    assert_eq!(rt; taken.into_inner().len(), CLIENT_ROWS[0].taken);
     Ok(())
 }

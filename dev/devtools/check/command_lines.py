@@ -175,7 +175,7 @@ def ends(checks) -> None:
     for words, wanted in ((['replay'], 'fault 122\n'), (['replay', '--log'], f'{why}fault 122\n'),
                           (['check', '--log', *load, none], f'{why}fault 122\n'),
                           (['check', '--log', *load, wrong], f'{why}fault 122\n'),
-                          (served, 'fault 122\n')):
+                          (served, 'fault 122\n'), ([*served, '--log'], f'{why}fault 122\n')):
         with FULL.open('wb') as full:
             done = subprocess.run([checks.bayctl, *words], stdin=subprocess.DEVNULL,
                                   stdout=full, stderr=subprocess.PIPE, text=True)

@@ -42,7 +42,7 @@ END_PROGRAM
 ROWS = ('CILO1$ST$EnaOpn$stVal', 'CILO1$ST$EnaCls$stVal')
 POSITIONS = ('CSWI1$ST$Pos$stVal', 'CSWI2$ST$Pos$stVal')
 COUNTS = ('XCBR1$ST$OpCnt$stVal', 'XSWI1$ST$OpCnt$stVal')
-BAD = '11'
+OPEN, BAD = '01', '11'
 # Lines that a process may send, at any moments. The last one names no input of the bay.
 RIGHT_LINES = '''7 contact QA1 1
 5 input ES 1
@@ -120,28 +120,31 @@ def check_waiting_processes(checks) -> None:
                      server.printed())
 
 
-# Shows P-113, P-114.
+# Shows P-113, P-114, P-115.
 def line_lengths(checks) -> None:
-    """Lines of 256 octets before their LF, a CR among them, are taken, and a line of 257 is not."""
+    """Lines of 256 octets before their LF, a CR among them, are taken. A line of 257 is not: in its
+    turn the process is lost and closed, though it stays."""
     bay, logic = checks.file('bay.toml', BAY), checks.file('logic.il', LOGIC)
-    with Server(checks.bayctl, bay, logic, with_process=True) as server:
-        server.client().close()
+    with Server(checks.bayctl, bay, logic, with_process=True) as server, \
+            contextlib.closing(server.client()) as client:
         for length, end, is_taken in ((256, '\n', True), (257, '\n', False),
                                       (255, '\r\n', True), (256, '\r\n', False)):
             head, tail = '0 contact ', ' 1'
             line = head + 'N' * (length - len(head + tail)) + tail + end
             before = len(server.printed())
             with connect_process(server) as process:
-                process.sendall(line.encode())
+                process.sendall(b'0 contact QA1 1\n' + line.encode())
                 wanted = ' refused 113\n' if is_taken else ' process closed 120\n'
                 with contextlib.suppress(TimeoutError):
                     until(lambda: wanted in server.printed()[before:], 'the line is judged')
+                position = value(client, POSITIONS[0])
             with contextlib.suppress(TimeoutError):
                 until(lambda: ' process closed ' in server.printed()[before:], 'it is gone')
             told = server.printed()[before:]
             checks.holds('a line of a process is taken that is too long, or not one that is not',
-                         wanted in told and (' refused 113\n' in told) == is_taken,
-                         f'{length} {end!r}: {told}')
+                         wanted in told and (' refused 113\n' in told) == is_taken
+                         and position == (OPEN if is_taken else BAD),
+                         f'{length} {end!r}: {position} {told}')
 
 
 def lines_of(process: socket.socket, count: int) -> list[str]:

@@ -269,6 +269,10 @@ def full(checks) -> None:
     checks.holds('a record replaces a file',
                  (ran.returncode, ran.stdout, ran.stderr) == (3, loaded, b'fault 122\n')
                  and record.read_text() == held, str(ran))
+    ran = subprocess.run([*ran.args, '--log'], check=False, capture_output=True, text=True)
+    why = f'bayctl: fault 122: {record}: it exists already, so name a new file\n'
+    checks.holds('the log does not say why there is no record',
+                 (ran.returncode, ran.stderr) == (3, f'{why}fault 122\n'), str(ran))
 
 
 # Shows P-121, P-158.
