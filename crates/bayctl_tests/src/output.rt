@@ -87,7 +87,9 @@ impl Write for FailingReader<'_> {
         if count == 0 {
             return Err(io::Error::from(ErrorKind::BrokenPipe));
         }
-        self.taken.try_borrow_mut()?.extend_from_slice(&buf[..count])?;
+        self.taken
+            .try_borrow_mut()?
+            .extend_from_slice(&buf[..count])?;
         self.room.set(room.saturating_sub(count));
         Ok(count)
     }
@@ -133,7 +135,10 @@ fn readers_that_fail(rt: HostRuntime) -> Result<(), Fail> {
     drop(output);
     drop(plain);
     let all = taken.into_inner();
-    let (first, last) = all.as_slice().split_at_checked(1_048_576).unwrap_or((&[], &[]));
+    let (first, last) = all
+        .as_slice()
+        .split_at_checked(1_048_576)
+        .unwrap_or((&[], &[]));
     assert!(rt; first.len() == 1_048_576 && first.iter().all(|it| *it == b'a'));
     assert!(rt; last == b"cde".as_slice());
     Ok(())
