@@ -187,6 +187,23 @@ def heard_again(checks) -> None:
                      found[-3:] == wanted and is_there, f'{report}: {found}')
 
 
+# Shows P-009, P-022.
+def qualities(checks) -> None:
+    """Another quality with the value of before makes the last scan stale: a first report of the
+    value that a position or a measured value has from the start on, when it is invalid. A report
+    after which value and quality are as before, and the same report again, leave the scan fresh."""
+    begun = '1000 contact QA1 1\n1000 scan\n' + opens(1000, 1)
+    for report, is_stale in (('contact QA2 0', True), ('measure M0 TOTW 0', True),
+                             ('measure M0 TOTW bad', False), ('input IN0 0', False)):
+        for before in ('', f'1050 {report}\n1060 scan\n'):
+            found = device(checks, ENHANCED, LOGIC, f'{begun}{before}1100 {report}\n'
+                           + asks(1100, 1, writes(SBOW), writes(OPER)))
+            wanted = [(1, 'cause 10'), (1, [3])] if is_stale and not before else [
+                (1, [None]), '1100 command QA1 on']
+            checks.holds('a quality that changed leaves a scan fresh, or one that did not',
+                         found[-3:] == [(1, [None]), *wanted], f'{before}{report}: {found}')
+
+
 # Shows P-020, P-149.
 def key_reports(checks) -> None:
     """A report about a key counts only if it is accepted: one with a moment before the last one is
@@ -202,7 +219,7 @@ def key_reports(checks) -> None:
                      found[1:] == ['999 refused 110', (1, [None]), *wanted], str(found))
 
 
-# Shows P-007.
+# Shows P-007, P-028.
 def others_wait(checks) -> None:
     """While a switch is operating, no other is operated: up to the millisecond before its travel
     time is over, and not until then if its position is reported."""
@@ -347,5 +364,5 @@ def first_faults(checks) -> None:
                      told == f'load refused {wanted}\n', f'{name}, {wanted}: {told}')
 
 
-PARTS = (first_state, lost_values, heard_again, key_reports, others_wait, own_releases,
+PARTS = (first_state, lost_values, heard_again, qualities, key_reports, others_wait, own_releases,
          paired_answers, attempts, ends_of_operations, endings, first_faults)

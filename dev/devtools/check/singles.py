@@ -96,6 +96,18 @@ def several_results(checks) -> None:
                  found == [3, None, 3], str(found))
 
 
+# Shows P-027.
+def whole_control(checks) -> None:
+    """A control that is read as a whole has the empty text as its SBO, as the tree has it, and
+    nothing is selected; SBO by itself selects, and its result is its name."""
+    select, state = 'BAY1/CSWI1$CO$Pos$SBO', 'BAY1/CSWI1$ST$Pos$stSeld'
+    whole, *others = results_for(checks, mms.read_request(
+        1, ['BAY1/CSWI1$CO$Pos', state, select, state]))
+    texts = [it.value for it in whole if it.tag == mms.TEXT]
+    checks.holds('a read of a whole control selects, or one of its SBO does not',
+                 (texts, others) == ([''], [False, select, True]), f'{texts}, {others}')
+
+
 # Shows P-022, P-029, P-076.
 def one_contact(checks) -> None:
     """A contact changes the values of its switch, and no other; all are read by the names that they
@@ -144,4 +156,4 @@ def other_events(checks) -> None:
     checks.holds('what a client does changes a value', after == before, f'{before}, {after}')
 
 
-PARTS = (several_operates, several_results, one_contact, other_events)
+PARTS = (several_operates, several_results, whole_control, one_contact, other_events)
