@@ -125,7 +125,7 @@ def one_contact(checks) -> None:
                  [type(it) for it in before] == [type(it) for it in after], f'{before}, {after}')
 
 
-# Shows P-022, P-028.
+# Shows P-022, P-026, P-028.
 def other_events(checks) -> None:
     """A client that connects, selects, cancels, selects again, operates and leaves changes no value
     that is read: the positions, their moments and counts, and the releases."""
