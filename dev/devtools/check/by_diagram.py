@@ -11,9 +11,9 @@ from baytools.bay.names import Names
 from baytools.common.paths import TOP
 from baytools.wire.client import Client
 from baytools.wire.control import Control
-from devtools.served import TURNS, Running, Server, free_port, until, value
+from devtools.served import Server, free_port, until, value
 
-from .by_rules import is_port_reached, line_of_file, lines_for
+from .by_rules import FormServer, is_port_reached, line_of_file, lines_for
 
 FOLDER = TOP / 'examples' / '07_diagrams' / 'single'
 BAY, LOGIC, DIAGRAM = FOLDER / 'bay.toml', FOLDER / 'logic.il', FOLDER / 'diagram.toml'
@@ -165,15 +165,6 @@ def closes_accepted(server) -> tuple[list[bool], str]:
                 found.append(Control(client, switch).operate(True).is_good)
         received = lines_for(process)
     return found, received
-
-
-class FormServer(Server):
-    """A server of a program in a form, its text or its image, with a process."""
-
-    def __init__(self, bayctl, *words) -> None:
-        self.port, self.process = free_port(), free_port()
-        Running.__init__(self, bayctl, 'serve', *words, '--port', self.port, '--process',
-                         self.process, '--turns', TURNS)
 
 
 def operate_by(checks, form: str, words: list, diagram) -> None:

@@ -13,7 +13,7 @@ from baytools.bay.names import Names
 from baytools.common.paths import TOP
 from baytools.wire.client import Client
 from baytools.wire.control import Control
-from devtools.served import Server, free_port, until, value
+from devtools.served import TURNS, Running, Server, free_port, until, value
 
 SERVED = TOP / 'examples' / '09_served'
 BAY, LOGIC, RULES = SERVED / 'bay.toml', SERVED / 'logic.il', SERVED / 'rules'
@@ -227,10 +227,19 @@ def held_session(server) -> tuple[list[bool], str]:
     return found, received
 
 
-def check_waiting(checks, bay, logic, path, *more: object) -> None:
+class FormServer(Server):
+    """A server of a program in a form, its text or its image, with a process."""
+
+    def __init__(self, bayctl, *words: object) -> None:
+        self.port, self.process = free_port(), free_port()
+        Running.__init__(self, bayctl, 'serve', *words, '--port', self.port, '--process',
+                         self.process, '--turns', TURNS)
+
+
+def check_waiting(checks, words: list, path, *more: object) -> None:
     """A session of a server: its scans and its operates obey the rules, and so do the lines of its
     commands."""
-    with Server(checks.bayctl, bay, logic, *more, '--record', path, with_process=True) as server:
+    with FormServer(checks.bayctl, *words, *more, '--record', path) as server:
         accepted, received = held_session(server)
         printed = server.printed()
     record = path.read_text().rpartition('\n')[0] + '\n'
@@ -254,16 +263,21 @@ def waiting(checks) -> None:
     """A switch may not be closed until an input has been TRUE for a time: each scan of a server
     waits for it, and so does each operate. Nor may it ever be opened: no scan releases it for that,
     and no operate opens it. By an audit both rules hold. So all this is so of a server with the
-    rules and of one without them."""
+    rules and of one without them, and of one of the program's image."""
     bay, logic = checks.file('held.toml', HELD_BAY), checks.file('held.il', HELD_LOGIC)
-    rules = checks.file('held.rules', HELD_RULES)
-    audit = subprocess.run([checks.bayctl, 'audit', '--bay', bay, '--logic', logic, '--rules',
-                            rules], capture_output=True, text=True, timeout=60, check=False)
-    held = re.findall(r'(?m)^rule (\d+ \w+ \w+) holds ', audit.stdout)
-    checks.holds('rules that hold are answered otherwise',
-                 audit.returncode == 0 and held == ['1 QA1 close', '2 QA1 open'], str(audit))
-    check_waiting(checks, bay, logic, checks.folder / 'ruled', '--rules', rules)
-    check_waiting(checks, bay, logic, checks.folder / 'unruled')
+    rules, image = checks.file('held.rules', HELD_RULES), checks.folder / 'held.image'
+    subprocess.run([checks.bayctl, 'compile', '--bay', bay, '--logic', logic, '--out', image],
+                   stdout=subprocess.DEVNULL, timeout=60, check=True)
+    text, octets = ['--bay', bay, '--logic', logic], ['--bay', bay, '--image', image]
+    for words in text, octets:
+        audit = subprocess.run([checks.bayctl, 'audit', *words, '--rules', rules],
+                               capture_output=True, text=True, timeout=60, check=False)
+        held = re.findall(r'(?m)^rule (\d+ \w+ \w+) holds ', audit.stdout)
+        checks.holds('rules that hold are answered otherwise',
+                     audit.returncode == 0 and held == ['1 QA1 close', '2 QA1 open'], str(audit))
+    check_waiting(checks, text, checks.folder / 'ruled', '--rules', rules)
+    check_waiting(checks, text, checks.folder / 'unruled')
+    check_waiting(checks, octets, checks.folder / 'ruled_image', '--rules', rules)
 
 
 PARTS = (holding, counted, waiting, check_edited_files, unread)
