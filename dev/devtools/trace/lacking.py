@@ -4,8 +4,6 @@ from .promises import Borne, Promise, borne_by
 OWN_WORDS = 'its clause says it in the words of its subject: '
 NO_LAW = {
     '': 'no clause says it: it is what a proof of a function is',
-    'bay_audit audit': OWN_WORDS + 'each scan from each process, in each state; the laws of '
-                       'bay_audit_laws say what that is of a device',
     'bay_audit_hazards judge': OWN_WORDS + 'each scan from each process in which the operation is '
                                'a hazard, in each state',
     'bay_base same_name': OWN_WORDS + 'a table of words, and letters that differ in case',
@@ -40,8 +38,6 @@ NO_LAW = {
                           'program means by its structure; il_standard_laws adds the '
                           'standard\'s tables',
     'il_image decode': OWN_WORDS + 'the octets that stand before a lack of memory',
-    'il_range scan_ranges': OWN_WORDS + 'each scan of the machine\'s own definition stays within '
-                            'what is answered',
     'il_scan Machine::new': OWN_WORDS + 'the first state of the image',
     'il_scan Machine::scan': 'its definition is the machine\'s, step by step; that it never goes '
                              'wrong is `verified_code_never_goes_wrong`',
