@@ -155,6 +155,20 @@ def long_answers(checks) -> None:
                  and granted == [[mms.Data(mms.TEXT, select), *[yes] * 7], [yes]], printed)
 
 
+# Shows P-091, P-093.
+def long_types(checks) -> None:
+    """The type of a node and the data of one are errors if a PDU may have 256 octets, in which the
+    type and the data of a value fit. If it may have the most, all are answered."""
+    value = 'BAY1/CSWI1$ST$Pos$stVal'
+    asked = [mms.attributes_request(1, 'BAY1/CSWI1'), mms.read_request(2, ['BAY1/LLN0']),
+             mms.attributes_request(3, value), mms.read_request(4, [value])]
+    for size, wanted in ((LEAST, [('error', (3, 0))] * 2 + [('response', ())] * 2),
+                         (MOST, [('response', ())] * 4)):
+        printed, pdus = replay_requests(checks, bay(text='~' * 64), asked, size)
+        checks.holds('a type or data are written that have no room, or others are not',
+                     [(it.kind, it.code) for it in pdus] == wanted, printed)
+
+
 # Shows P-096.
 def controls(checks) -> None:
     """A select with value and its operate by the longest originator, with their report."""
@@ -288,5 +302,5 @@ def other_octets(checks) -> None:
                  str(wrong[:3]))
 
 
-PARTS = (names, inputs, messages, long_answers, controls, wrong_controls, long_reports, programs,
-         images, texts, other_octets)
+PARTS = (names, inputs, messages, long_answers, long_types, controls, wrong_controls,
+         long_reports, programs, images, texts, other_octets)
