@@ -131,7 +131,7 @@ def closed_files(checks) -> None:
         shut.chmod(0o755)
 
 
-# Shows P-099, P-102, P-109, P-110, P-118, P-120, P-121.
+# Shows P-099, P-102, P-109, P-110, P-118, P-120.
 def ends(checks) -> None:
     """What the program prints, logs and ends with: a file that is not there, is a folder or too
     long, a refused load, a port that is taken, and an output that is full."""
