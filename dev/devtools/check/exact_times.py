@@ -21,6 +21,7 @@ from .processes import connect_process, process_lines
 
 HOLDING = DEV / 'devtools' / 'check' / 'holding.c'
 SYSTEM, STEADY = 1_700_000_000_000, 5_000_000  # the times of the clocks at first, in milliseconds
+BEGUN = '2023-11-14T22:13:20.000Z'  # the first of them in UTC
 LIMIT, AGE = 500, 1_000  # ms of a process' silence, and of a scan's age
 LAST = 4_294_967_295_999  # the last moment that a time stamp holds
 QUIET = 0.15  # seconds in which an idle server takes several turns
@@ -336,6 +337,22 @@ def paces(checks, library: str) -> None:
                  found == [0, 990, 1040, 1089, 1190, 1190, 1190, 1190], str(found))
 
 
+# Shows P-121.
+def shifts(checks, library: str) -> None:
+    """The system's clock is set forward or back by as much as is not logged, and by a millisecond
+    more; then it is set right again."""
+    for jump, told in ((1000, None), (-1000, None), (1001, 'is 1001 ms ahead'),
+                       (-1001, 'is 1001 ms behind')):
+        with held_bay(checks, library) as bay:
+            for change in jump, -jump:
+                bay.held.go_on(0, change)
+                time.sleep(QUIET)
+            found = re.findall(r"(?m)^(\S+) the system's clock (.*)$", bay.server.printed())
+        checks.holds('a clock that differs by more than a second is not logged, or another one is',
+                     found == [(BEGUN, it) for it in (told, 'agrees again') if told],
+                     f'{jump}: {found}')
+
+
 def order_in_turn(checks, library: str, line: str) -> list[str]:
     """What a process is told for one turn, in which it says this, the time of an operate is over,
     another switch is operated, and a release changes. The lines that wait before it are taken in
@@ -380,7 +397,8 @@ def exact_times(checks) -> None:
     if library is None:
         checks.left_out('neither the kit nor cc is installed', 'times to the millisecond')
         return
-    for part in (line_times, silences, jumps, scan_ages, halves, last_moments, paces, report_order):
+    for part in (line_times, silences, jumps, scan_ages, halves, last_moments, paces, shifts,
+                 report_order):
         part(checks, library)
 
 

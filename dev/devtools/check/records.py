@@ -3,9 +3,11 @@ behaviour that it refuses. The comparison is tried, too: it must refuse the repl
 lacks some of its lines."""
 import contextlib
 import dataclasses
+import pathlib
 import re
 import socket
 import subprocess
+import tempfile
 import time
 from collections.abc import Iterator
 
@@ -313,4 +315,25 @@ exec {checks.bayctl} "$@"
                      server.printed())
 
 
-PARTS = (session, in_order, lines, full, shown_lines, check_failing_record)
+def content_of(folder: pathlib.Path) -> dict[str, tuple[bytes, int]]:
+    """The files of a folder, each with its octets and when it was changed."""
+    return {it.name: (it.read_bytes(), it.stat().st_mtime_ns) for it in folder.iterdir()}
+
+
+# Shows P-158.
+def check_no_record(checks) -> None:
+    """A server that is told of no record makes and changes no file."""
+    with tempfile.TemporaryDirectory() as name:
+        folder = pathlib.Path(name)
+        for path in BAY, LOGIC:
+            (folder / path.name).write_bytes(octets_of(path))
+        (folder / 'trace').write_text('0 contact QA1 1\n')
+        before = content_of(folder)
+        ran = subprocess.run([checks.bayctl, 'serve', '--log', '--bay', BAY.name, '--logic',
+                              LOGIC.name, '--trace', 'trace', '--turns', '3', '--port',
+                              str(free_port())], cwd=folder, check=False, capture_output=True)
+        checks.holds('a server without a record changes a file',
+                     ran.returncode == 0 and content_of(folder) == before, str(ran))
+
+
+PARTS = (session, in_order, lines, full, shown_lines, check_failing_record, check_no_record)

@@ -60,12 +60,12 @@ def number_of(one: socket.socket) -> int:
         return 0
 
 
-def prints(server: Server, told: str) -> bool:
-    """Whether a server prints something within five seconds."""
+def prints(server: Server, told: str, behind: int = 0) -> bool:
+    """Whether a server prints something within five seconds, behind this number of characters."""
     end = time.monotonic() + 5
-    while told not in server.printed() and time.monotonic() < end:
+    while told not in server.printed()[behind:] and time.monotonic() < end:
         time.sleep(0.05)
-    return told in server.printed()
+    return told in server.printed()[behind:]
 
 
 def took(do, *words) -> float:
@@ -179,12 +179,17 @@ def closings(checks) -> None:
 
 # Shows P-129, P-139.
 def reasons(checks) -> None:
-    """A client that goes is closed with 0, and with 131 if it resets its connection; one that stays
-    and sends no TPKT, or a TPDU that is malformed, is closed with the number of that fault."""
+    """A client that releases its association and stays is closed with 0. One that goes is closed
+    with 0, and with 131 if it resets its connection; one that stays and sends no TPKT, or a TPDU
+    that is malformed, is closed with the number of that fault."""
     with Server(checks.bayctl, BAY, LOGIC) as server:
-        server.client().close()
+        with server.client().socket as one:
+            one.sendall(stream.tpkt_frames(stream.release_request()))
+            checks.holds('a client that releases its association is closed with another number',
+                         prints(server, ' closed 1 0\n'), server.printed())
         for why, octets in ((0, None), (131, None), (10, b'\x04\0\0\0'),
                             (11, bytes.fromhex('0300000803f08005'))):
+            before = len(server.printed())
             with connect(server.port) as one:
                 number = number_of(one)
                 if octets is None:
@@ -194,7 +199,8 @@ def reasons(checks) -> None:
                 else:
                     one.sendall(octets)
                 checks.holds(f'what is closed with {why} has another number',
-                             prints(server, f' closed {number} {why}\n'), server.printed())
+                             prints(server, f' closed {number} {why}\n', before),
+                             server.printed())
 
 
 # Shows P-122, P-124, P-125.
@@ -308,6 +314,29 @@ def check_waiting_lines(checks) -> None:
                  len(found) == count + more and min(steps[:count]) >= least, str(found))
     checks.holds('each line of a process waits for a turn that reads',
                  any(it < least for it in steps[count:]), str(found))
+
+
+# Shows P-121, P-122, P-125.
+def check_skipped_reads(checks) -> None:
+    """A client and a process send at once what several turns take. The turns that begin at once, 63
+    of them in a row, take a line of the process and read no client; the next one does both."""
+    record, count = checks.folder / 'skipped.record', 240
+    with Server(checks.bayctl, BAY, LOGIC, '--cycle', 100, '--record', record,
+                with_process=True) as server:
+        client = server.client()
+        with connect(server.process) as process:
+            server.waits_for(' process open')
+            client.socket.sendall(IDENTIFY * (10 * 4_096 // len(IDENTIFY)))
+            process.sendall(b'0 contact NONE 1\n' * count)
+            with contextlib.suppress(TimeoutError):
+                until(lambda: server.printed().count(' refused 113\n') == count, 'all lines')
+        client.socket.close()
+        text = record.read_text()
+    letters = {'recv': 'r', 'contact': 'p', 'scan': 's'}
+    told = ''.join(letters.get(it, '') for it in re.findall(r'(?m)^\d+ (\w+)', text))
+    checks.holds('a turn that skips its reads reads, or other turns skip theirs',
+                 re.search('(?:ps){63}rps(?:ps){63}rps', told)
+                 and not re.search('(?<!r)(?:ps){64}', told), told)
 
 
 def pieces(checks) -> None:
@@ -448,7 +477,7 @@ def fill_queue(client, port: int) -> tuple[int, list[int]]:
     return asked, sizes
 
 
-# Shows P-122, P-130, P-131, P-134, P-139.
+# Shows P-122, P-130, P-131, P-134, P-136, P-139.
 def full_queues(checks) -> None:
     """As many octets wait for a client that reads nothing as its queue has room for; with an answer
     more it is closed. The next client, which has its number, gets its own answers alone."""
@@ -586,7 +615,7 @@ def all_of(checks) -> None:
     silent = threading.Thread(target=checks.run_part, args=(silence,))
     silent.start()
     for part in (clients, closings, reasons, eight, moments, turns, cycles, check_waiting_lines,
-                 pieces, reads, wakes, rests, full_queues, full_and_faulty, right_turns, unread,
-                 check_slow_process):
+                 check_skipped_reads, pieces, reads, wakes, rests, full_queues, full_and_faulty,
+                 right_turns, unread, check_slow_process):
         checks.run_part(part)
     silent.join()
