@@ -95,7 +95,7 @@ fn check_run(rt: &impl Abort, alloc: Global, device: &mut Device) -> Result<(), 
         association: 1,
         octets: request.as_slice(),
     };
-    let answers = device.run(&[
+    let answers = match device.run(&[
         (1000, SOME),
         (1000, Event::Scan),
         (999, SOME),
@@ -108,7 +108,15 @@ fn check_run(rt: &impl Abort, alloc: Global, device: &mut Device) -> Result<(), 
         (2000, Event::Close { association: 1 }),
         (2000, Event::Close { association: 1 }),
         (2000, NOTHING),
-    ])?;
+    ]) {
+        Ok(answers) => answers,
+        Err(fault) => {
+            // No event has been handled, so the moment 0 is not before that of the last one.
+            let refused = device.step(0, Event::Close { association: 1 });
+            assert!(rt; matches!(refused, Err(StepFault::NoSuchAssociation)));
+            return Err(Fail::from(fault));
+        }
+    };
     let mut codes = Vec::new(alloc);
     for answer in answers.as_slice() {
         let code = match answer {

@@ -172,7 +172,8 @@ fn check_device(rt: &impl Abort, server: &Server, moment: u64, is_open: bool, po
     assert!(rt; device.position(0) == Some(position));
 }
 
-// Shows P-123.
+// A turn whose clock is behind the device has the moment of the device.
+// Shows P-122, P-123.
 #[test]
 fn a_refused_turn_changes_nothing(rt: HostRuntime) -> Result<(), Fail> {
     let taken = RefCell::new(Vec::new(rt.alloc()));
@@ -188,6 +189,8 @@ fn a_refused_turn_changes_nothing(rt: HostRuntime) -> Result<(), Fail> {
     }
     let _turn = serve_turn(&mut server, &mut link, 5, Some("9 contact QA1 1"))?;
     check_device(&rt, &server, 5, true, Dbpos::Off);
+    let _turn = serve_turn(&mut server, &mut link, 3, None)?;
+    assert_eq!(rt; server.device().moment(), 5);
     drop(link);
     assert_eq!(rt; taken.into_inner().len(), CLIENT_ROWS[0].taken);
     Ok(())

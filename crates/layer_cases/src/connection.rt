@@ -90,13 +90,19 @@ pub fn stream(alloc: Global, number: &str, octets: &[u8]) -> Result<String> {
     Ok(whole)
 }
 
-/// Feeds pieces of octets, each once, and returns what can be read after each of them.
+/// Feeds pieces of octets, each once. Returns what can be read after each of them, behind the
+/// number of the fault if the piece has one.
 pub fn shown_after(alloc: Global, pieces: &str) -> Result<String> {
     let mut transport = Transport::new(alloc, 1);
     let mut text = String::new(alloc);
     for word in pieces.split(" ") {
         let piece = octets_of(alloc, word)?;
-        transport.feed(piece.as_slice())?;
+        if let Err(fault) = transport.feed(piece.as_slice()) {
+            let Some(code) = fault.code() else {
+                return Err(fault.into());
+            };
+            write!(text, "{code} ")?;
+        }
         write!(text, "|{} ", hex::encode(alloc, transport.shown())?)?;
     }
     Ok(text)

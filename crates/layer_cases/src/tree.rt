@@ -102,6 +102,19 @@ fn page_text(alloc: Global, tree: &Tree, words: &[&str]) -> Result<String> {
     }?)
 }
 
+// Writes a value to a row. Returns 0, or the number of the fault and what it is.
+fn set_text(alloc: Global, tree: &mut Tree, words: &[&str]) -> Result<String> {
+    let [name, kind, value] = words else {
+        bail!("no value");
+    };
+    let leaf = leaf_of(alloc, kind, value)?.context("no leaf")?;
+    let handle = tree.find(name)?;
+    Ok(match tree.set(handle, leaf) {
+        Ok(()) => format!(in alloc; "0"),
+        Err(fault) => format!(in alloc; "{} {fault}", fault.code()),
+    }?)
+}
+
 /// Rows, and their tree.
 #[derive(Drop)]
 pub struct Rows {
@@ -151,9 +164,10 @@ impl Rows {
         if kind == "tree" {
             return self.build();
         }
-        let tree = self.tree.as_ref().context("no tree")?;
+        let tree = self.tree.as_mut().context("no tree")?;
         let parts = words_of(alloc, words)?;
         match (kind, parts.as_slice()) {
+            ("set", parts) => set_text(alloc, tree, parts),
             ("names", [count]) => names_text(alloc, tree, count.parse::<usize>()?, None),
             ("names", [count, after]) => {
                 names_text(alloc, tree, count.parse::<usize>()?, Some(after))
