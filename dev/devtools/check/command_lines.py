@@ -330,32 +330,47 @@ def never(checks) -> None:
                  f'{status} {told!r} {out!r}')
 
 
+def read_waiting(reader: int) -> str:
+    """What a pipe has, which does not block."""
+    pieces = []
+    with contextlib.suppress(BlockingIOError):
+        while piece := os.read(reader, 65_536):
+            pieces.append(piece)
+    return b''.join(pieces).decode()
+
+
 # Shows P-102.
 def unread_log(checks) -> None:
     """A reader of a server's log reads nothing for a while: what the pipe does not accept waits,
-    and comes in later turns. If nobody reads it before the server ends, the rest is lost, and the
-    server ends as ever."""
+    and comes in later turns that log something. If nobody reads it before the server ends, the rest
+    is lost, and the server ends as ever."""
     count = 300
-    words = [checks.bayctl, 'serve', '--log', '--port', str(free_port()), '--bay',
-             checks.file('late.toml', bay()), '--logic', checks.file('late.il', LOGIC), '--trace',
+    words = [checks.bayctl, 'serve', '--log', '--bay', checks.file('late.toml', bay()), '--logic',
+             checks.file('late.il', LOGIC), '--trace',
              checks.file('late.trace', ''.join(f'0 contact N{it} 1\n' for it in range(count)))]
     whole = [f'0 contact N{it} 1' for it in range(count)]
     for ends in False, True:
+        port = free_port()
         reader, writer = os.pipe()
         fcntl.fcntl(writer, fcntl.F_SETPIPE_SZ, PIPE)
-        with (open(reader, 'rb') as log,
-              subprocess.Popen([*words, '--turns', str(count if ends else 1_000_000)],
-                               stdout=subprocess.PIPE, stderr=writer) as server):
+        os.set_blocking(reader, False)
+        with subprocess.Popen([*words, '--port', str(port), '--turns',
+                               str(count if ends else 1_000_000)],
+                              stdout=subprocess.PIPE, stderr=writer) as server:
             os.close(writer)
             told = 0
             while told < count and (line := server.stdout.readline()):
                 told += line.endswith(b' refused 113\n')
             status = server.wait(60) if ends else None
-            found = []
-            while len(found) < count and (line := log.readline()):
-                found += re.findall(r' refused 113: (.*)\n', line.decode())
-            if not ends:
-                server.terminate()
+            log = read_waiting(reader)
+            limit = time.monotonic() + 60
+            while not ends and f'{whole[-1]}\n' not in log and time.monotonic() < limit:
+                socket.create_connection(('127.0.0.1', port)).close()  # which the server logs
+                time.sleep(0.05)
+                log += read_waiting(reader)
+            server.terminate()
+        os.close(reader)
+        found = re.findall(r' refused 113: (.*)\n', log)
         right = 0 < len(found) < count and status == 0 if ends else len(found) == count
         checks.holds('lines of a log that nobody reads are lost, or out of order, or end a server',
                      told == count and found == whole[:len(found)] and right,
