@@ -302,9 +302,10 @@ class Changed(Tools):
             self.assertIn('nothing, because one', changed.held_by_no_law({}))
 
     def test_each_case_is_there(self):
-        kinds = {name: kind for of in changed.outcomes().values() for name, (kind, _) in of.items()}
+        tables = [json.loads((changed.DATA / it).read_text(encoding='utf-8'))
+                  for it in ('anchors.json', 'laws.json')]
         for name, (program, line) in changed.cases().items():
-            self.assertEqual(kinds[name], changed.NOTHING, name)
+            self.assertIn('proves', [it[name]['verdict'] for it in tables if name in it], name)
             if program != changed.NO_CASE:
                 path = TOP / 'crates' / program / 'stdin'
                 given = path.read_text(encoding='utf-8').splitlines()

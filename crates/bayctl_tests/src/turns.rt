@@ -172,7 +172,7 @@ fn check_device(rt: &impl Abort, server: &Server, moment: u64, is_open: bool, po
     assert!(rt; device.position(0) == Some(position));
 }
 
-// A turn whose clock is behind the device has the moment of the device.
+// A turn whose clock is before the moment of the device has this moment.
 // Shows P-122, P-123.
 #[test]
 fn a_refused_turn_changes_nothing(rt: HostRuntime) -> Result<(), Fail> {

@@ -90,8 +90,8 @@ pub fn stream(alloc: Global, number: &str, octets: &[u8]) -> Result<String> {
     Ok(whole)
 }
 
-/// Feeds pieces of octets, each once. Returns what can be read after each of them, behind the
-/// number of the fault if the piece has one.
+/// Feeds pieces of octets, each once. Returns for each the number of its fault, if it has one, and
+/// what can be read after it.
 pub fn shown_after(alloc: Global, pieces: &str) -> Result<String> {
     let mut transport = Transport::new(alloc, 1);
     let mut text = String::new(alloc);
