@@ -19,6 +19,7 @@ EXAMPLES = [
     (lambda link: link.registers([8]), '04 0008 0001', '04 02 000A', {8: 10}),
     (lambda link: link.put(172, True), '05 00AC FF00', '05 00AC FF00', None),
     (lambda link: link.put(172, False), '05 00AC 0000', '05 00AC 0000', None)]
+PATIENCE, NO_ANSWER = 10.0, 'no answer within 100 ms'
 WRONG = [  # what a module answers to a read of register 8, from its head on, and what is told of it
     ('{:04X} 0000 0005 01 04 02 000A', ''),
     ('{:04X} 0000 0003 01 84 02', 'exception 2: illegal data address'),
@@ -32,13 +33,14 @@ WRONG = [  # what a module answers to a read of register 8, from its head on, an
     ('{:04X} 0000 0005 01 04 04 000A', 'an answer of more or fewer values than were asked for'),
     ('{:04X} 0000 0007 01 04 02 000A 000B',
      'an answer of more or fewer values than were asked for'),
-    ('{:04X} 0000 0005 01 04 02', 'no answer within 100 ms'),
+    ('{:04X} 0000 0005 01 04 02', NO_ANSWER),
     ('', 'the connection was lost: the module ended it')]
 
 
-async def conversed(call, answer):
-    """What a call comes to, what it sent behind its head, and whether its connection is open
-    behind it. `answer` makes the answer of the transaction and the unit; none ends it."""
+async def conversed(call, answer, timeout=PATIENCE):
+    """What a call comes to that waits so many seconds, what it sent behind its head, and whether
+    its connection is open behind it. `answer` makes the answer of the transaction and the unit;
+    none ends it."""
     sent, is_over = [], asyncio.Event()
 
     async def module(reader, writer):
@@ -55,8 +57,10 @@ async def conversed(call, answer):
 
     server = await asyncio.start_server(module, '127.0.0.1', 0)
     async with server:
-        link = ModbusLink(ModbusAddress('127.0.0.1', server.sockets[0].getsockname()[1], 1), 0.1)
+        port = server.sockets[0].getsockname()[1]
+        link = ModbusLink(ModbusAddress('127.0.0.1', port, 1), PATIENCE)
         await link.open()
+        link.timeout = timeout
         try:
             found = await call(link)
         except ModuleFault as fault:
@@ -80,7 +84,8 @@ class Octets(unittest.TestCase):
         for answer, told in WRONG:
             found, _, is_open = asyncio.run(conversed(
                 lambda link: link.registers([8]),
-                lambda transaction, unit: bytes.fromhex(answer.format(transaction))))
+                lambda transaction, unit: bytes.fromhex(answer.format(transaction)),
+                0.1 if told == NO_ANSWER else PATIENCE))
             self.assertEqual(str(found) if told else found, told or {8: 10}, answer)
             self.assertEqual(is_open, not told or isinstance(found, ModuleRefused), answer)
 
